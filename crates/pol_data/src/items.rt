@@ -1,0 +1,76 @@
+//! A list of values, seen as the list of what contracts see of each.
+ghost use Rattle.std.specs.Prelude.{◌≡◌, IsTrue, ◌↔◌, length, IfOk};
+
+use crate::{Memory, TryCopy};
+use std::alloc::Global;
+use std::marker::Model;
+
+/// A list. A contract sees it as the list of its elements.
+#[derive(Debug, Drop)]
+pub struct Items<T> {
+    inner: Vec<T>,
+}
+
+impl<T> Model for Items<T> {
+    ghost use Rattle.std.specs.Prelude.{List};
+
+    ghost Value = { List T };
+
+    ghost view = { λ list. list.inner.items };
+}
+
+impl<T> Items<T> {
+    /// The list of the elements of this vector. It takes no memory.
+    pub fn from_vec(vector: Vec<T>) -> Items<T>
+        ensures { result ≡ vector.items }
+    {
+        Items { inner: vector }
+    }
+
+    /// The vector, given back. It takes no memory.
+    pub fn into_vec(self) -> Vec<T>
+        ensures { result.items ≡ self }
+    {
+        self.inner
+    }
+
+    /// The elements, in order.
+    pub fn as_slice(&self) -> &[T]
+        ensures { result.now ≡ self.now }
+    {
+        self.inner.as_slice()
+    }
+
+    /// How many elements there are.
+    pub fn len(&self) -> usize
+        ensures { result ≡ length self.now }
+    {
+        self.inner.len()
+    }
+
+    /// Whether there is no element.
+    pub fn is_empty(&self) -> bool
+        ensures { IsTrue result ↔ (length self.now ≡ 0) }
+    {
+        self.inner.is_empty()
+    }
+}
+
+impl<T: TryCopy + Drop> Items<T> {
+    /// A list equal to this one, in memory of its own. The one error is want of memory.
+    pub fn copy(&self, alloc: Global) -> Result<Items<T>, Memory>
+        ensures equal { IfOk result (λ copy. copy ≡ self.now) }
+    {
+        let mut copies = Vec::with_capacity(alloc, self.len())?;
+        for item in self.as_slice() {
+            copies.push(item.try_copy(alloc)?)?;
+        }
+        Ok(Items { inner: copies })
+    }
+}
+
+impl<T: TryCopy + Drop> TryCopy for Items<T> {
+    fn try_copy(&self, alloc: Global) -> Result<Items<T>, Memory> {
+        self.copy(alloc)
+    }
+}
