@@ -1,8 +1,12 @@
 //! A list of values, seen as the list of what contracts see of each.
 ghost use Rattle.std.specs.Prelude.{◌≡◌, IsTrue, ◌↔◌, length, IfOk};
+ghost use Rattle.std.specs.Cmp.Lexicographic.{pointwise, lists_per, lists_equiv};
+ghost use Rattle.std.specs.Hash as fed;
+ghost use Rattle.std.specs.Hash.{items_Alike};
 
 use crate::{Memory, TryCopy};
 use std::alloc::Global;
+use std::hash::{Hash, Hasher};
 use std::marker::Model;
 
 /// A list. A contract sees it as the list of its elements.
@@ -72,5 +76,30 @@ impl<T: TryCopy + Drop> Items<T> {
 impl<T: TryCopy + Drop> TryCopy for Items<T> {
     fn try_copy(&self, alloc: Global) -> Result<Items<T>, Memory> {
         self.copy(alloc)
+    }
+}
+
+/// Two lists are equal where they are as long and each pair of elements is.
+impl<T: PartialEq> PartialEq for Items<T> {
+    ghost eq = { pointwise T.eq };
+
+    ghost laws = { lists_per T.laws };
+
+    fn eq(&self, other: &Items<T>) -> bool {
+        self.inner == other.inner
+    }
+}
+
+impl<T: Eq> Eq for Items<T> {
+    ghost laws = { lists_equiv T.Eq.laws };
+}
+
+impl<T: Hash> Hash for Items<T> {
+    ghost hash_input = { fed.slice T.hash_input };
+
+    ghost respects_eq = { (items_Alike (record { fed = T.respects_eq })).fed };
+
+    fn hash<H: Hasher>(&self, state: &mut H) {
+        self.as_slice().hash(state);
     }
 }

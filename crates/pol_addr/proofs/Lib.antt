@@ -1,0 +1,4 @@
+pub mod Blocks
+pub mod Containment
+pub mod Texts
+pub mod PrefixTexts

@@ -1,0 +1,4 @@
+pub mod Address
+pub mod Cidr
+pub mod Prefix
+pub mod Grammar

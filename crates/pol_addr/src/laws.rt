@@ -1,0 +1,43 @@
+//! Laws of the definitions: what their readers may rely on, beside the calls.
+ghost use Rattle.std.specs.Prelude.{◌≡◌, ℕ, ◌↔◌, ◌⊎◌, List, Some, IsTrue};
+ghost use Rattle.pol_addr.specs.Address.{Addr, IsAddr, read_addr};
+ghost use Rattle.pol_addr.specs.Cidr.{IsPrefix};
+ghost use Rattle.pol_addr.specs.Prefix.{Prefix, contains, covers, read_prefix};
+ghost use Rattle.pol_addr.specs.Grammar.{WritesAddr, WritesPrefix};
+
+/// A text is read as an address exactly where it writes that address.
+pub fn address_texts_are_read()
+    ensures { (text : List ℕ) (addr : Addr) → WritesAddr text addr ↔ (read_addr text ≡ Some addr) }
+{}
+
+/// A text writes at most one address.
+pub fn one_address_per_text()
+    ensures { (text : List ℕ) (a b : Addr) → WritesAddr text a → WritesAddr text b → a ≡ b }
+{}
+
+/// A text is read as a prefix exactly where it writes that prefix.
+pub fn prefix_texts_are_read()
+    ensures { (text : List ℕ) (p : Prefix) → WritesPrefix text p ↔ (read_prefix text ≡ Some p) }
+{}
+
+/// A text writes at most one prefix.
+pub fn one_prefix_per_text()
+    ensures { (text : List ℕ) (p q : Prefix) → WritesPrefix text p → WritesPrefix text q → p ≡ q }
+{}
+
+/// What is read as a prefix has a length of at most 32 and no host bits.
+pub fn read_prefixes_are_prefixes()
+    ensures { (text : List ℕ) (p : Prefix) → read_prefix text ≡ Some p → IsPrefix p }
+{}
+
+/// A prefix covers another exactly where it contains each address of the other.
+pub fn covers_is_containment()
+    ensures { (p q : Prefix) → IsPrefix p → IsPrefix q →
+        IsTrue (covers p q) ↔ ((addr : Addr) → IsAddr addr → IsTrue (contains q addr) → IsTrue (contains p addr)) }
+{}
+
+/// Prefixes that both contain an address are nested.
+pub fn overlapping_prefixes_are_nested()
+    ensures { (p q : Prefix) (addr : Addr) → IsTrue (contains p addr) → IsTrue (contains q addr) →
+        IsTrue (covers p q) ⊎ IsTrue (covers q p) }
+{}

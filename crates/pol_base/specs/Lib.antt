@@ -1,0 +1,4 @@
+pub mod Bytes
+pub mod Edge
+pub mod Fakes
+pub mod Faults

@@ -1,0 +1,3 @@
+pub mod KeyProto
+pub mod MapKey
+pub mod Reading

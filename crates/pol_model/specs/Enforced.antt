@@ -1,0 +1,51 @@
+-- When a direction of an endpoint is enforced (Cilium, Policy Enforcement Modes).
+use Rattle.std.specs.Prelude.{ℕ, ◌==◌, ◌||◌, Bool, true, false, List, [], ◌∷◌, filter, length, nat_lt}
+use Rattle.std.specs.List.{flat_map, list_any}
+use Rattle.pol_labels.specs.Match.{matches}
+use Rattle.pol_ports.specs.declared.Direction.{Direction}
+use Rattle.pol_ports.specs.declared.Direction.TheVariants.{Ingress, Egress}
+use Rattle.pol_rule.specs.Covers.{section_of}
+use Rattle.pol_rule.specs.declared.policy.Entry.{Entry}
+use Rattle.pol_rule.specs.declared.policy.Rule.{Rule}
+use Rattle.pol_rule.specs.declared.policy.Section.{Section}
+use Rattle.pol_rule.specs.declared.policy.Section.TheVariants as section
+use Rattle.pol_model.specs.declared.options.Mode.{Mode}
+use Rattle.pol_model.specs.declared.options.Mode.TheVariants.{Default, Always, Never}
+use Rattle.pol_model.specs.declared.row.Endpoint.{Endpoint}
+use Rattle.pol_model.specs.State.{State}
+
+-- the sections of a direction
+abbrev pub allow_section : Direction → Section
+allow_section Ingress = section.Ingress
+allow_section Egress = section.Egress
+
+abbrev pub deny_section : Direction → Section
+deny_section Ingress = section.IngressDeny
+deny_section Egress = section.EgressDeny
+
+abbrev pub is_there : List Entry → Bool
+is_there entries = nat_lt 0 (length entries)
+
+-- What a rule says of a direction: it has an allow or a deny section there. An empty section is none.
+abbrev pub rule_says : Direction → Rule → Bool
+rule_says dir rule = is_there (section_of (allow_section dir) rule) || is_there (section_of (deny_section dir) rule)
+
+-- a rule selects the endpoint where its subject matches the endpoint's labels
+abbrev pub rule_selects : Endpoint → Rule → Bool
+rule_selects endpoint rule = matches rule.subject endpoint.labels
+
+-- the rules of all policies that select the endpoint, in order
+abbrev pub selecting_rules : State → Endpoint → List Rule
+selecting_rules s endpoint = filter (rule_selects endpoint) (flat_map (λ stamped. stamped.policy.rules) s.policies)
+
+-- an endpoint of this identity has no labels yet, and is enforced by default
+abbrev pub init_identity : ℕ
+init_identity = 5
+
+abbrev pub enforced_in : Mode → State → Endpoint → Direction → Bool
+enforced_in Always s endpoint dir = true
+enforced_in Never s endpoint dir = false
+enforced_in Default s endpoint dir = (endpoint.identity == init_identity) || list_any (rule_says dir) (selecting_rules s endpoint)
+
+abbrev pub enforced : State → Endpoint → Direction → Bool
+enforced s endpoint dir = enforced_in s.mode s endpoint dir

@@ -1,0 +1,16 @@
+pub mod State
+pub mod Numbers
+pub mod Identities
+pub mod Prefixes
+pub mod Policies
+pub mod Endpoints
+pub mod After
+pub mod Fault
+pub mod Selects
+pub mod Enforced
+pub mod Verdict
+pub mod Explain
+pub mod Remote
+pub mod PolicyMap
+pub mod Committed
+pub mod Sizes

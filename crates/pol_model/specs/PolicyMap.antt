@@ -1,0 +1,123 @@
+-- The policy map of an endpoint: all of it is 'profile'.
+use Rattle.std.specs.Prelude.{ℕ, zero, suc, ◌==◌, ◌&&◌, ◌||◌, not, Bool, true, false, if◌then◌else◌, List, [], ◌∷◌, ◌++◌, map, filter, length, Option, None, Some}
+use Rattle.std.specs.List.{flat_map, list_any}
+use Rattle.std.specs.Ordering.{match_ordering}
+use Rattle.pol_ports.specs.declared.Direction.{Direction}
+use Rattle.pol_ports.specs.declared.Direction.TheVariants.{Ingress, Egress}
+use Rattle.pol_ports.specs.declared.Proto.{Proto}
+use Rattle.pol_ports.specs.declared.Proto.TheVariants.{Tcp, Udp, Sctp}
+use Rattle.pol_ports.specs.Split.{split_of}
+use Rattle.pol_mapkey.specs.declared.MapKey.{MapKey}
+use Rattle.pol_mapkey.specs.declared.Kind.{Kind}
+use Rattle.pol_mapkey.specs.declared.Kind.TheVariants.{Allow, Deny}
+use Rattle.pol_mapkey.specs.MapKey.{every_key, port_key, key_cmp, strictly_covers}
+use Rattle.pol_mapkey.specs.Reading.{Entry as MapEntry, is_deny}
+use Rattle.pol_rule.specs.Covers.{section_of, has_effect}
+use Rattle.pol_rule.specs.declared.policy.Entity.TheVariants as entity
+use Rattle.pol_rule.specs.declared.policy.Entry.{Entry}
+use Rattle.pol_rule.specs.declared.policy.Peer.{Peer}
+use Rattle.pol_rule.specs.declared.policy.Peer.TheVariants as peer
+use Rattle.pol_rule.specs.declared.policy.Peers.{Peers}
+use Rattle.pol_rule.specs.declared.policy.Peers.TheVariants.{Every, Listed}
+use Rattle.pol_rule.specs.declared.policy.PortSpec.{PortSpec}
+use Rattle.pol_model.specs.declared.options.Options.{Options}
+use Rattle.pol_model.specs.declared.row.Endpoint.{Endpoint}
+use Rattle.pol_model.specs.State.{State}
+use Rattle.pol_model.specs.Enforced.{allow_section, deny_section, selecting_rules, enforced}
+use Rattle.pol_model.specs.Selects.{set_at}
+use Rattle.pol_model.specs.Verdict.{is_never, is_ingress, host_identity}
+
+-- the number that stands for every identity
+abbrev pub every_identity : ℕ
+every_identity = 0
+
+-- the numbers that a peer gives entries for, where it selects the numbers that `set` says
+abbrev pub peer_numbers : (Peer → List ℕ) → Peer → List ℕ
+peer_numbers set (peer.Entity entity.All) = every_identity ∷ []
+peer_numbers set other = set other
+
+abbrev pub peers_numbers : (Peer → List ℕ) → Peers → List ℕ
+peers_numbers set Every = every_identity ∷ []
+peers_numbers set (Listed peers) = flat_map (peer_numbers set) peers
+
+-- the protocols of a port; none stands for ANY
+abbrev pub protos_of : Option Proto → List Proto
+protos_of None = Tcp ∷ Udp ∷ Sctp ∷ []
+protos_of (Some proto) = proto ∷ []
+
+-- the keys of a port: each prefix of the least split of its range, for each of its protocols
+abbrev pub spec_keys : Direction → ℕ → PortSpec → List MapKey
+spec_keys dir id spec = flat_map (λ proto. map (port_key dir id proto) (split_of spec.range)) (protos_of spec.proto)
+
+-- the keys of an entry's ports; without ports, the one key of every protocol
+abbrev pub ports_keys : Direction → ℕ → List PortSpec → List MapKey
+ports_keys dir id [] = every_key dir id ∷ []
+ports_keys dir id (spec ∷ specs) = flat_map (spec_keys dir id) (spec ∷ specs)
+
+-- what an entry puts into the map: a kind for each of its numbers with each of its ports
+abbrev pub entry_entries : (Peer → List ℕ) → Direction → Kind → Entry → List MapEntry
+entry_entries set dir kind entry =
+    if has_effect entry
+    then flat_map (λ id. map (λ key. (key, kind)) (ports_keys dir id entry.ports)) (peers_numbers set entry.peers)
+    else []
+
+abbrev pub allow_every : Direction → ℕ → MapEntry
+allow_every dir id = (every_key dir id, Allow)
+
+-- a direction that isn't enforced allows every identity
+abbrev pub unenforced_entries : State → Endpoint → Direction → List MapEntry
+unenforced_entries s endpoint dir = if enforced s endpoint dir then [] else (allow_every dir every_identity ∷ [])
+
+abbrev pub localhost_entries : Options → Direction → List MapEntry
+localhost_entries options dir =
+    if is_ingress dir && options.localhost then allow_every dir host_identity ∷ [] else []
+
+-- what the rules that select the endpoint put into the map in a direction
+abbrev pub entries_of_rules : (Peer → List ℕ) → State → Endpoint → Direction → List MapEntry
+entries_of_rules set s endpoint dir =
+    flat_map (λ rule. flat_map (entry_entries set dir Allow) (section_of (allow_section dir) rule)
+        ++ flat_map (entry_entries set dir Deny) (section_of (deny_section dir) rule)) (selecting_rules s endpoint)
+
+abbrev pub direction_entries : Options → (Peer → List ℕ) → State → Endpoint → Direction → List MapEntry
+direction_entries options set s endpoint dir =
+    entries_of_rules set s endpoint dir ++ unenforced_entries s endpoint dir ++ localhost_entries options dir
+
+-- All that is put into the endpoint's map, where a peer selects the numbers that `set` says. In mode
+-- `never` it is one allow for every identity in each direction.
+abbrev pub raw_entries : Options → (Peer → List ℕ) → State → Endpoint → List MapEntry
+raw_entries options set s endpoint =
+    if is_never s.mode
+    then allow_every Ingress every_identity ∷ allow_every Egress every_identity ∷ []
+    else direction_entries options set s endpoint Ingress ++ direction_entries options set s endpoint Egress
+
+-- of two kinds of one key the deny
+abbrev pub stronger : Kind → Kind → Kind
+stronger a b = if is_deny a then a else b
+
+-- the entries, which ascend by their keys, with one more
+abbrev pub put_entry : MapEntry → List MapEntry → List MapEntry
+put_entry new [] = new ∷ []
+put_entry new (old ∷ others) =
+    match_ordering (key_cmp new.0 old.0)
+        (new ∷ old ∷ others) ((old.0, stronger new.1 old.1) ∷ others) (old ∷ put_entry new others)
+
+-- one entry for each key, in the order of keys, where deny wins over allow
+abbrev pub merged : List MapEntry → List MapEntry
+merged [] = []
+merged (entry ∷ others) = put_entry entry (merged others)
+
+-- the entry lies strictly under a deny
+abbrev pub is_under_deny : List MapEntry → MapEntry → Bool
+is_under_deny entries entry = list_any (λ other. is_deny other.1 && strictly_covers other.0 entry.0) entries
+
+-- the canonical map of raw entries
+abbrev pub canonical : List MapEntry → List MapEntry
+canonical raw = filter (λ entry. not (is_under_deny raw entry)) (merged raw)
+
+-- the canonical map of an endpoint in a state
+abbrev pub map_of : Options → State → Endpoint → List MapEntry
+map_of options s endpoint = canonical (raw_entries options (set_at s.identities) s endpoint)
+
+-- how many entries it has
+abbrev pub map_size : Options → State → Endpoint → ℕ
+map_size options s endpoint = length (map_of options s endpoint)

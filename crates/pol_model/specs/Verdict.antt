@@ -1,0 +1,57 @@
+-- The verdict on one packet, by a scan of all rules (Cilium, Policy Enforcement Modes, and Network Policy,
+-- "Deny Policies"). It has no tables, no keys and no filters.
+use Rattle.std.specs.Prelude.{ℕ, ◌==◌, ◌&&◌, ◌||◌, not, Bool, true, false, if◌then◌else◌}
+use Rattle.std.specs.List.{list_any}
+use Rattle.pol_ports.specs.declared.Direction.{Direction}
+use Rattle.pol_ports.specs.declared.Direction.TheVariants.{Ingress, Egress}
+use Rattle.pol_ports.specs.declared.Proto.{Proto}
+use Rattle.pol_mapkey.specs.declared.Word.{Word}
+use Rattle.pol_mapkey.specs.declared.Word.TheVariants.{Allowed, DeniedByRule, DeniedByDefault}
+use Rattle.pol_rule.specs.Covers.{section_of, covers}
+use Rattle.pol_rule.specs.declared.policy.Section.{Section}
+use Rattle.pol_model.specs.declared.options.Mode.{Mode}
+use Rattle.pol_model.specs.declared.options.Mode.TheVariants.{Default, Always, Never}
+use Rattle.pol_model.specs.declared.options.Options.{Options}
+use Rattle.pol_model.specs.declared.row.Endpoint.{Endpoint}
+use Rattle.pol_model.specs.State.{State}
+use Rattle.pol_model.specs.Selects.{Known, selects, known_number}
+use Rattle.pol_model.specs.Enforced.{allow_section, deny_section, selecting_rules, enforced}
+
+-- the other side: what is known of it, and whether it is the local host
+pub record Side : Type 0 where
+  pub known : Known
+  pub is_host : Bool
+
+-- some entry of that section of a rule that selects the endpoint covers the packet
+abbrev pub some_covers : State → Endpoint → Section → Known → Proto → ℕ → Bool
+some_covers s endpoint section known proto port =
+    list_any (λ rule. list_any (covers (selects known) proto port) (section_of section rule)) (selecting_rules s endpoint)
+
+abbrev pub is_never : Mode → Bool
+is_never Default = false
+is_never Always = false
+is_never Never = true
+
+abbrev pub is_ingress : Direction → Bool
+is_ingress Ingress = true
+is_ingress Egress = false
+
+-- In mode `never` all is allowed. Else a deny wins over every allow; and what no entry covers is
+-- allowed where the direction isn't enforced, or where the local host comes in and always may.
+abbrev pub verdict_on : Options → State → Endpoint → Direction → Side → Proto → ℕ → Word
+verdict_on options s endpoint dir side proto port =
+    if is_never s.mode then Allowed
+    else (if some_covers s endpoint (deny_section dir) side.known proto port then DeniedByRule
+    else (if some_covers s endpoint (allow_section dir) side.known proto port || not (enforced s endpoint dir) || (is_ingress dir && side.is_host && options.localhost) then Allowed
+    else DeniedByDefault))
+
+-- the number of the local host
+abbrev pub host_identity : ℕ
+host_identity = 1
+
+abbrev pub numbered_side : State → ℕ → Side
+numbered_side s number = record { known = known_number s.identities number; is_host = number == host_identity }
+
+-- the verdict on a packet from or to an identity number
+abbrev pub verdict_of : Options → State → Endpoint → Direction → ℕ → Proto → ℕ → Word
+verdict_of options s endpoint dir number proto port = verdict_on options s endpoint dir (numbered_side s number) proto port

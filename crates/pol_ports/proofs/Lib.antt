@@ -1,0 +1,10 @@
+pub mod Blocks
+pub mod Parts
+pub mod PartsCover
+pub mod Count
+pub mod Least
+pub mod Steps
+pub mod Members
+pub mod SplitLaws
+pub mod Containing
+pub mod Same

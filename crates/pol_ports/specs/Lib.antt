@@ -1,0 +1,5 @@
+pub mod Direction
+pub mod Proto
+pub mod PortRange
+pub mod PortPrefix
+pub mod Split
