@@ -1,10 +1,10 @@
 -- Host bits cleared once, and again at another length.
-use Rattle.std.proofs.Common.{◌≡◌, ◌≢◌, ℕ, ◌+◌, ◌-◌, ◌*◌, ◌/◌, ◌^◌, ◌<◌, ◌≤◌, refl, sym, ap, ◌∙◌, inl, inr, arith, ◌%◌, ◌==◌, if◌then◌else◌, eq-eqb, ne_eqb}
+use Rattle.std.proofs.Common.{◌≡◌, ◌≢◌, ℕ, ◌+◌, ◌-◌, ◌*◌, ◌/◌, ◌^◌, ◌<◌, ◌≤◌, sym, ap, ◌∙◌, inl, inr, arith, ◌%◌, ◌==◌, if◌then◌else◌, eq-eqb, ne_eqb}
 use Rattle.std.proofs.lemmas.Bool.{cases_lt, cases_eq}
 use Rattle.std.specs.Prelude.{bit_and}
-use Rattle.std.proofs.lemmas.Nat.{shl-shr, shr-shr, shr_split, pow-add, pow_pos, pow_below, div-mul-add, shr_below, row_fits}
+use Rattle.std.proofs.lemmas.Nat.{shl-shr, shr-shr, shr_split, pow-add, pow_below, div-mul-add, shr_below, row_fits}
 use Rattle.std.proofs.lemmas.Nat.Bits.{and_high_mask}
-use Rattle.pol_addr.specs.Cidr.{Cidr, IsPrefix, network}
+use Rattle.pol_addr.specs.Cidr.{IsPrefix, network}
 
 -- to keep the bits of a mask is to clear the host bits
 pub and-mask : (len n : ℕ) → n < 2 ^ 32 → bit_and n (2 ^ 32 - 2 ^ (32 - len)) ≡ network len n

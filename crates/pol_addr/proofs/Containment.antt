@@ -1,9 +1,9 @@
 -- What it is for a prefix to contain an address, and to cover another prefix.
-use Rattle.std.proofs.Common.{Bool, ◌≡◌, ℕ, suc, ◌+◌, ◌-◌, ◌*◌, ◌/◌, ◌%◌, ◌^◌, ◌<◌, ◌≤◌, ◌↔◌, IsTrue, true, false, refl, sym, ap, ◌∙◌, inl, inr, ◌⊎◌, arith, if◌then◌else◌}
+use Rattle.std.proofs.Common.{Bool, ◌≡◌, ℕ, ◌+◌, ◌-◌, ◌^◌, ◌<◌, ◌≤◌, ◌↔◌, IsTrue, true, false, refl, sym, ap, ◌∙◌, inl, inr, ◌⊎◌, arith, if◌then◌else◌}
 use Rattle.std.proofs.lemmas.Nat.{pow_pos, pow_below}
 use Rattle.std.proofs.lemmas.Bool.{cases_lt, and_parts, and_from, eqb-true, eq-eqb, leb-true, le-leb}
 use Rattle.pol_addr.specs.Address.{Addr, IsAddr}
-use Rattle.pol_addr.specs.Cidr.{Cidr, IsPrefix, network}
+use Rattle.pol_addr.specs.Cidr.{IsPrefix, network}
 use Rattle.pol_addr.specs.Prefix.{Prefix, prefix_of, bit_of, half, contains, covers, world}
 use Rattle.pol_addr.proofs.Blocks.{network-network, network-whole, network_le, network-none, network-next, network-within, next_block}
 

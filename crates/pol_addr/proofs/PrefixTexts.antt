@@ -1,5 +1,5 @@
 -- The reader of a prefix reads the grammar of prefixes, and nothing else.
-use Rattle.std.proofs.Common.{◌≡◌, ◌≢◌, ℕ, zero, suc, ◌+◌, ◌*◌, ◌^◌, ◌<◌, ◌≤◌, ◌==◌, Bool, true, false, List, [], ◌∷◌, ◌++◌, length, get_or, Option, Some, None, option_map, IfSome, IfNone, decimal, codes, Bor, MatchOption, refl, sym, ap, ◌∙◌, inl, inr, append-nil, append_assoc, arith, ne_eqb, eq-eqb, eqb-true}
+use Rattle.std.proofs.Common.{◌≡◌, ◌≢◌, ℕ, zero, suc, ◌<◌, ◌≤◌, ◌==◌, false, List, [], ◌∷◌, ◌++◌, length, get_or, Option, Some, None, option_map, IfSome, IfNone, decimal, codes, Bor, refl, sym, ap, ◌∙◌, inl, inr, append_assoc, arith, ne_eqb, eq-eqb}
 use Rattle.std.proofs.lemmas.Option.{none-some, same_Some}
 use Rattle.std.proofs.lemmas.Bool.{cases_eq}
 use Rattle.std.proofs.lemmas.Fmt.{decimal_is_IsNumeral}
@@ -8,8 +8,8 @@ use Rattle.std.proofs.lemmas.Str.Pattern.{IsSplitOnceResult, split_parts}
 use Rattle.std.specs.Str.Parse.{AllDigits}
 use Rattle.std.proofs.NetLemmas.Options.{and_then_some, map_some, same_parts}
 use Rattle.pol_addr.specs.Address.{Addr, read_addr}
-use Rattle.pol_addr.specs.Prefix.{Prefix, prefix_of, cut_at, read_len, read_bare, read_pair, read_parts, read_prefix}
-use Rattle.pol_addr.specs.Grammar.{WritesAddr, WritesBare, WritesPair, WritesPrefix}
+use Rattle.pol_addr.specs.Prefix.{Prefix, cut_at, read_len, read_parts, read_prefix}
+use Rattle.pol_addr.specs.Grammar.{WritesAddr, WritesPrefix}
 use Rattle.pol_addr.specs.Grammar.WritesPrefix.{bare, pair}
 use Rattle.pol_addr.specs.Cidr.{IsPrefix}
 use Rattle.pol_addr.proofs.Blocks.{IsPrefix-network}

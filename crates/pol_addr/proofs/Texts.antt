@@ -1,8 +1,8 @@
 -- The readers read the grammar, and nothing else.
-use Rattle.std.proofs.Common.{◌≡◌, ◌≢◌, leb, ℕ, ◌+◌, ◌*◌, ◌^◌, ◌<◌, ◌≤◌, ◌==◌, Bool, true, false, List, [], ◌∷◌, ◌++◌, length, get_or, Option, Some, None, option_map, IfSome, IfNone, option_and_then, if◌then◌else◌, Result, Ok, Err, MatchResult, slice_index, decimal, codes, refl, sym, ap, ◌∙◌, inl, inr, append-nil, arith, lit≤, ne_eqb, le-leb, leb-true}
+use Rattle.std.proofs.Common.{◌≡◌, ◌≢◌, leb, ℕ, ◌<◌, ◌≤◌, List, [], ◌∷◌, length, get_or, Option, Some, None, option_map, IfSome, IfNone, option_and_then, if◌then◌else◌, Result, Ok, Err, MatchResult, slice_index, decimal, refl, sym, ap, ◌∙◌, inl, inr, append-nil, arith, lit≤, ne_eqb, le-leb, leb-true}
 use Rattle.std.proofs.lemmas.Option.{none-some, same_Some}
-use Rattle.std.proofs.lemmas.Bool.{cases_lt, lt-leb}
-use Rattle.std.proofs.lemmas.Fmt.{decimal_is_IsNumeral, decimal_nonempty, first_decimal, decimal_digit, decimal-digits_value, digits_value-decimal}
+use Rattle.std.proofs.lemmas.Bool.{cases_lt}
+use Rattle.std.proofs.lemmas.Fmt.{decimal_is_IsNumeral, first_decimal, decimal_digit, decimal-digits_value}
 use Rattle.std.proofs.lemmas.Str.Parse.{IsNumeralModel, numerals_by_value, tells_digits, parse_plain}
 use Rattle.std.specs.Str.Parse.{ParsesUnsigned, AllDigits, digits_value}
 use Rattle.std.specs.Net.Reader.{Read, read_ipv4, read_octet, whole_value}
@@ -10,7 +10,7 @@ use Rattle.std.specs.declared.net.ipv4_addr.Ipv4Addr.{Ipv4Addr}
 use Rattle.std.specs.Net.Addr.{ipv4_octets}
 use Rattle.std.specs.Net.Grammar.{IsDotted, IsIpv4Text, Parses}
 use Rattle.std.specs.Result.{result_ok}
-use Rattle.std.proofs.NetLemmas.Options.{and_then_some, cond_some, same_parts}
+use Rattle.std.proofs.NetLemmas.Options.{and_then_some, cond_some}
 use Rattle.std.proofs.NetLemmas.Ipv4.{read_ipv4_sound, read_ipv4_complete, read_octet_sound, read_octet_complete}
 use Rattle.pol_addr.specs.Address.{Addr, IsAddr, addr_of_octets, read_addr}
 use Rattle.pol_addr.specs.Prefix.{read_len}

@@ -1,5 +1,5 @@
 -- What an address is, and what a text reads as.
-use Rattle.std.specs.Prelude.{◌≡◌, ℕ, ◌+◌, ◌*◌, ◌^◌, ◌<◌, Bool, ◌==◌, List, slice_index, Option, Some, option_and_then}
+use Rattle.std.specs.Prelude.{ℕ, ◌+◌, ◌*◌, ◌^◌, ◌<◌, Bool, ◌==◌, List, slice_index, Option, Some, option_and_then}
 use Rattle.std.specs.Net.Reader.{read_ipv4, whole_value}
 pub use Rattle.pol_addr.specs.declared.address.Addr.{Addr}
 

@@ -6,8 +6,8 @@
 
 mod address;
 pub mod laws;
+mod len_text;
 mod network;
-mod numeral;
 
 pub use address::Addr;
 pub use network::Prefix;

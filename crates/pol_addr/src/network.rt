@@ -6,7 +6,7 @@ ghost use Rattle.pol_addr.specs.Prefix.{Prefix, bit_of, contains, covers, prefix
 ghost use Rattle.pol_addr.specs.Grammar.{WritesPrefix};
 
 use crate::address::Addr;
-use crate::numeral::parse_len;
+use crate::len_text::parse_len;
 use std::marker::Model;
 
 /// A block of addresses that share their first `len` bits (CIDR notation, RFC 4632, section 3.1).

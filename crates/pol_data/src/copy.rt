@@ -41,6 +41,18 @@ impl TryCopy for u64 {
     }
 }
 
+impl TryCopy for u128 {
+    fn try_copy(&self, _alloc: Global) -> Result<u128, Memory> {
+        Ok(*self)
+    }
+}
+
+impl TryCopy for usize {
+    fn try_copy(&self, _alloc: Global) -> Result<usize, Memory> {
+        Ok(*self)
+    }
+}
+
 impl<T: TryCopy> TryCopy for Option<T> {
     fn try_copy(&self, alloc: Global) -> Result<Option<T>, Memory> {
         match self {

@@ -144,6 +144,8 @@ fn numbers_and_options_are_copied(rt: HostRuntime) -> Result<(), Fail> {
     assert_eq!(rt; 1u8.try_copy(alloc)?, 1);
     assert_eq!(rt; 2u16.try_copy(alloc)?, 2);
     assert_eq!(rt; 3u32.try_copy(alloc)?, 3);
+    assert_eq!(rt; 5u128.try_copy(alloc)?, 5);
+    assert_eq!(rt; 6usize.try_copy(alloc)?, 6);
     assert_eq!(rt; Some(4u64).try_copy(alloc)?, Some(4));
     Ok(())
 }

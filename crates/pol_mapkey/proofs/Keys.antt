@@ -1,5 +1,5 @@
 -- Covering of keys as facts on their fields, and its laws.
-use Rattle.std.proofs.Common.{◌≡◌, ℕ, ◌+◌, ◌-◌, ◌^◌, ◌<◌, ◌≤◌, Bool, true, false, ◌&&◌, ◌==◌, refl, sym, ◌∙◌, ap, subst, inl, inr, ◌⊎◌, ⊎_elim, ◌↔◌, arith}
+use Rattle.std.proofs.Common.{◌≡◌, ℕ, ◌-◌, Bool, true, ◌&&◌, ◌==◌, refl, sym, ◌∙◌, ap, subst, inl, inr, ◌⊎◌, arith}
 use Rattle.std.specs.Coded.{→_prop}
 use native.Mathlib.Nat.{ℕ_set}
 use Rattle.std.proofs.lemmas.Bool.{and_parts, and_from, eqb-true, eq-eqb}
@@ -9,10 +9,9 @@ use Rattle.pol_ports.specs.declared.Proto.{Proto}
 use Rattle.pol_ports.specs.declared.Proto.TheVariants.{Tcp as TcpPackets, Udp as UdpPackets, Sctp as SctpPackets}
 use Rattle.pol_ports.specs.declared.PortPrefix.{PortPrefix}
 use Rattle.pol_ports.specs.Direction.{same_direction}
-use Rattle.pol_ports.specs.PortPrefix.{end_of, prefix_holds, prefix_contains, same_prefix}
+use Rattle.pol_ports.specs.PortPrefix.{prefix_holds, prefix_contains, same_prefix}
 use Rattle.pol_ports.proofs.Same.{same_direction-self, same_direction-is, same_prefix-self, same_prefix-is}
-use Rattle.pol_ports.proofs.Blocks.{prefix_same}
-use Rattle.pol_ports.proofs.Containing.{nested, contains_itself, contains_both, contains_three, empty_contains, contains_is, contains_from, contains_ports, contains_from_ports, holds_is, holds_from}
+use Rattle.pol_ports.proofs.Containing.{nested, contains_itself, contains_both, contains_three, empty_contains, contains_ports, contains_from_ports, holds_from}
 use Rattle.pol_mapkey.specs.declared.KeyProto.{KeyProto}
 use Rattle.pol_mapkey.specs.declared.KeyProto.TheVariants.{Every, Tcp, Udp, Sctp}
 use Rattle.pol_mapkey.specs.declared.MapKey.{MapKey}

@@ -1,6 +1,7 @@
 -- What specifications say of the protocols of keys.
 use Rattle.std.specs.Prelude.{◌≡◌, ℕ, Bool, true, ◌==◌}
 use Rattle.std.specs.Ordering.{nat_cmp}
+use Rattle.std.proofs.Common.{subst}
 use Rattle.std.specs.declared.cmp.Ordering.{Ordering}
 use Rattle.pol_ports.specs.declared.Proto.{Proto}
 use Rattle.pol_ports.specs.declared.Proto.TheVariants.{Tcp as TcpPackets, Udp as UdpPackets, Sctp as SctpPackets}
@@ -13,11 +14,18 @@ key_proto TcpPackets = Tcp
 key_proto UdpPackets = Udp
 key_proto SctpPackets = Sctp
 
--- it is not the protocol `Every`
+-- the protocol is one of packets
+abbrev pub IsOfPackets : KeyProto → Type 0
+IsOfPackets Every = ⊥
+IsOfPackets Tcp = Unit {0}
+IsOfPackets Udp = Unit {0}
+IsOfPackets Sctp = Unit {0}
+
+-- a protocol of packets is not `Every`
 pub key_proto-not_every : (proto : Proto) → key_proto proto ≡ Every → ⊥
-key_proto-not_every TcpPackets same = cc
-key_proto-not_every UdpPackets same = cc
-key_proto-not_every SctpPackets same = cc
+key_proto-not_every TcpPackets same = subst IsOfPackets same tt
+key_proto-not_every UdpPackets same = subst IsOfPackets same tt
+key_proto-not_every SctpPackets same = subst IsOfPackets same tt
 
 -- a number for each protocol of keys, in their order
 abbrev pub proto_place : KeyProto → ℕ

@@ -99,7 +99,7 @@ number_for labels rows = or_free (number_of_labels labels rows) (free_number clu
 abbrev pub labels_held : List Label → List IdentityRow → List IdentityRow
 labels_held labels rows =
     held_or_new (number_of_labels labels rows)
-        (record { number = free_number cluster_first rows; labels = labels; prefix = None; holders = 1 }) rows
+    (record { number = free_number cluster_first rows; labels = labels; prefix = None; holders = 1 }) rows
 
 -- the rows once the number is released, where there is one
 abbrev pub number_released : Option ℕ → List IdentityRow → List IdentityRow

@@ -76,7 +76,7 @@ localhost_entries options dir =
 abbrev pub entries_of_rules : (Peer → List ℕ) → State → Endpoint → Direction → List MapEntry
 entries_of_rules set s endpoint dir =
     flat_map (λ rule. flat_map (entry_entries set dir Allow) (section_of (allow_section dir) rule)
-        ++ flat_map (entry_entries set dir Deny) (section_of (deny_section dir) rule)) (selecting_rules s endpoint)
+    ++ flat_map (entry_entries set dir Deny) (section_of (deny_section dir) rule)) (selecting_rules s endpoint)
 
 abbrev pub direction_entries : Options → (Peer → List ℕ) → State → Endpoint → Direction → List MapEntry
 direction_entries options set s endpoint dir =
@@ -99,7 +99,7 @@ abbrev pub put_entry : MapEntry → List MapEntry → List MapEntry
 put_entry new [] = new ∷ []
 put_entry new (old ∷ others) =
     match_ordering (key_cmp new.0 old.0)
-        (new ∷ old ∷ others) ((old.0, stronger new.1 old.1) ∷ others) (old ∷ put_entry new others)
+    (new ∷ old ∷ others) ((old.0, stronger new.1 old.1) ∷ others) (old ∷ put_entry new others)
 
 -- one entry for each key, in the order of keys, where deny wins over allow
 abbrev pub merged : List MapEntry → List MapEntry

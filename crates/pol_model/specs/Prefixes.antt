@@ -50,7 +50,7 @@ number_of_prefix prefix rows = number_where (λ row. has_prefix prefix row.prefi
 abbrev pub prefix_held : Prefix → List IdentityRow → List IdentityRow
 prefix_held prefix rows =
     held_or_new (number_of_prefix prefix rows)
-        (record { number = free_number local_first rows; labels = reserved_label (codes "world") ∷ []; prefix = Some prefix; holders = 1 }) rows
+    (record { number = free_number local_first rows; labels = reserved_label (codes "world") ∷ []; prefix = Some prefix; holders = 1 }) rows
 
 -- the rows once the prefix is held once less
 abbrev pub prefix_released : Prefix → List IdentityRow → List IdentityRow

@@ -47,7 +47,7 @@ world_identity = 2
 abbrev pub number_at : Addr → State → ℕ
 number_at address s =
     option_map_or (λ endpoint. endpoint.identity) (endpoint_at address s.endpoints)
-        (option_map_or (λ row. row.number) (longest_at address s.identities) world_identity)
+    (option_map_or (λ row. row.number) (longest_at address s.identities) world_identity)
 
 -- the number that a query's remote stands for
 abbrev pub remote_number : State → Remote → ℕ

@@ -17,11 +17,18 @@ pub enum Request {
         address: Addr,
     },
     /// The endpoint of that name goes.
-    RemoveEndpoint { name: Text },
+    RemoveEndpoint {
+        name: Text,
+    },
     /// A new named identity: labels that are held without an endpoint.
-    AddIdentity { name: Text, labels: LabelSet },
+    AddIdentity {
+        name: Text,
+        labels: LabelSet,
+    },
     /// The named identity goes.
-    RemoveIdentity { name: Text },
+    RemoveIdentity {
+        name: Text,
+    },
     /// The policy is placed, in place of one of the same key if there is one.
     Apply(Policy),
     /// The policy of that key goes.

@@ -21,7 +21,11 @@ fn is_short_policy(policy: &Policy) -> bool
     ensures short { IsTrue result ↔ IsShortPolicy policy.now }
 {
     policy.rules.len() < TOO_MANY
-        && policy.rules.as_slice().iter().all(|rule| has_short_sections(rule))
+        && policy
+            .rules
+            .as_slice()
+            .iter()
+            .all(|rule| has_short_sections(rule))
 }
 
 impl Request {

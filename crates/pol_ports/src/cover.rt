@@ -9,7 +9,7 @@ use crate::{PortPrefix, PortRange};
 use std::alloc::{AllocError, Global};
 
 /// The fewest prefixes that have together exactly the ports of the range, in ascending order
-/// (profile; RFC 4632, section 3.1, has the same for addresses). There are at most 30.
+/// (profile). There are from 1 to 30 of them.
 ///
 /// `AllocError` comes only where memory runs out.
 pub fn split(alloc: Global, range: PortRange) -> Result<Vec<PortPrefix>, AllocError>
@@ -26,8 +26,8 @@ pub fn split(alloc: Global, range: PortRange) -> Result<Vec<PortPrefix>, AllocEr
     ensures least { IfOk result (λ parts. (other : List PortPrefix) → CoversExactly range other → length parts.items ≤ length other) }
 {
     let mut parts = Vec::new(alloc);
-    let every_port = PortPrefix { bits: 0, len: 0 };
-    push_parts(&mut parts, range, every_port)?;
+    let all_ports = PortPrefix { bits: 0, len: 0 };
+    push_parts(&mut parts, range, all_ports)?;
     Ok(parts)
 }
 

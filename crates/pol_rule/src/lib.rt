@@ -13,9 +13,12 @@ mod raw;
 mod raw_copy;
 
 pub use fault::RuleFault;
-pub use policy::Entity;
-pub use policy::{Entries, Entry, Peer, PeerList, Peers, PortSpec, PortSpecs, Prefixes};
-pub use policy::{Place, Policy, PolicyKey, Rule, Rules, Section};
-pub use raw::{RawCidrSet, RawCidrSets, RawEntries, RawEntry, RawExpression, RawExpressions};
-pub use raw::{RawPair, RawPairs, RawPolicy, RawPort, RawPortItem, RawPortItems, RawPorts};
-pub use raw::{RawRule, RawRules, RawSelector, RawSelectors};
+pub use policy::{
+    Entity, Entries, Entry, Peer, PeerList, Peers, Place, Policy, PolicyKey, PortSpec, PortSpecs,
+    Prefixes, Rule, Rules, Section,
+};
+pub use raw::{
+    RawCidrSet, RawCidrSets, RawEntries, RawEntry, RawExpression, RawExpressions, RawPair,
+    RawPairs, RawPolicy, RawPort, RawPortItem, RawPortItems, RawPorts, RawRule, RawRules,
+    RawSelector, RawSelectors,
+};

@@ -1,8 +1,10 @@
 //! Copies of the parts of a policy document, each equal to its source. The one error of each is want of memory.
 ghost use Rattle.std.specs.Prelude.{◌≡◌, IfOk};
 
-use crate::raw::{RawCidrSet, RawEntry, RawExpression, RawPair, RawPolicy, RawPort, RawPortItem};
-use crate::raw::{RawRule, RawSelector};
+use crate::raw::{
+    RawCidrSet, RawEntry, RawExpression, RawPair, RawPolicy, RawPort, RawPortItem, RawRule,
+    RawSelector,
+};
 use pol_data::{Memory, TryCopy};
 use std::alloc::Global;
 

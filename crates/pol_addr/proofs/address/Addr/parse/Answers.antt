@@ -1,5 +1,4 @@
 use Rattle.std.proofs.Common.{sym, ◌∙◌, ap, Some}
-use Rattle.pol_addr.specs.Address.{addr_of_octets}
 use Rattle.pol_addr.proofs.Texts.{parsed_addr, none_writes, some_writes, addr_of_list}
 use Rattle.pol_addr.proofs.address.Addr.parse.Goals as goal
 

@@ -1,4 +1,4 @@
-use Rattle.std.proofs.Common.{◌≡◌, ◌++◌, ℕ, ◌+◌, ◌<◌, slice_index_or, List, length, take, drop, sym, ◌∙◌, ap, Bool, true, false, subst, refl, Result, Ok, Err}
+use Rattle.std.proofs.Common.{◌≡◌, ◌++◌, ℕ, List, length, take, drop, sym, ◌∙◌, ap, Bool, true, false, subst, refl, Result, Ok, Err}
 use Rattle.std.specs.Result.{OnOk, is_err}
 use Rattle.std.specs.Bool.{OnTrue, OnFalse}
 use Rattle.std.specs.List.Sorted.{IsPermutation}

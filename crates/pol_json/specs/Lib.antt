@@ -1,0 +1,4 @@
+pub mod Members
+pub mod Texts
+pub mod Gives
+pub mod Document

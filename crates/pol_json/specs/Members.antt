@@ -1,0 +1,42 @@
+-- The members of a JSON object. A member whose value is null counts as absent (Kubernetes, "API Conventions").
+use Rattle.std.specs.Prelude.{ℕ, ◌+◌, ◌==◌, ◌&&◌, not, Bool, true, false, if◌then◌else◌, List, [], ◌∷◌, length, Option, None, Some, is_some, option_and_then}
+use Rattle.std.specs.List.{list_all}
+use Rattle.serde_json.specs.Data.{Data, null, boolean, number, string, array, object, Items, no_items, item, Members, no_members, member}
+use Rattle.serde_json.specs.Find.{get, as_null, as_object, as_array, as_str}
+
+abbrev pub is_null : Data → Bool
+is_null d = is_some (as_null d)
+
+abbrev pub unless_null : Data → Option Data
+unless_null d = if is_null d then None else Some d
+
+-- the value of a member that is there
+abbrev pub present : List ℕ → Data → Option Data
+present name d = option_and_then unless_null (get name d)
+
+-- how many members are there
+abbrev pub members_present : Members → ℕ
+members_present no_members = 0
+members_present (member name d others) = (if is_null d then 0 else 1) + members_present others
+
+-- whether it is an object with so many members
+abbrev pub has_count : ℕ → Option Members → Bool
+has_count n None = false
+has_count n (Some ms) = members_present ms == n
+
+-- whether it is an object with exactly these members, whose names differ
+abbrev pub has_exactly : List (List ℕ) → Data → Bool
+has_exactly names d =
+    has_count (length names) (as_object d) && list_all (λ name. is_some (present name d)) names
+
+-- the text of a member
+abbrev pub text_at : List ℕ → Data → Option (List ℕ)
+text_at name d = option_and_then as_str (present name d)
+
+abbrev pub items_list : Items → List Data
+items_list no_items = []
+items_list (item d others) = d ∷ items_list others
+
+-- the items of a member that is a list
+abbrev pub list_at : List ℕ → Data → Option (List Data)
+list_at name d = option_and_then (λ ds. Some (items_list ds)) (option_and_then as_array (present name d))

@@ -1,0 +1,63 @@
+-- The forms of names and keys.
+use Rattle.std.specs.Prelude.{ℕ, ◌==◌, ◌&&◌, ◌||◌, not, nat_le, Bool, List, [], ◌∷◌, length, codes}
+use Rattle.std.specs.List.{list_all, list_any, starts_with}
+use Rattle.std.specs.Prelude.{nat_eq}
+use Rattle.std.specs.Str.{bytes_eq}
+
+abbrev pub is_between : ℕ → ℕ → ℕ → Bool
+is_between first last byte = nat_le first byte && nat_le byte last
+
+abbrev pub is_lowercase : ℕ → Bool
+is_lowercase byte = is_between 97 122 byte
+
+abbrev pub is_digit : ℕ → Bool
+is_digit byte = is_between 48 57 byte
+
+abbrev pub is_letter : ℕ → Bool
+is_letter byte = is_lowercase byte || is_between 65 90 byte
+
+abbrev pub is_one_of : List ℕ → ℕ → Bool
+is_one_of bytes byte = list_any (λ b. b == byte) bytes
+
+-- a byte of the name of a policy or a namespace: a to z, 0 to 9, `.` and `-` (Kubernetes, "Object Names")
+abbrev pub is_dns_byte : ℕ → Bool
+is_dns_byte byte = is_lowercase byte || is_digit byte || is_one_of (codes ".-") byte
+
+-- a byte of a script's name or of a label's key and value: letters, digits, `.`, `_`, `-` and `/`
+abbrev pub is_name_byte : ℕ → Bool
+is_name_byte byte = is_letter byte || is_digit byte || is_one_of (codes "._-/") byte
+
+-- the greatest length of a name, in bytes
+abbrev pub name_max : ℕ
+name_max = 253
+
+abbrev pub has_name_length : List ℕ → Bool
+has_name_length text = nat_le 1 (length text) && nat_le (length text) name_max
+
+-- the name of a policy or a namespace
+abbrev pub is_dns_name : List ℕ → Bool
+is_dns_name text = has_name_length text && list_all is_dns_byte text
+
+-- a name of the script
+abbrev pub is_name : List ℕ → Bool
+is_name text = has_name_length text && list_all is_name_byte text
+
+-- a label's value, as far as it is read so far
+abbrev pub is_value : List ℕ → Bool
+is_value text = list_all is_name_byte text
+
+-- a label's key, as far as it is read so far
+abbrev pub is_key : List ℕ → Bool
+is_key text = nat_le 1 (length text) && list_all is_name_byte text
+
+-- the label that every pod has its namespace in
+abbrev pub namespace_key : List ℕ
+namespace_key = codes "io.kubernetes.pod.namespace"
+
+-- the keys of a namespace's own labels begin so
+abbrev pub namespace_labels : List ℕ
+namespace_labels = codes "io.cilium.k8s.namespace.labels."
+
+-- whether the key speaks of namespaces
+abbrev pub is_of_namespace : List ℕ → Bool
+is_of_namespace key = bytes_eq key namespace_key || starts_with nat_eq key namespace_labels

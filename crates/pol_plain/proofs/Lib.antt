@@ -1,0 +1,16 @@
+pub mod Added
+pub mod Counts
+pub mod Covering
+pub mod Distinct
+pub mod Free
+pub mod Held
+pub mod LabelLists
+pub mod Legal
+pub mod Locals
+pub mod Longest
+pub mod Nested
+pub mod Placed
+pub mod Room
+pub mod Sections
+pub mod Traces
+pub mod VerdictParts

@@ -1,0 +1,247 @@
+//! What is committed: the faults of requests, and how each changes the state.
+ghost use Rattle.std.specs.Prelude.{◌≡◌, ◌<◌, ◌-◌, ◌^◌, IfOk, OnOk, OnErr, IfErr};
+ghost use Rattle.pol_model.specs.After.{after};
+ghost use Rattle.pol_model.specs.Committed.{committed_of, identity_given, slots_of};
+ghost use Rattle.pol_model.specs.Fault.{fault_of};
+ghost use Rattle.pol_model.specs.Sizes.{IsShort, IsShortPolicy};
+ghost use Rattle.pol_plain.specs.Core.{IsCause};
+
+use crate::endpoints::{add_endpoint, count_slots, remove_endpoint};
+use crate::faults::{
+    endpoint_fault, identity_fault, locals_fault, unknown_endpoint, unknown_identity,
+    unknown_policy,
+};
+use crate::holdings::{rows_applied, rows_removed};
+use crate::named::{add_named, remove_named};
+use crate::plain::Plain;
+use crate::policies::{put_policy, remove_policy};
+use crate::prefixes::policy_prefixes;
+use pol_addr::Addr;
+use pol_data::{Memory, Text};
+use pol_labels::LabelSet;
+use pol_model::{CommitError, Committed, Fault, Mode, Refused, Request, Stamped};
+use pol_rule::{Policy, PolicyKey};
+use std::alloc::Global;
+
+impl Plain {
+    /// The fault of the request in the present state, if it has one. The one error is want of memory.
+    pub fn fault(&self, alloc: Global, request: &Request) -> Result<Option<Fault>, Memory>
+        ensures { IfOk result (λ fault. fault ≡ fault_of self.now.options self.now.state request.now) }
+    {
+        let rows = self.identities.as_slice();
+        let endpoints = self.endpoints.as_slice();
+        let named = self.named.as_slice();
+        match request {
+            Request::AddEndpoint {
+                name,
+                labels,
+                address,
+            } => Ok(endpoint_fault(
+                self.options,
+                endpoints,
+                rows,
+                name.as_str(),
+                labels,
+                *address,
+            )),
+            Request::RemoveEndpoint { name } => Ok(unknown_endpoint(endpoints, name.as_str())),
+            Request::AddIdentity { name, labels } => {
+                Ok(identity_fault(named, rows, name.as_str(), labels))
+            }
+            Request::RemoveIdentity { name } => Ok(unknown_identity(named, name.as_str())),
+            Request::Apply(policy) => {
+                let prefixes = policy_prefixes(alloc, policy)?;
+                Ok(locals_fault(rows, &prefixes))
+            }
+            Request::Remove(key) => Ok(unknown_policy(self.policies.as_slice(), key)),
+            Request::SetMode(_) => Ok(None),
+        }
+    }
+
+    /// A new endpoint; it answers the number that the endpoint holds.
+    pub(crate) fn add_endpoint(
+        &mut self,
+        alloc: Global,
+        name: Text,
+        labels: LabelSet,
+        address: Addr,
+    ) -> Result<u32, Memory>
+        requires legal { fault_of self.old.options self.old.state (Request.AddEndpoint name labels address) ≡ None }
+        requires room { self.old.state.revision < 2 ^ 64 - 1 }
+        ensures state { OnOk result (self.new ≡ record self.old { state = after self.old.state (Request.AddEndpoint name labels address) }) }
+        ensures number { IfOk result (λ number. Some number ≡ identity_given self.new.state (Request.AddEndpoint name labels address)) }
+        ensures stays { OnErr result (self.new ≡ self.old) }
+    {
+        let number = add_endpoint(
+            alloc,
+            &mut self.identities,
+            &mut self.endpoints,
+            name,
+            labels,
+            address,
+            self.revision + 1,
+        )?;
+        self.revision += 1;
+        Ok(number)
+    }
+
+    /// The endpoint of that name goes.
+    fn remove_endpoint(&mut self, name: &str)
+        requires room { self.old.state.revision < 2 ^ 64 - 1 }
+        ensures state { self.new ≡ record self.old { state = after self.old.state (Request.RemoveEndpoint name.now) } }
+    {
+        remove_endpoint(&mut self.identities, &mut self.endpoints, name);
+        self.revision += 1;
+    }
+
+    /// A new named identity; it answers the number that it holds.
+    fn add_identity(&mut self, name: Text, labels: LabelSet) -> Result<u32, Memory>
+        requires legal { fault_of self.old.options self.old.state (Request.AddIdentity name labels) ≡ None }
+        requires room { self.old.state.revision < 2 ^ 64 - 1 }
+        ensures state { OnOk result (self.new ≡ record self.old { state = after self.old.state (Request.AddIdentity name labels) }) }
+        ensures number { IfOk result (λ number. Some number ≡ identity_given self.new.state (Request.AddIdentity name labels)) }
+        ensures stays { OnErr result (self.new ≡ self.old) }
+    {
+        let number = add_named(&mut self.identities, &mut self.named, name, labels)?;
+        self.revision += 1;
+        Ok(number)
+    }
+
+    /// The named identity goes.
+    fn remove_identity(&mut self, name: &str)
+        requires room { self.old.state.revision < 2 ^ 64 - 1 }
+        ensures state { self.new ≡ record self.old { state = after self.old.state (Request.RemoveIdentity name.now) } }
+    {
+        remove_named(&mut self.identities, &mut self.named, name);
+        self.revision += 1;
+    }
+
+    /// The policy is placed, in place of one of the same key if there is one.
+    fn apply(&mut self, alloc: Global, policy: Policy) -> Result<(), Memory>
+        requires legal { fault_of self.old.options self.old.state (Request.Apply policy) ≡ None }
+        requires room { self.old.state.revision < 2 ^ 64 - 1 }
+        requires short { IsShortPolicy policy }
+        ensures state { OnOk result (self.new ≡ record self.old { state = after self.old.state (Request.Apply policy) }) }
+        ensures stays { OnErr result (self.new ≡ self.old) }
+    {
+        let rows = rows_applied(alloc, &self.identities, &self.policies, &policy)?;
+        self.policies.reserve(1)?;
+        let stamp = self.revision + 1;
+        self.identities = rows;
+        put_policy(&mut self.policies, Stamped { policy, stamp });
+        self.revision = stamp;
+        Ok(())
+    }
+
+    /// The policy of that key goes.
+    fn remove(&mut self, alloc: Global, key: &PolicyKey) -> Result<(), Memory>
+        requires room { self.old.state.revision < 2 ^ 64 - 1 }
+        ensures state { OnOk result (self.new ≡ record self.old { state = after self.old.state (Request.Remove key.now) }) }
+        ensures stays { OnErr result (self.new ≡ self.old) }
+    {
+        let rows = rows_removed(alloc, &self.identities, &self.policies, key)?;
+        self.identities = rows;
+        remove_policy(&mut self.policies, key);
+        self.revision += 1;
+        Ok(())
+    }
+
+    /// The mode from now on.
+    pub(crate) fn set_mode(&mut self, mode: Mode)
+        requires room { self.old.state.revision < 2 ^ 64 - 1 }
+        ensures state { self.new ≡ record self.old { state = after self.old.state (Request.SetMode mode) } }
+    {
+        self.mode = mode;
+        self.revision += 1;
+    }
+
+    /// Does what an accepted request asks, and answers the identity that it gave.
+    fn change(&mut self, alloc: Global, request: Request) -> Result<Option<u32>, Memory>
+        requires legal { fault_of self.old.options self.old.state request ≡ None }
+        requires room { self.old.state.revision < 2 ^ 64 - 1 }
+        requires short { IsShort request }
+        ensures state { OnOk result (self.new ≡ record self.old { state = after self.old.state request }) }
+        ensures identity { IfOk result (λ identity. identity ≡ identity_given self.new.state request) }
+        ensures stays { OnErr result (self.new ≡ self.old) }
+    {
+        match request {
+            Request::AddEndpoint {
+                name,
+                labels,
+                address,
+            } => Ok(Some(self.add_endpoint(alloc, name, labels, address)?)),
+            Request::RemoveEndpoint { name } => {
+                self.remove_endpoint(name.as_str());
+                Ok(None)
+            }
+            Request::AddIdentity { name, labels } => Ok(Some(self.add_identity(name, labels)?)),
+            Request::RemoveIdentity { name } => {
+                self.remove_identity(name.as_str());
+                Ok(None)
+            }
+            Request::Apply(policy) => {
+                self.apply(alloc, policy)?;
+                Ok(None)
+            }
+            Request::Remove(key) => {
+                self.remove(alloc, &key)?;
+                Ok(None)
+            }
+            Request::SetMode(mode) => {
+                self.set_mode(mode);
+                Ok(None)
+            }
+        }
+    }
+
+    /// One more than the greatest slot of a live endpoint, 0 where none is live.
+    fn slots(&self) -> u32
+        ensures { result ≡ slots_of self.now.state.endpoints }
+    {
+        count_slots(&self.endpoints)
+    }
+
+    fn accept(&mut self, alloc: Global, request: Request) -> Result<Committed, CommitError>
+        requires legal { fault_of self.old.options self.old.state request ≡ None }
+        requires room { self.old.state.revision < 2 ^ 64 - 1 }
+        requires short { IsShort request }
+        ensures state { OnOk result (self.new ≡ record self.old { state = after self.old.state request }) }
+        ensures answer { IfOk result (λ committed. committed ≡ committed_of self.new.state request) }
+        ensures memory { IfErr result (λ error. error ≡ CommitError.Memory) }
+        ensures stays { OnErr result (self.new ≡ self.old) }
+    {
+        match self.change(alloc, request) {
+            Ok(identity) => Ok(Committed {
+                revision: self.revision(),
+                identity,
+                slots: self.slots(),
+            }),
+            Err(_) => Err(CommitError::Memory),
+        }
+    }
+
+    /// Does what the request asks, if it has no fault, and raises the revision by one.
+    ///
+    /// `Refused` comes exactly where the request has a fault, with that fault and the present revision.
+    /// `Memory` is want of memory. After either the state is as before.
+    pub fn commit(&mut self, alloc: Global, request: Request) -> Result<Committed, CommitError>
+        requires room { self.old.state.revision < 2 ^ 64 - 1 }
+        requires short { IsShort request }
+        // What is accepted has no fault.
+        ensures accepted { OnOk result (fault_of self.old.options self.old.state request ≡ None) }
+        ensures state { OnOk result (self.new ≡ record self.old { state = after self.old.state request }) }
+        ensures answer { IfOk result (λ committed. committed ≡ committed_of self.new.state request) }
+        // What is refused has the fault that is named, unless memory was wanting.
+        ensures refused { IfErr result (IsCause self.old.options self.old.state request) }
+        ensures stays { OnErr result (self.new ≡ self.old) }
+    {
+        match self.fault(alloc, &request) {
+            Ok(None) => self.accept(alloc, request),
+            Ok(Some(fault)) => Err(CommitError::Refused(Refused {
+                revision: self.revision(),
+                fault,
+            })),
+            Err(_) => Err(CommitError::Memory),
+        }
+    }
+}

@@ -1,0 +1,13 @@
+pub mod SerialRuns
+pub mod Lists
+pub mod Numbering
+pub mod States
+pub mod Places
+pub mod Moments
+pub mod Walk
+pub mod RightLines
+pub mod SerialLaw
+pub mod SerialAnswers
+pub mod Counting
+pub mod Lives
+pub mod PlainWords

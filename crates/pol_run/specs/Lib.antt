@@ -1,0 +1,9 @@
+pub mod Spots
+pub mod History
+pub mod Moments
+pub mod Endpoints
+pub mod RightAnswer
+pub mod Run
+pub mod Serial
+pub mod SerialLines
+pub mod PlainWords

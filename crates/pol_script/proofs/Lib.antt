@@ -1,0 +1,5 @@
+pub mod Keyed
+pub mod Answered
+pub mod Cuts
+pub mod ScriptLaws
+pub mod AnswerLaws

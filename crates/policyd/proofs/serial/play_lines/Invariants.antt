@@ -1,0 +1,11 @@
+use Rattle.std.proofs.Common.{◌≡◌}
+use Rattle.pol_model.specs.After.{start}
+use Rattle.pol_run.proofs.SerialRuns.{IsPlayed}
+use Rattle.policyd.proofs.serial.play_lines.Given as goal
+
+-- the lines so far are answered, one after another
+abbrev pub invariant-loop-reading : goal.invariant-loop-reading
+invariant-loop-reading l = record {
+  options : l.plain.options ≡ l.fn.options;
+  played : IsPlayed l.fn.options (start l.fn.options) l.yielded l.plain.state l.phase l.answers.items;
+}

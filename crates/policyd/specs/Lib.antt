@@ -1,0 +1,3 @@
+pub mod Script
+pub mod Ends
+pub mod Headline

@@ -1,0 +1,43 @@
+//! `policyd` reads a script from standard input, one JSON object a line, and writes one answer a line to
+//! standard output.
+//!
+//! `play` does all of it over any source and sink; `serial` plays the lines, one after another, and `line`
+//! answers one. What `play` promises is stated in its contract, over the definitions of `pol_run`.
+#![tactic(auto)]
+
+mod line;
+mod play;
+mod serial;
+mod status;
+#[cfg(test)]
+mod tests;
+
+use play::play;
+use pol_base::{IoSink, IoSource};
+use status::Status;
+use std::process::ExitCode;
+use std::{env, io};
+
+// The words behind the program's name.
+fn words_of(rt: &HostRuntime) -> io::Result<Vec<String>> {
+    let mut words = Vec::new(rt.alloc());
+    for word in env::args(rt)?.skip(1) {
+        words.push(word)?;
+    }
+    Ok(words)
+}
+
+fn main(rt: HostRuntime) -> ExitCode {
+    let status = match words_of(&rt) {
+        Ok(words) => {
+            let mut source = IoSource::new(rt.stdin());
+            let mut sink = IoSink::new(rt.stdout());
+            play(&rt, rt.alloc(), words.as_slice(), &mut source, &mut sink)
+        }
+        Err(_) => Status::Memory,
+    };
+    if let Some(complaint) = status.complaint() {
+        let _ = eprintln!(rt; "{complaint}");
+    }
+    status.code()
+}

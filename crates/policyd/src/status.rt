@@ -1,0 +1,41 @@
+//! How a run ended.
+
+use std::process::ExitCode;
+
+/// How a run ended. Each variant's number is the program's exit status ('profile').
+#[derive(Clone, Copy, Debug, PartialEq, Eq)]
+pub enum Status {
+    /// 0: every line was answered, and no answer is a refusal, `notyet` or `noendpoint`.
+    Clean = 0,
+    /// 1: every line was answered, and some answer is one of those.
+    Marked = 1,
+    /// 2: the words don't fit the command.
+    Usage = 2,
+    /// 3: a read failed.
+    Read = 3,
+    /// 4: a write failed.
+    Write = 4,
+    /// 5: want of memory.
+    Memory = 5,
+    /// 6: the input has over 67,108,864 bytes or over 1,000,000 lines.
+    TooLong = 6,
+}
+
+impl Status {
+    /// The exit status.
+    pub fn code(self) -> ExitCode {
+        ExitCode::from(self as u8)
+    }
+
+    /// What is said to standard error, for the statuses at which the answers were not all written.
+    pub fn complaint(self) -> Option<&'static str> {
+        match self {
+            Status::Clean | Status::Marked => None,
+            Status::Usage => Some("policyd: usage"),
+            Status::Read => Some("policyd: read failed"),
+            Status::Write => Some("policyd: write failed"),
+            Status::Memory => Some("policyd: out of memory"),
+            Status::TooLong => Some("policyd: input too long"),
+        }
+    }
+}
