@@ -1,118 +1,85 @@
-//! What the worked cases are built of.
+//! Requests, built from what the tables say.
 
-use crate::Plain;
-use pol_addr::Addr;
+use pol_addr::{Addr, Prefix};
 use pol_data::{Items, Memory, Text};
 use pol_labels::{Label, LabelSet, Operator, Requirement, Selector};
-use pol_mapkey::Word;
-use pol_model::{CommitError, Committed, Mode, Options, Query, Remote, Request, Trace};
-use pol_ports::{Direction, PortRange, Proto};
-use pol_rule::{Entries, Entry, Peer, Peers, Policy, PolicyKey, PortSpec, PortSpecs, Rule};
+use pol_model::{Mode, Request};
+use pol_ports::{PortRange, Proto};
+use pol_rule::{
+    Entity, Entries, Entry, Peer, Peers, Policy, PolicyKey, PortSpec, PortSpecs, Prefixes, Rule,
+    Section,
+};
 use std::alloc::Global;
-use std::process::Abort;
 use std::test::Fail;
 
-/// The label of the namespace `default`.
-pub const NS: &str = "k8s:io.kubernetes.pod.namespace=default";
-
-/// A packet and the verdict that is wanted: direction, other side, protocol, port.
-pub type Case = (Direction, Remote, Proto, u16, Word);
-
-pub fn start(alloc: Global) -> Result<Plain, Memory> {
-    Plain::new(
-        alloc,
-        Options {
-            mode: Mode::Default,
-            localhost: true,
-            map_max: None,
-            addresses: true,
-        },
-    )
+/// The peers of an entry.
+#[derive(Clone, Copy)]
+pub enum Who {
+    /// No peer member.
+    Everyone,
+    /// The labels of the policy's namespace, with one requirement more: key, operator, value.
+    Label(&'static str, Operator, &'static str),
+    /// The labels of the policy's namespace.
+    Namespace,
+    /// A prefix, and one that is taken out.
+    Prefix([u8; 4], u8, Option<([u8; 4], u8)>),
+    /// An entity.
+    Entity(Entity),
 }
 
-/// The program's answer to a request, which is small.
-pub fn commit(
-    rt: &impl Abort,
-    alloc: Global,
-    plain: &mut Plain,
-    request: Request,
-) -> Result<Committed, CommitError> {
-    assert!(rt; plain.revision() < u64::MAX);
-    assert!(rt; request.is_short());
-    plain.commit(alloc, request)
+/// An entry: its peers, and a range of TCP ports.
+#[derive(Clone, Copy)]
+pub struct Draft {
+    pub who: Who,
+    pub ports: Option<(u16, u16)>,
 }
 
-/// Commits a request that gives this identity.
-pub fn give(
-    rt: &impl Abort,
-    alloc: Global,
-    plain: &mut Plain,
-    request: Request,
-    identity: Option<u32>,
-) -> Result<(), Fail> {
-    let committed = commit(rt, alloc, plain, request)?;
-    assert_eq!(rt; committed.identity, identity);
-    assert_eq!(rt; committed.revision, plain.revision());
-    Ok(())
+/// What is asked. A policy has one rule with one entry; the empty namespace is that of a cluster-wide
+/// policy.
+#[derive(Clone, Copy)]
+pub enum Ask {
+    Endpoint(&'static str, &'static [&'static str], [u8; 4]),
+    Identity(&'static str, &'static [&'static str]),
+    NoEndpoint(&'static str),
+    NoIdentity(&'static str),
+    Apply(&'static str, &'static str, Section, Draft),
+    Remove(&'static str),
+    SetMode(Mode),
 }
 
-/// The verdicts on packets of the endpoint.
-pub fn expect(
-    rt: &impl Abort,
-    alloc: Global,
-    plain: &Plain,
-    endpoint: &str,
-    cases: &[Case],
-) -> Result<(), Fail> {
-    for (dir, remote, proto, port, word) in cases {
-        let query = Query {
-            endpoint: Text::from_str(alloc, endpoint)?,
-            dir: *dir,
-            remote: *remote,
-            proto: *proto,
-            port: *port,
-        };
-        assert_eq!(rt; plain.verdict(&query), Some(*word), "port {port}");
+pub fn address(octets: [u8; 4]) -> Addr {
+    let [a, b, c, d] = octets;
+    Addr::from_octets(a, b, c, d)
+}
+
+fn prefix(octets: [u8; 4], len: u8) -> Prefix {
+    Prefix::new(address(octets), len.min(32))
+}
+
+/// The request.
+pub fn request(alloc: Global, ask: &Ask) -> Result<Request, Fail> {
+    match *ask {
+        Ask::Endpoint(name, labels, octets) => Ok(Request::AddEndpoint {
+            name: Text::from_str(alloc, name)?,
+            labels: label_set(alloc, labels)?,
+            address: address(octets),
+        }),
+        Ask::Identity(name, labels) => Ok(Request::AddIdentity {
+            name: Text::from_str(alloc, name)?,
+            labels: label_set(alloc, labels)?,
+        }),
+        Ask::NoEndpoint(name) => Ok(Request::RemoveEndpoint {
+            name: Text::from_str(alloc, name)?,
+        }),
+        Ask::NoIdentity(name) => Ok(Request::RemoveIdentity {
+            name: Text::from_str(alloc, name)?,
+        }),
+        Ask::Apply(namespace, name, section, draft) => policy(
+            alloc, namespace, name, section, draft,
+        ),
+        Ask::Remove(name) => Ok(Request::Remove(key(alloc, "default", name)?)),
+        Ask::SetMode(mode) => Ok(Request::SetMode(mode)),
     }
-    Ok(())
-}
-
-/// The explanation of TCP port 80 of the endpoint.
-pub fn explain(
-    rt: &impl Abort,
-    alloc: Global,
-    plain: &Plain,
-    dir: Direction,
-    remote: Remote,
-) -> Result<Trace, Fail> {
-    let query = Query {
-        endpoint: Text::from_str(alloc, "web")?,
-        dir,
-        remote,
-        proto: Proto::Tcp,
-        port: 80,
-    };
-    Ok(plain.explain(alloc, &query)?.expect(rt, "an explanation"))
-}
-
-pub fn endpoint(
-    alloc: Global,
-    name: &str,
-    labels: &[&str],
-    address: Addr,
-) -> Result<Request, Fail> {
-    Ok(Request::AddEndpoint {
-        name: Text::from_str(alloc, name)?,
-        labels: label_set(alloc, labels)?,
-        address,
-    })
-}
-
-pub fn identity(alloc: Global, name: &str, labels: &[&str]) -> Result<Request, Fail> {
-    Ok(Request::AddIdentity {
-        name: Text::from_str(alloc, name)?,
-        labels: label_set(alloc, labels)?,
-    })
 }
 
 fn label_set(alloc: Global, texts: &[&str]) -> Result<LabelSet, Fail> {
@@ -123,68 +90,94 @@ fn label_set(alloc: Global, texts: &[&str]) -> Result<LabelSet, Fail> {
     Ok(LabelSet::from_labels(alloc, labels)?)
 }
 
-/// The key of a policy of the namespace `default`.
-pub fn key(alloc: Global, name: &str) -> Result<PolicyKey, Memory> {
+fn key(alloc: Global, namespace: &str, name: &str) -> Result<PolicyKey, Memory> {
     Ok(PolicyKey {
-        cluster_wide: false,
-        namespace: Text::from_str(alloc, "default")?,
+        cluster_wide: namespace.is_empty(),
+        namespace: Text::from_str(alloc, namespace)?,
         name: Text::from_str(alloc, name)?,
     })
 }
 
-/// A policy of one rule.
-pub fn apply(alloc: Global, name: &str, rule: Rule) -> Result<Request, Memory> {
+fn policy(
+    alloc: Global,
+    namespace: &str,
+    name: &str,
+    section: Section,
+    draft: Draft,
+) -> Result<Request, Fail> {
+    let entry = entry(alloc, namespace, draft)?;
+    let rule = rule(
+        alloc,
+        subject(alloc, namespace)?,
+        section,
+        one(alloc, entry)?,
+    );
     Ok(Request::Apply(Policy {
-        key: key(alloc, name)?,
+        key: key(alloc, namespace, name)?,
         rules: one(alloc, rule)?,
     }))
 }
 
-/// A rule for the endpoints of the namespace `default`, whose sections have one entry or none.
-pub fn rule(
-    alloc: Global,
-    ingress: Option<Entry>,
-    ingress_deny: Option<Entry>,
-    egress: Option<Entry>,
-) -> Result<Rule, Fail> {
-    Ok(Rule {
-        subject: selector(alloc, None)?,
-        ingress: section(alloc, ingress)?,
-        ingress_deny: section(alloc, ingress_deny)?,
-        egress: section(alloc, egress)?,
-        egress_deny: section(alloc, None)?,
-    })
-}
-
-fn section(alloc: Global, entry: Option<Entry>) -> Result<Entries, Memory> {
-    match entry {
-        Some(entry) => one(alloc, entry),
-        None => Ok(Items::from_vec(Vec::new(alloc))),
+/// A rule with this section alone.
+fn rule(alloc: Global, subject: Selector, section: Section, entries: Entries) -> Rule {
+    let mut rule = Rule {
+        subject,
+        ingress: none(alloc),
+        ingress_deny: none(alloc),
+        egress: none(alloc),
+        egress_deny: none(alloc),
+    };
+    match section {
+        Section::Ingress => rule.ingress = entries,
+        Section::IngressDeny => rule.ingress_deny = entries,
+        Section::Egress => rule.egress = entries,
+        Section::EgressDeny => rule.egress_deny = entries,
     }
+    rule
 }
 
-/// The labels of the namespace `default`, which meet the requirement too.
-pub fn selector(alloc: Global, requirement: Option<Requirement>) -> Result<Selector, Fail> {
+fn none(alloc: Global) -> Entries {
+    Items::from_vec(Vec::new(alloc))
+}
+
+fn one<T: Drop>(alloc: Global, item: T) -> Result<Items<T>, Memory> {
+    let mut list = Vec::with_capacity(alloc, 1)?;
+    list.push(item)?;
+    Ok(Items::from_vec(list))
+}
+
+/// The endpoints of the policy's namespace, all for a cluster-wide policy.
+fn subject(alloc: Global, namespace: &str) -> Result<Selector, Fail> {
     let mut list = Vec::new(alloc);
-    if let Some(requirement) = requirement {
-        list.push(requirement)?;
+    if !namespace.is_empty() {
+        list.push(in_namespace(alloc, namespace)?)?;
     }
-    list.push(in_namespace(alloc, "default")?)?;
     Ok(Selector::from_requirements(alloc, list)?)
 }
 
-pub fn in_namespace(alloc: Global, namespace: &str) -> Result<Requirement, Memory> {
+/// The labels of the policy's namespace; of some namespace for a cluster-wide policy.
+fn in_namespace(alloc: Global, namespace: &str) -> Result<Requirement, Memory> {
+    let values = if namespace.is_empty() {
+        Items::from_vec(Vec::new(alloc))
+    } else {
+        one(alloc, Text::from_str(alloc, namespace)?)?
+    };
+    let op = if namespace.is_empty() {
+        Operator::Present
+    } else {
+        Operator::OneOf
+    };
     Ok(Requirement {
         any_source: false,
         source: Text::from_str(alloc, "k8s")?,
         key: Text::from_str(alloc, "io.kubernetes.pod.namespace")?,
-        op: Operator::OneOf,
-        values: one(alloc, Text::from_str(alloc, namespace)?)?,
+        op,
+        values,
     })
 }
 
 /// A requirement on a key of any source, with one value.
-pub fn on_key(alloc: Global, key: &str, op: Operator, value: &str) -> Result<Requirement, Memory> {
+fn on_key(alloc: Global, key: &str, op: Operator, value: &str) -> Result<Requirement, Memory> {
     Ok(Requirement {
         any_source: true,
         source: Text::from_str(alloc, "")?,
@@ -194,47 +187,62 @@ pub fn on_key(alloc: Global, key: &str, op: Operator, value: &str) -> Result<Req
     })
 }
 
-pub fn one<T: Drop>(alloc: Global, item: T) -> Result<Items<T>, Memory> {
-    let mut list = Vec::with_capacity(alloc, 1)?;
-    list.push(item)?;
-    Ok(Items::from_vec(list))
-}
-
-/// Entries of every peer on TCP ports, of one peer, and of one peer on a TCP port.
-pub fn on_ports(alloc: Global, range: PortRange) -> Result<Entry, Memory> {
+fn entry(alloc: Global, namespace: &str, draft: Draft) -> Result<Entry, Fail> {
     Ok(Entry {
-        peers: Peers::Every,
-        ports: tcp(alloc, range)?,
+        peers: peers(alloc, namespace, draft.who)?,
+        ports: ports(alloc, draft.ports)?,
     })
 }
 
-pub fn from_peer(alloc: Global, peer: Peer) -> Result<Entry, Memory> {
-    Ok(Entry {
-        peers: Peers::Listed(one(alloc, peer)?),
-        ports: Items::from_vec(Vec::new(alloc)),
-    })
-}
-
-pub fn tcp(alloc: Global, range: PortRange) -> Result<PortSpecs, Memory> {
-    one(
-        alloc,
-        PortSpec {
-            proto: Some(Proto::Tcp),
-            range,
+fn peers(alloc: Global, namespace: &str, who: Who) -> Result<Peers, Fail> {
+    let peer = match who {
+        Who::Everyone => return Ok(Peers::Every),
+        Who::Namespace => Peer::Labels(subject_of_peers(alloc, namespace, None)?),
+        Who::Label(key, op, value) => {
+            let more = on_key(alloc, key, op, value)?;
+            Peer::Labels(subject_of_peers(alloc, namespace, Some(more))?)
+        }
+        Who::Prefix(octets, len, out) => Peer::Cidr {
+            prefix: prefix(octets, len),
+            except: exceptions(alloc, out)?,
         },
-    )
+        Who::Entity(entity) => Peer::Entity(entity),
+    };
+    Ok(Peers::Listed(one(alloc, peer)?))
 }
 
-/// Port 80.
-pub const HTTP: PortRange = PortRange {
-    first: 80,
-    last: 80,
-};
-
-pub fn number(number: u32) -> Remote {
-    Remote::Identity(number)
+fn subject_of_peers(
+    alloc: Global,
+    namespace: &str,
+    more: Option<Requirement>,
+) -> Result<Selector, Fail> {
+    let mut list = Vec::new(alloc);
+    if let Some(requirement) = more {
+        list.push(requirement)?;
+    }
+    list.push(in_namespace(alloc, namespace)?)?;
+    Ok(Selector::from_requirements(alloc, list)?)
 }
 
-pub fn at(a: u8, b: u8, c: u8, d: u8) -> Remote {
-    Remote::Address(Addr::from_octets(a, b, c, d))
+fn exceptions(alloc: Global, out: Option<([u8; 4], u8)>) -> Result<Prefixes, Memory> {
+    match out {
+        Some((octets, len)) => one(alloc, prefix(octets, len)),
+        None => Ok(Items::from_vec(Vec::new(alloc))),
+    }
+}
+
+fn ports(alloc: Global, range: Option<(u16, u16)>) -> Result<PortSpecs, Memory> {
+    match range {
+        Some((first, last)) => one(
+            alloc,
+            PortSpec {
+                proto: Some(Proto::Tcp),
+                range: PortRange {
+                    first,
+                    last: last.max(first),
+                },
+            },
+        ),
+        None => Ok(Items::from_vec(Vec::new(alloc))),
+    }
 }
