@@ -25,6 +25,3 @@ mod selects;
 mod verdict;
 
 pub use plain::Plain;
-
-#[cfg(test)]
-mod tests;

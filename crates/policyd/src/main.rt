@@ -27,6 +27,14 @@ fn words_of(rt: &HostRuntime) -> io::Result<Vec<String>> {
     Ok(words)
 }
 
+// Words that can't be read are a faulty command line, unless memory ran out.
+fn status_without_words(error: &io::Error) -> Status {
+    match error.kind() {
+        io::ErrorKind::OutOfMemory => Status::Memory,
+        _ => Status::Usage,
+    }
+}
+
 fn main(rt: HostRuntime) -> ExitCode {
     let status = match words_of(&rt) {
         Ok(words) => {
@@ -34,7 +42,7 @@ fn main(rt: HostRuntime) -> ExitCode {
             let mut sink = IoSink::new(rt.stdout());
             play(&rt, rt.alloc(), words.as_slice(), &mut source, &mut sink)
         }
-        Err(_) => Status::Memory,
+        Err(error) => status_without_words(&error),
     };
     if let Some(complaint) = status.complaint() {
         let _ = eprintln!(rt; "{complaint}");
