@@ -1,0 +1,13 @@
+pub mod Halves
+pub mod Attach
+pub mod Splice
+pub mod Order
+pub mod Lookup
+pub mod Steps
+pub mod Best
+pub mod Numbers
+pub mod Edits
+pub mod Places
+pub mod Taking
+pub mod Maps
+pub mod Scan

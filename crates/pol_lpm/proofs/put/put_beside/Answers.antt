@@ -1,0 +1,52 @@
+use Rattle.std.proofs.Common.{Some, None, sym, ap, ◌∙◌, subst, arith}
+use Rattle.pol_addr.specs.Prefix.{bit_of}
+use Rattle.pol_lpm.specs.Trie.{FitsBelow, Numbers, number_of}
+use Rattle.pol_lpm.proofs.Places.{leaf_of, fork_over_node, fork_over_new, fork_fits, leaf_fits, numbers_twice, over_prefix, over_number}
+use Rattle.pol_lpm.proofs.put.put_beside.Goals as goal
+
+pub over-node-requires : goal.over-node-requires
+over-node-requires c =
+    let h = c.requires.spot in
+    let m = c.index.result.now in
+    let f = c.common-fork.ensures in
+    fork_over_node c.args.nodes.now c.requires.trie.tree c.args.prefix c.args.spot.0 c.args.spot.1 h c.args.below m (c.requires.link h.parent h.there) c.index.ensures c.common-fork.result c.len-len.ensures.valid f.this f.that f.longest (c.requires.differs m c.index.ensures) (c.requires.parts m c.index.ensures)
+
+pub attach-key-requires-clause-fits : goal.attach-key-requires-clause-fits
+attach-key-requires-clause-fits c =
+    let h = c.requires.spot in
+    let m = c.index.result.now in
+    let f = c.common-fork.ensures in
+    subst (FitsBelow c.args.nodes.now c.args.spot.0 c.args.spot.1) (sym c.over-node.ensures)
+    (fork_fits c.args.nodes.now c.requires.trie.tree c.args.prefix c.args.spot.0 c.args.spot.1 h c.args.below m (c.requires.link h.parent h.there) c.index.ensures c.common-fork.result c.len-len.ensures.valid f.this f.that f.longest (c.requires.differs m c.index.ensures) (c.requires.parts m c.index.ensures) None)
+
+pub bit-requires : goal.bit-requires
+bit-requires c =
+    let h = c.requires.spot in
+    let m = c.index.result.now in
+    let f = c.common-fork.ensures in
+    let shorter = fork_over_new c.args.nodes.now c.requires.trie.tree c.args.prefix c.args.spot.0 c.args.spot.1 h c.args.below m (c.requires.link h.parent h.there) c.index.ensures c.common-fork.result c.len-len.ensures.valid f.this f.that f.longest (c.requires.differs m c.index.ensures) (c.requires.parts m c.index.ensures) in
+    let valid = h.valid in
+    omega (arith, shorter, valid.len_in_range, c.len-len.ensures.value)
+
+pub attach-requires-clause-fits : goal.attach-requires-clause-fits
+attach-requires-clause-fits c =
+    let h = c.requires.spot in
+    let m = c.index.result.now in
+    let f = c.common-fork.ensures in
+    let there = c.attach-key.ensures.there ∙ ap Some c.over-node.ensures in
+    let side = c.bit.ensures ∙ ap (bit_of c.args.prefix) c.len-len.ensures.value in
+    subst (FitsBelow c.attach-key.new.nodes c.attach-key.result c.bit.result) (sym c.leaf.ensures)
+    (subst (λ b. FitsBelow c.attach-key.new.nodes c.attach-key.result b (leaf_of c.args.prefix (Some c.args.number))) (sym side)
+    (leaf_fits c.args.nodes.now c.requires.trie.tree c.args.prefix c.args.spot.0 c.args.spot.1 h c.args.below m (c.requires.link h.parent h.there) c.index.ensures c.common-fork.result c.len-len.ensures.valid f.this f.that f.longest (c.requires.differs m c.index.ensures) (c.requires.parts m c.index.ensures) c.attach-key.new.nodes c.attach-key.result None (Some c.args.number) there))
+
+pub returns-clause-numbers : goal.returns-clause-numbers
+returns-clause-numbers c =
+    let bit = bit_of c.index.result.now.prefix c.common-fork.result.len in
+    let prefix_is = ap (λ n. n.prefix) c.over-node.ensures ∙ over_prefix c.common-fork.result None bit (Some c.args.below) in
+    let number_is = ap (λ n. n.number) c.over-node.ensures ∙ over_number c.common-fork.result None bit (Some c.args.below) in
+    let first : Numbers c.args.nodes.now c.attach-key.new.nodes c.common-fork.result None =
+    subst (λ o. Numbers c.args.nodes.now c.attach-key.new.nodes c.common-fork.result o) number_is
+    (subst (λ p. Numbers c.args.nodes.now c.attach-key.new.nodes p c.over-node.result.number) prefix_is c.attach-key.ensures.numbers) in
+    let second : Numbers c.attach-key.new.nodes c.attach.new.nodes c.args.prefix (Some c.args.number) =
+    subst (λ n. Numbers c.attach-key.new.nodes c.attach.new.nodes n.prefix n.number) c.leaf.ensures c.attach.ensures.numbers in
+    numbers_twice c.args.nodes.now c.attach-key.new.nodes c.attach.new.nodes c.common-fork.result c.args.prefix (Some c.args.number) (ap (number_of c.args.nodes.now) (sym prefix_is) ∙ c.attach-key.ensures.was_absent) first second

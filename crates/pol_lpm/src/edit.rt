@@ -1,0 +1,73 @@
+//! Changes of the trie, one link at a time.
+ghost use Rattle.std.specs.Prelude.{◌≡◌, ◌+◌, ◌≤◌, Some, None};
+ghost use Rattle.slab.specs.Slab.{get, ContainsKey, HasRoomFor, Updates, slab_len};
+ghost use Rattle.pol_lpm.specs.declared.node.Node.{Node};
+ghost use Rattle.pol_lpm.specs.Trie.{IsTrie, HasRoot, FitsBelow, HasOnly, Numbers, SameNumbers, StillThere, number_of, with_child};
+
+use crate::node::Node;
+use slab::Slab;
+
+/// Puts this key on one side of a node.
+fn link(nodes: &mut Slab<Node>, at: usize, high: bool, key: Option<usize>)
+    requires { ContainsKey nodes.old at }
+    ensures updates { (n : Node) → get nodes.old at ≡ Some n → Updates nodes.old nodes.new at (Some (with_child n high key)) }
+    ensures len { slab_len nodes.new ≡ slab_len nodes.old }
+    ensures capacity { nodes.new.capacity ≡ nodes.old.capacity }
+    ensures vacant_key { nodes.new.vacant_key ≡ nodes.old.vacant_key }
+{
+    let node = &mut nodes[at];
+    if high {
+        node.high = key;
+    } else {
+        node.low = key;
+    }
+}
+
+/// Gives a node this number, or none.
+pub(crate) fn set_number(nodes: &mut Slab<Node>, at: usize, number: Option<u32>)
+    requires trie { IsTrie nodes.old }
+    requires there { ContainsKey nodes.old at }
+    ensures trie { IsTrie nodes.new }
+    ensures there { ContainsKey nodes.new at }
+    ensures numbers { (n : Node) → get nodes.old at ≡ Some n → Numbers nodes.old nodes.new n.prefix number }
+    ensures len { slab_len nodes.new ≡ slab_len nodes.old }
+    ensures capacity { nodes.new.capacity ≡ nodes.old.capacity }
+{
+    nodes[at].number = number;
+}
+
+/// Puts a node below another on one side, over what stood there. Gives its key.
+pub(crate) fn attach(nodes: &mut Slab<Node>, parent: usize, high: bool, node: Node) -> usize
+    requires trie { IsTrie nodes.old }
+    requires fits { FitsBelow nodes.old parent high node }
+    requires room { HasRoomFor nodes.old 1 }
+    ensures trie { IsTrie nodes.new }
+    ensures there { get nodes.new result ≡ Some node }
+    ensures numbers { Numbers nodes.old nodes.new node.prefix node.number }
+    ensures was_absent { number_of nodes.old node.prefix ≡ None }
+    ensures len { slab_len nodes.new ≡ slab_len nodes.old + 1 }
+    ensures capacity { nodes.new.capacity ≡ nodes.old.capacity }
+{
+    let key = nodes.insert_reserved(node);
+    link(nodes, parent, high, Some(key));
+    key
+}
+
+/// Takes out a node without a number that has at most one child, and puts the child in its place.
+pub(crate) fn splice(
+    nodes: &mut Slab<Node>,
+    parent: usize,
+    high: bool,
+    at: usize,
+    only: Option<usize>,
+)
+    requires trie { IsTrie nodes.old }
+    requires only { HasOnly nodes.old parent high at only }
+    requires number { (n : Node) → get nodes.old at ≡ Some n → n.number ≡ None }
+    ensures trie { IsTrie nodes.new }
+    ensures numbers { SameNumbers nodes.old nodes.new }
+    ensures others { StillThere nodes.old nodes.new at }
+{
+    link(nodes, parent, high, only);
+    nodes.remove(at);
+}

@@ -1,0 +1,86 @@
+//! The table: a trie seen as a finite map.
+ghost use Rattle.std.specs.Prelude.{◌≡◌, ◌↔◌, OnOk, OnErr, IfOk, IfSome, IsNone};
+ghost use Rattle.std.specs.FinMap as map;
+ghost use Rattle.pol_lpm.specs.Table.{IsLongestMatch, NoneMatches, look_up};
+
+use crate::node::Node;
+use crate::put::{make_root, put};
+use crate::take::take;
+use crate::walk::longest_over;
+use pol_addr::{Addr, Prefix};
+use slab::Slab;
+use std::alloc::{AllocError as Memory, Global};
+use std::marker::Model;
+
+/// A finite map from prefixes to numbers, in which an address is looked up by the longest prefix that contains it
+/// (longest-prefix match, RFC 4632, section 5.1).
+#[derive(Drop)]
+pub struct PrefixTable {
+    nodes: Slab<Node>,
+}
+
+impl Model for PrefixTable {
+    ghost use Rattle.pol_lpm.specs.Table.{PrefixMap, table_code};
+
+    ghost Value = { PrefixMap };
+
+    ghost coded = { table_code };
+
+    ghost use Rattle.pol_lpm.specs.Trie.{map_of, IsTrie};
+
+    ghost view = { λ t. map_of t.nodes };
+
+    ghost invariant = { λ t. IsTrie t.nodes };
+}
+
+impl PrefixTable {
+    /// A table without prefixes. It takes no memory yet.
+    pub fn new(alloc: Global) -> PrefixTable
+        ensures { result ≡ map.empty }
+    {
+        PrefixTable {
+            nodes: Slab::new(alloc),
+        }
+    }
+
+    /// Puts the number under the prefix, in place of the one that stood there. After want of memory the table is as
+    /// before.
+    pub fn insert(&mut self, prefix: Prefix, number: u32) -> Result<(), Memory>
+        ensures ok { OnOk result (self.new ≡ map.insert self.old prefix number) }
+        ensures err { OnErr result (self.new ≡ self.old) }
+    {
+        self.nodes.reserve(3)?;
+        make_root(&mut self.nodes);
+        put(&mut self.nodes, prefix, number);
+        Ok(())
+    }
+
+    /// Takes the prefix out and gives its number: None exactly where it is not there. It takes no memory, and the
+    /// room that it frees serves later prefixes.
+    pub fn remove(&mut self, prefix: Prefix) -> Option<u32>
+        ensures value { result ≡ map.get self.old prefix }
+        ensures rest { self.new ≡ map.remove self.old prefix }
+    {
+        take(&mut self.nodes, &prefix)
+    }
+
+    /// The number of the longest prefix that contains the address: None exactly where none does. It walks at most
+    /// 33 nodes and takes no memory.
+    pub fn find(&self, addr: Addr) -> Option<u32>
+        ensures scan { result ≡ look_up self.now addr }
+        ensures found { IfSome result (IsLongestMatch self.now addr) }
+        ensures none { IsNone result ↔ NoneMatches self.now addr }
+    {
+        longest_over(&self.nodes, &Prefix::new(addr, 32))
+    }
+
+    /// The same table once more. The memory is that of the one allocator.
+    pub fn copy(&self, alloc: Global) -> Result<PrefixTable, Memory>
+        ensures { IfOk result (λ copy. copy ≡ self.now) }
+    {
+        let _ = alloc;
+        Ok(PrefixTable {
+            nodes: self.nodes.clone()?,
+        })
+    }
+}
