@@ -1,0 +1,7 @@
+pub mod Ages
+pub mod Changes
+pub mod Indices
+pub mod Kept
+pub mod PoolLemmas
+pub mod PoolRunLemmas
+pub mod TwinRunLemmas

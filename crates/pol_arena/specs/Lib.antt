@@ -1,0 +1,7 @@
+pub mod Lends
+pub mod Pool
+pub mod PoolRuns
+pub mod Queue
+pub mod Room
+pub mod Twin
+pub mod TwinRuns

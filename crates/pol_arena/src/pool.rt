@@ -1,0 +1,157 @@
+//! Values by index, with a free list.
+ghost use Rattle.std.specs.Prelude.{◌≡◌, ◌+◌, ◌-◌, ◌^◌, ◌<◌, ◌≤◌, Some, None, IsSome, IsOk, OnOk, OnErr, max};
+ghost use Rattle.std.specs.Borrow.{sem};
+ghost use Rattle.std.specs.Option.Follows.{option_follows_value};
+ghost use Rattle.pol_arena.specs.Pool.{empty_pool, node_at, IsInUse, nodes_in_use, next_node, after_put, after_take, Updates, IsSound};
+
+use pol_data::Memory;
+use std::alloc::Global;
+use std::marker::Model;
+
+/// Values of one type, each under an index that the pool picks: a node. A node keeps its value until it is taken,
+/// and only then can a put give it out again. The free nodes are used last in, first out. All of this is profile.
+#[derive(Drop)]
+pub struct Pool<T> {
+    slots: Vec<Option<T>>,
+    // The free nodes, the one taken last at the end.
+    free: Vec<u32>,
+    spare: u32,
+}
+
+impl<T> Model for Pool<T> {
+    ghost use Rattle.std.specs.Prelude.{reverse, vec_capacity};
+    ghost use Rattle.pol_arena.specs.Pool.{Pool as Nodes, pool_code};
+
+    ghost Value = { Nodes T };
+
+    ghost coded = { pool_code T.code };
+
+    ghost use Rattle.pol_arena.specs.Room.{IsKept};
+
+    ghost view = { λ p. record {
+      slots = p.slots.items;
+      free = reverse p.free.items;
+      spare = p.spare;
+    } };
+
+    ghost invariant = { λ p. IsKept
+        (record { slots = p.slots.items; free = reverse p.free.items; spare = p.spare })
+        (vec_capacity p.slots)
+        (vec_capacity p.free) };
+}
+
+/// The value of a slot that has one.
+fn value_mut<T>(slot: &mut Option<T>) -> &mut T
+    requires { IsSome slot.old }
+    ensures* lends { sem 𝓛 (option_follows_value T.row slot.entry result) }
+    ensures value { slot.old ≡ Some result.now }
+{
+    match slot {
+        Some(value) => value,
+        None => unreachable!(),
+    }
+}
+
+impl<T> Pool<T> {
+    ghost use Rattle.pol_arena.specs.Lends.{lends_value};
+
+    /// A pool without nodes. It takes no memory yet.
+    pub fn new(alloc: Global) -> Pool<T>
+        ensures pool { result ≡ empty_pool }
+        ensures sound { IsSound result }
+    {
+        Pool {
+            slots: Vec::new(alloc),
+            free: Vec::new(alloc),
+            spare: 0,
+        }
+    }
+
+    /// Makes room, so that at least so many puts need no memory. The nodes in use and these are fewer than 2^32. The
+    /// one error is want of memory, and then the pool is as before. Where there is that room it takes no memory.
+    pub fn reserve(&mut self, nodes: u32) -> Result<(), Memory>
+        requires fits { nodes_in_use self.old + nodes < 2 ^ 32 }
+        ensures ok { OnOk result (self.new ≡ record self.old { spare = max self.old.spare nodes }) }
+        ensures err { OnErr result (self.new ≡ self.old) }
+        ensures succeeds { nodes ≤ self.old.spare → IsOk result }
+        ensures sound { IsSound self.new }
+    {
+        if nodes <= self.spare {
+            return Ok(());
+        }
+        let room = self.slots.len() - self.free.len() + nodes as usize;
+        self.slots.reserve(room - self.slots.len())?;
+        self.free.reserve(room - self.free.len())?;
+        self.spare = nodes;
+        Ok(())
+    }
+
+    /// Puts the value under the free node that was taken last, or where no taken node is free under the least index
+    /// that was never used, from 0. It takes no memory, and there must be room for one put.
+    pub fn put(&mut self, value: T) -> u32
+        requires spare { 1 ≤ self.old.spare }
+        ensures node { result ≡ next_node self.old }
+        ensures pool { self.new ≡ after_put self.old value }
+        ensures was_free { node_at self.old result ≡ None }
+        ensures updates { Updates self.old self.new result (Some value) }
+        ensures count { nodes_in_use self.new ≡ nodes_in_use self.old + 1 }
+        ensures sound { IsSound self.new }
+    {
+        self.spare -= 1;
+        match self.free.pop() {
+            None => {
+                let node = self.slots.len() as u32;
+                self.slots.push_reserved(Some(value));
+                node
+            }
+            Some(node) => {
+                match self.slots[node as usize].replace(value) {
+                    None => node,
+                    Some(_) => unreachable!(),
+                }
+            }
+        }
+    }
+
+    /// Takes the value of a node in use. The node is free then, and the next put gives it. It takes no memory.
+    pub fn take(&mut self, node: u32) -> T
+        requires in_use { IsInUse self.old node }
+        ensures value { node_at self.old node ≡ Some result }
+        ensures pool { self.new ≡ after_take self.old node }
+        ensures updates { Updates self.old self.new node None }
+        ensures count { nodes_in_use self.new + 1 ≡ nodes_in_use self.old }
+        ensures sound { IsSound self.new }
+    {
+        self.spare += 1;
+        self.free.push_reserved(node);
+        match self.slots[node as usize].take() {
+            Some(value) => value,
+            None => unreachable!(),
+        }
+    }
+
+    /// The value of a node in use.
+    pub fn get(&self, node: u32) -> &T
+        requires in_use { IsInUse self.now node }
+        ensures value { node_at self.now node ≡ Some result.now }
+        ensures sound { IsSound self.now }
+    {
+        match &self.slots[node as usize] {
+            Some(value) => value,
+            None => unreachable!(),
+        }
+    }
+
+    /// The value of a node in use, to be changed in place.
+    pub fn get_mut(&mut self, node: u32) -> &mut T
+        requires in_use { IsInUse self.old node }
+        ensures* writes_back { sem 𝓛 (lends_value T.row self.entry node result) }
+        ensures value { node_at self.old node ≡ Some result.now }
+        ensures sound { IsSound self.old }
+    {
+        value_mut(&mut self.slots[node as usize])
+    }
+}
+
+#[cfg(test)]
+mod tests;
