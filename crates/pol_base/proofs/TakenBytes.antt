@@ -1,5 +1,5 @@
 -- What several reads in a row did to the known bytes of a source.
-use Rattle.std.proofs.Common.{◌≡◌, ◌<◌, ℕ, List, [], ◌++◌, length, Option, Some, None, Result, Ok, Err, IfSome, OnErr, arith, refl}
+use Rattle.std.proofs.Common.{◌≡◌, ◌<◌, ℕ, List, [], ◌++◌, length, Option, Some, None, IfSome, arith, refl}
 use Rattle.std.proofs.lemmas.Grind.{common_steps}
 use Rattle.std.specs.Io.KnownBytes.{Consumes, IsAtEnd, Keeps}
 use Rattle.pol_base.specs.Bytes.{ConsumesSome}
@@ -39,8 +39,3 @@ consumes_over (Some p) (Some q) xs limit before over = grind (arith, common_step
 -- these bytes were taken
 pub took : (a b : Option (List ℕ)) (xs : List ℕ) → Consumes a b xs → ConsumesSome a b
 took a b xs before = record { taken = xs; consumed = before }
-
--- what holds anyway holds after an error
-pub after_error : {T E P : Type 0} (r : Result T E) → P → OnErr r P
-after_error (Ok x) p = tt
-after_error (Err e) p = p

@@ -5,6 +5,10 @@ use Rattle.std.specs.Prelude.{◌≢◌, ℕ, ◌+◌, ◌-◌, ◌^◌, ◌<◌
 abbrev pub Rose : ℕ → ℕ → Type 0
 Rose before after = before ≢ 2 ^ 64 - 1 → before < after
 
+-- It is known not to have risen: it stayed, and could have risen.
+abbrev pub DidNotRise : ℕ → ℕ → Type 0
+DidNotRise before after = Rose before after → ⊥
+
 -- one more; at the end of a u64 a count stands still
 abbrev pub next_count : ℕ → ℕ
 next_count n = min (n + 1) (2 ^ 64 - 1)

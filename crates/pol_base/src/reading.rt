@@ -1,5 +1,5 @@
 //! A source is read to its end.
-ghost use Rattle.std.specs.Prelude.{◌≡◌, ◌<◌, ◌≤◌, ◌+◌, ◌++◌, length, vec_len, IfOk, IfSome, OnOk, OnErr, IsErrOf};
+ghost use Rattle.std.specs.Prelude.{◌≡◌, ◌<◌, ◌≤◌, ◌+◌, ◌++◌, length, vec_len, IfOk, IfSome, OnOk, IsErrOf};
 ghost use Rattle.std.specs.Io.KnownBytes.{IsAtEnd};
 ghost use Rattle.pol_base.specs.Faults.{Rose};
 ghost use Rattle.pol_base.specs.Bytes.{ConsumesSome};
@@ -14,8 +14,8 @@ const PIECE: usize = 65_536;
 ///
 /// `Fault` comes only where the count of the source's faults rose. `TooLong` comes exactly where more than
 /// `limit` bytes were left, if neither a fault nor a want of memory came first: it comes only there, and `Ok`
-/// has no more than `limit` bytes. After each refusal a prefix of the bytes that were left was taken from the
-/// source. What it allocates grows with the bytes that it reads, not with `limit` (profile).
+/// has no more than `limit` bytes. What it takes from the source is a prefix of the bytes that were left, after
+/// each refusal too. What it allocates grows with the bytes that it reads, not with `limit` (profile).
 pub fn read_all<S: Source>(
     alloc: Global,
     source: &mut S,
@@ -30,7 +30,7 @@ pub fn read_all<S: Source>(
         Rose (S.faults source.old) (S.faults source.new) }
     ensures too_long { IsErrOf result ReadAllError.TooLong →
         IfSome (S.left source.old) (λ left. limit < length left) }
-    ensures prefix { OnErr result (ConsumesSome (S.left source.old) (S.left source.new)) }
+    ensures prefix { ConsumesSome (S.left source.old) (S.left source.new) }
 
     ensures never_falls { S.faults source.old ≤ S.faults source.new }
 {

@@ -1,19 +1,36 @@
 -- How a run ends.
-use Rattle.std.specs.Prelude.{ℕ, Bool, true, false}
+use Rattle.std.specs.Prelude.{ℕ, Bool, true, false, List, codes, Option, None, Some}
+use Rattle.std.specs.declared.io.ErrorKind.{ErrorKind}
+use Rattle.std.specs.declared.io.ErrorKind.TheVariants.{OutOfMemory}
 use Rattle.policyd.specs.declared.status.Status.{Status}
 use Rattle.policyd.specs.declared.status.Status.TheVariants.{Clean, Marked, Usage, Read, Write, Memory, TooLong}
 
--- the exit status
-abbrev pub code : Status → ℕ
-code Clean = 0
-code Marked = 1
-code Usage = 2
-code Read = 3
-code Write = 4
-code Memory = 5
-code TooLong = 6
+-- the program's exit status
+abbrev pub status_number : Status → ℕ
+status_number Clean = 0
+status_number Marked = 1
+status_number Usage = 2
+status_number Read = 3
+status_number Write = 4
+status_number Memory = 5
+status_number TooLong = 6
 
--- every answer was written
+-- what is said to standard error, where the answers were not all written
+abbrev pub complaint : Status → Option (List ℕ)
+complaint Clean = None
+complaint Marked = None
+complaint Usage = Some (codes "policyd: usage")
+complaint Read = Some (codes "policyd: read failed")
+complaint Write = Some (codes "policyd: write failed")
+complaint Memory = Some (codes "policyd: out of memory")
+complaint TooLong = Some (codes "policyd: input too long")
+
+-- words that can't be read are a faulty command line, unless memory ran out
+abbrev pub status_without_words : ErrorKind → Status
+status_without_words OutOfMemory = Memory
+status_without_words other = Usage
+
+-- the statuses at which every answer was written
 abbrev pub is_answered : Status → Bool
 is_answered Clean = true
 is_answered Marked = true
@@ -23,7 +40,7 @@ is_answered Write = false
 is_answered Memory = false
 is_answered TooLong = false
 
--- nothing was written
+-- the statuses at which nothing was written
 abbrev pub is_silent : Status → Bool
 is_silent Clean = false
 is_silent Marked = false
@@ -33,7 +50,7 @@ is_silent Write = false
 is_silent Memory = true
 is_silent TooLong = true
 
--- the script was read whole and is within the limits
+-- the statuses at which the script was read whole, and is within the limits
 abbrev pub is_read : Status → Bool
 is_read Clean = true
 is_read Marked = true

@@ -1,5 +1,5 @@
 -- What the program answers to a script.
-use Rattle.std.specs.Prelude.{ℕ, ◌||◌, nat_lt, Bool, true, false, List, length, None}
+use Rattle.std.specs.Prelude.{ℕ, ◌||◌, not, nat_lt, Bool, true, false, List, length, None}
 use Rattle.pol_model.specs.declared.options.Mode.TheVariants.{Default}
 use Rattle.pol_model.specs.declared.options.Options.{Options}
 use Rattle.pol_script.specs.declared.answer.Answer.{Answer}
@@ -17,6 +17,9 @@ lines_max = 1000000
 
 abbrev pub is_too_long : List ℕ → Bool
 is_too_long script = nat_lt input_max (length script) || nat_lt lines_max (length (lines_of script))
+
+abbrev pub fits_limits : List ℕ → Bool
+fits_limits script = not (is_too_long script)
 
 -- The options of the program: default mode, the local host may always come in, and no map is limited.
 -- No form of the script that is read keeps an address yet.

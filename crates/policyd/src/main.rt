@@ -5,6 +5,10 @@
 //! answers one. What `play` promises is stated in its contract, over the definitions of `pol_run`.
 #![tactic(auto)]
 
+ghost use Rattle.std.specs.Prelude.{◌≡◌};
+ghost use Rattle.std.specs.IoError.{error_kind};
+ghost use Rattle.policyd.specs.Ends.{status_without_words};
+
 mod line;
 mod play;
 mod serial;
@@ -28,7 +32,9 @@ fn words_of(rt: &HostRuntime) -> io::Result<Vec<String>> {
 }
 
 // Words that can't be read are a faulty command line, unless memory ran out.
-fn status_without_words(error: &io::Error) -> Status {
+fn status_without_words(error: &io::Error) -> Status
+    ensures { result ≡ status_without_words (error_kind error.now) }
+{
     match error.kind() {
         io::ErrorKind::OutOfMemory => Status::Memory,
         _ => Status::Usage,

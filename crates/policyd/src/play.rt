@@ -1,13 +1,13 @@
 //! All that the program does, over any source and sink.
-ghost use Rattle.std.specs.Prelude.{◌≡◌, ◌<◌, ◌↔◌, ◌⊎◌, length, IfOk, IfErr, IfSome, IsErrOf, IsSomeAnd, OnOk, IsTrue, not, if◌then◌else◌};
-ghost use Rattle.std.specs.Io.KnownBytes.{Appends, IsAtEnd, Keeps};
+ghost use Rattle.std.specs.Prelude.{◌≡◌, ◌<◌, ◌↔◌, ◌⊎◌, length, IfOk, IfErr, IfSome, IsErrOf, IsSomeAnd, OnOk, IsTrue, if◌then◌else◌};
+ghost use Rattle.std.specs.Io.KnownBytes.{IsAtEnd, Keeps};
 ghost use Rattle.std.specs.List.{list_any};
-ghost use Rattle.pol_base.specs.Faults.{Rose};
-ghost use Rattle.pol_base.specs.Bytes.{AppendsPart};
+ghost use Rattle.pol_base.specs.Faults.{Rose, DidNotRise};
+ghost use Rattle.pol_base.specs.Bytes.{ConsumesSome};
 ghost use Rattle.pol_run.specs.Run.{is_marked};
-ghost use Rattle.policyd.specs.Script.{is_too_long, script_answers, script_text, script_status};
+ghost use Rattle.policyd.specs.Script.{is_too_long, fits_limits, script_answers, script_text, script_status};
 ghost use Rattle.policyd.specs.Headline.{WritesRun, WritesPartOfRun};
-ghost use Rattle.policyd.specs.Ends.{code, is_answered, is_read, is_silent};
+ghost use Rattle.policyd.specs.Ends.{is_answered, is_read, is_silent, status_number};
 
 use crate::serial::play_lines;
 use crate::status::Status;
@@ -34,8 +34,9 @@ const OPTIONS: Options = Options {
 
 /// Reads a script from the source, answers its lines in order, and then writes all answers to the sink.
 ///
-/// There are no words yet: any is status `Usage`, and nothing is read then. The order of the other causes is
-/// `Read`, `TooLong`, `Memory`, `Write`; nothing is written unless every line was answered ('profile').
+/// There are no words yet: any is status `Usage`, and nothing is read then. The whole source is read before a
+/// line is answered (`Read`, `TooLong`), and nothing is written before each line is (`Write`). Want of memory
+/// may come at any point before the first write ('profile').
 pub fn play<R: Threads + Wait + Sync, S: Source, K: Sink>(
     _rt: &R,
     alloc: Global,
@@ -44,21 +45,23 @@ pub fn play<R: Threads + Wait + Sync, S: Source, K: Sink>(
     sink: &mut K,
 ) -> Status
     ensures usage { result ≡ Status.Usage ↔ (0 < length words.now) }
+    ensures unread { result ≡ Status.Usage → source.new ≡ source.old }
     ensures read { result ≡ Status.Read → Rose (S.faults source.old) (S.faults source.new) }
     ensures write { result ≡ Status.Write → Rose (K.faults sink.old) (K.faults sink.new) }
     ensures too_long { result ≡ Status.TooLong
         → IfSome (S.left source.old) (λ script. IsTrue (is_too_long script)) }
     ensures within { IsTrue (is_read result)
-        → IfSome (S.left source.old) (λ script. IsTrue (not (is_too_long script))) }
+        → IfSome (S.left source.old) (λ script. IsTrue (fits_limits script)) }
+    ensures taken { ConsumesSome (S.left source.old) (S.left source.new) }
     ensures at_end { IsTrue (is_read result) → IsAtEnd (S.left source.new) }
     ensures silent { IsTrue (is_silent result) → Keeps (K.written sink.old) (K.written sink.new) }
     ensures run { IsTrue (is_answered result) → IfSome (S.left source.old)
-        (λ script. WritesRun (K.written sink.old) (K.written sink.new) script (code result)) }
+        (λ script. WritesRun (K.written sink.old) (K.written sink.new) script (status_number result)) }
     ensures part { result ≡ Status.Write → IfSome (S.left source.old)
         (λ script. WritesPartOfRun (K.written sink.old) (K.written sink.new) script) }
-    ensures complete { length words.now ≡ 0 → (Rose (S.faults source.old) (S.faults source.new) → ⊥)
-        → (Rose (K.faults sink.old) (K.faults sink.new) → ⊥)
-        → IsSomeAnd (S.left source.old) (λ script. IsTrue (not (is_too_long script)))
+    ensures complete { length words.now ≡ 0 → DidNotRise (S.faults source.old) (S.faults source.new)
+        → DidNotRise (K.faults sink.old) (K.faults sink.new)
+        → IsSomeAnd (S.left source.old) (λ script. IsTrue (fits_limits script))
         → IsTrue (is_answered result) ⊎ (result ≡ Status.Memory) }
 {
     match script_of(alloc, words, source) {
@@ -70,12 +73,14 @@ pub fn play<R: Threads + Wait + Sync, S: Source, K: Sink>(
 // The whole script, within the limits.
 fn script_of<S: Source>(alloc: Global, words: &[String], source: &mut S) -> Result<Vec<u8>, Status>
     ensures usage { IsErrOf result Status.Usage ↔ (0 < length words.now) }
+    ensures unread { IsErrOf result Status.Usage → source.new ≡ source.old }
     ensures read { IsErrOf result Status.Read → Rose (S.faults source.old) (S.faults source.new) }
     ensures too_long { IsErrOf result Status.TooLong
         → IfSome (S.left source.old) (λ script. IsTrue (is_too_long script)) }
     ensures script { IfOk result
         (λ bytes. IfSome (S.left source.old) (λ script. bytes.items ≡ script)) }
-    ensures within { IfOk result (λ bytes. IsTrue (not (is_too_long bytes.items))) }
+    ensures within { IfOk result (λ bytes. IsTrue (fits_limits bytes.items)) }
+    ensures taken { ConsumesSome (S.left source.old) (S.left source.new) }
     ensures at_end { OnOk result (IsAtEnd (S.left source.new)) }
     ensures silent { IfErr result (λ status. IsTrue (is_silent status)) }
 {
@@ -97,12 +102,12 @@ fn script_of<S: Source>(alloc: Global, words: &[String], source: &mut S) -> Resu
 // Answers a script within the limits.
 #[tactic(auto, using(crate::proofs::ScriptRun::writes_run, crate::proofs::ScriptRun::writes_part), unfolding(crate::specs::Script::script_status))]
 fn answer_script<K: Sink>(alloc: Global, script: &[u8], sink: &mut K) -> Status
-    requires { IsTrue (not (is_too_long script.now)) }
+    requires { IsTrue (fits_limits script.now) }
     ensures end { IsTrue (is_read result) ⊎ (result ≡ Status.Memory) }
     ensures write { result ≡ Status.Write → Rose (K.faults sink.old) (K.faults sink.new) }
     ensures silent { result ≡ Status.Memory → Keeps (K.written sink.old) (K.written sink.new) }
     ensures run { IsTrue (is_answered result)
-        → WritesRun (K.written sink.old) (K.written sink.new) script.now (code result) }
+        → WritesRun (K.written sink.old) (K.written sink.new) script.now (status_number result) }
     ensures part { result ≡ Status.Write
         → WritesPartOfRun (K.written sink.old) (K.written sink.new) script.now }
 {
@@ -125,7 +130,7 @@ struct Printed {
 // Reading, playing and printing.
 #[tactic(auto, unfolding(crate::specs::Script::script_text))]
 fn print_answers(alloc: Global, script: &[u8]) -> Result<Printed, Memory>
-    requires { IsTrue (not (is_too_long script.now)) }
+    requires { IsTrue (fits_limits script.now) }
     ensures text { IfOk result (λ printed. printed.text.items ≡ script_text script.now) }
     ensures marked { IfOk result (λ printed. printed.marked ≡ list_any is_marked (script_answers script.now)) }
 {
@@ -148,7 +153,7 @@ fn is_marked_answer(answer: &Answer) -> bool
 
 fn end_of(marked: bool) -> Status
     ensures answered { IsTrue (is_answered result) }
-    ensures status { code result ≡ (if marked then 1 else 0) }
+    ensures status { status_number result ≡ (if marked then 1 else 0) }
 {
     if marked {
         Status::Marked

@@ -1,4 +1,7 @@
 //! How a run ended.
+ghost use Rattle.std.specs.Prelude.{◌≡◌, option_map};
+ghost use Rattle.std.specs.Process.{exit_status};
+ghost use Rattle.policyd.specs.Ends.{complaint, status_number};
 
 use std::process::ExitCode;
 
@@ -23,12 +26,16 @@ pub enum Status {
 
 impl Status {
     /// The exit status.
-    pub fn code(self) -> ExitCode {
+    pub fn code(self) -> ExitCode
+        ensures { exit_status result ≡ status_number self }
+    {
         ExitCode::from(self as u8)
     }
 
-    /// What is said to standard error, for the statuses at which the answers were not all written.
-    pub fn complaint(self) -> Option<&'static str> {
+    /// What is said to standard error, at exactly the statuses at which not every answer was written.
+    pub fn complaint(self) -> Option<&'static str>
+        ensures { option_map (λ text. text.now) result ≡ complaint self }
+    {
         match self {
             Status::Clean | Status::Marked => None,
             Status::Usage => Some("policyd: usage"),

@@ -1,6 +1,6 @@
 use Rattle.std.proofs.Common.{◌≡◌, length, take, rules, arith}
 use Rattle.std.proofs.lemmas.Grind.{common_steps}
-use Rattle.pol_base.proofs.TakenBytes.{consumes_none, consumes_more, consumes_kept, consumes_all, consumes_over, took, after_error}
+use Rattle.pol_base.proofs.TakenBytes.{consumes_none, consumes_more, consumes_kept, consumes_all, consumes_over, took}
 use Rattle.pol_base.proofs.reading.read_all.Goals as goal
 
 pub loop-bytes-init : goal.loop-bytes-init
@@ -13,7 +13,7 @@ loop-bytes-init g c = record {
 
 pub returns-in_err-count-clause-prefix : goal.returns-in_err-count-clause-prefix
 returns-in_err-count-clause-prefix g c =
-    after_error _ (took _ _ _ (consumes_kept _ _ _ _ c.loop-bytes.invariant.read c.in_err-count.ensures.kept))
+    took _ _ _ (consumes_kept _ _ _ _ c.loop-bytes.invariant.read c.in_err-count.ensures.kept)
 
 pub returns-then-ended-clause-whole : goal.returns-then-ended-clause-whole
 returns-then-ended-clause-whole g c =
@@ -35,4 +35,8 @@ returns-in_err-append-clause-too_long g c is =
 
 pub returns-in_err-append-clause-prefix : goal.returns-in_err-append-clause-prefix
 returns-in_err-append-clause-prefix g c =
-    after_error _ (took _ _ _ (consumes_more _ _ _ _ _ c.loop-bytes.invariant.read c.in_ok-count.ensures.moved))
+    took _ _ _ (consumes_more _ _ _ _ _ c.loop-bytes.invariant.read c.in_ok-count.ensures.moved)
+
+pub returns-then-ended-clause-prefix : goal.returns-then-ended-clause-prefix
+returns-then-ended-clause-prefix g c =
+    took _ _ _ (consumes_more _ _ _ _ _ c.loop-bytes.invariant.read c.in_ok-count.ensures.moved)
