@@ -1,5 +1,5 @@
 -- The text of each answer is one line.
-use Rattle.std.proofs.Common.{◌≡◌, ℕ, zero, suc, ◌+◌, ◌/◌, ◌%◌, ◌≤◌, Bool, true, false, cond, not, ◌&&◌, ◌==◌, nat_le, nat_lt, List, [], ◌∷◌, ◌++◌, map, Option, Some, None, IsTrue, refl, sym, ap, ◌∙◌, arith}
+use Rattle.std.proofs.Common.{◌≡◌, ℕ, zero, suc, ◌+◌, ◌/◌, ◌%◌, ◌≤◌, Bool, true, false, cond, not, ◌&&◌, ◌==◌, nat_le, nat_lt, List, [], ◌∷◌, ◌++◌, map, Option, Some, None, IsTrue, refl, ap, ◌∙◌, arith}
 use Rattle.std.specs.Cmp.Derive.{both_true}
 use Rattle.std.specs.Fmt.{digits, digits_onto, digit_glyph, decimal}
 use Rattle.std.specs.List.{flat_map, list_all}
@@ -17,8 +17,8 @@ use Rattle.pol_rule.specs.declared.policy.Place.{Place}
 use Rattle.pol_rule.specs.declared.policy.Section.{Section}
 use Rattle.pol_rule.specs.declared.policy.Section.TheVariants as section
 use Rattle.pol_script.specs.Faults.{fault_name, doc_fault_name, rule_fault_name, line_fault_name}
-use Rattle.pol_script.specs.Lines.{newline, lines_of, ended, is_newline, is_one_line}
-use Rattle.pol_script.specs.Text.{word_text, section_text, printable_byte, printable, at_text, entry_text, place_text, more_places, places_text, full_slot_text, full_text, fault_place_text, doc_detail, line_detail, identity_text, trace_text, answer_words, text_of, texts_of, has_plain_key, has_plain_name, has_plain_names}
+use Rattle.pol_script.specs.Lines.{lines_of, ended, is_newline, is_one_line}
+use Rattle.pol_script.specs.Text.{word_text, section_text, printable, at_text, entry_text, place_text, more_places, places_text, full_slot_text, full_text, fault_place_text, doc_detail, line_detail, identity_text, trace_text, answer_words, texts_of, has_plain_key, has_plain_name, has_plain_names}
 use Rattle.pol_script.specs.declared.answer.Answer.{Answer}
 use Rattle.pol_script.specs.declared.answer.Answer.TheVariants as answer
 use Rattle.pol_script.specs.declared.line_fault.LineFault.{LineFault}

@@ -1,4 +1,3 @@
-pub mod Keyed
 pub mod Answered
 pub mod Cuts
 pub mod ScriptLaws

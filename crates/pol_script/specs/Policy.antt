@@ -1,16 +1,19 @@
--- What a policy says once it is read, as far as policies are read so far: each selector of `matchLabels`
--- is a list of requirements, and every selector is bound to the policy's namespace.
-use Rattle.std.specs.Prelude.{ℕ, Bool, true, false, ◌&&◌, nat_lt, List, [], ◌∷◌, ◌++◌, length, codes, map, Option, None, Some}
-use Rattle.std.specs.List.{list_all}
-use Rattle.pol_json.specs.Texts.{namespace_key}
+-- What a policy says, from the policy as it was written. What a part says is given here, or it is none so
+-- far: a policy with such a part is of a form that isn't read yet. So no part is passed over, whatever the
+-- reader of documents gives.
+use Rattle.std.specs.Prelude.{ℕ, Bool, true, false, ◌&&◌, ◌==◌, not, List, [], ◌∷◌, ◌++◌, length, codes, Option, None, Some, is_none, option_map, option_and_then}
+use Rattle.pol_json.specs.Document.{where_true, each}
+use Rattle.pol_json.specs.Texts.{is_key, is_of_namespace, namespace_key}
+use Rattle.pol_labels.specs.WellFormed.{all_well_formed}
 use Rattle.pol_labels.specs.declared.requirement.Requirement.{Requirement}
 use Rattle.pol_labels.specs.declared.requirement.Operator.TheVariants.{OneOf}
 use Rattle.pol_rule.specs.declared.policy.Entry.{Entry}
 use Rattle.pol_rule.specs.declared.policy.Peer.{Peer}
 use Rattle.pol_rule.specs.declared.policy.Peer.TheVariants.{Labels}
 use Rattle.pol_rule.specs.declared.policy.Peers.{Peers}
-use Rattle.pol_rule.specs.declared.policy.Peers.TheVariants.{Listed}
+use Rattle.pol_rule.specs.declared.policy.Peers.TheVariants.{Every, Listed}
 use Rattle.pol_rule.specs.declared.policy.Policy.{Policy}
+use Rattle.pol_rule.specs.declared.policy.PolicyKey.{PolicyKey}
 use Rattle.pol_rule.specs.declared.policy.Rule.{Rule}
 use Rattle.pol_rule.specs.declared.raw.RawEntry.{RawEntry}
 use Rattle.pol_rule.specs.declared.raw.RawPair.{RawPair}
@@ -18,66 +21,102 @@ use Rattle.pol_rule.specs.declared.raw.RawPolicy.{RawPolicy}
 use Rattle.pol_rule.specs.declared.raw.RawRule.{RawRule}
 use Rattle.pol_rule.specs.declared.raw.RawSelector.{RawSelector}
 
--- a key without a source means every source, and `key: value` is `In` with the one value
+-- ---- selectors
+
+-- a key without a source, that says nothing of namespaces
+abbrev pub is_plain_key : List ℕ → Bool
+is_plain_key key = is_key key && not (is_of_namespace key)
+
+-- A key without a source is one of every source (Cilium, "Endpoints based"), and `key: value` is `In` with
+-- the one value (Kubernetes, "Labels and Selectors").
 abbrev pub pair_requirement : RawPair → Requirement
 pair_requirement pair = record { any_source = true; source = []; key = pair.key; op = OneOf; values = pair.value ∷ [] }
+
+-- A key with a source is one of that source, and a key of namespaces takes the place of the policy's own
+-- namespace: neither is given so far. What a pair says doesn't depend on the policy's namespace yet.
+abbrev pub requirement_of : List ℕ → RawPair → Option Requirement
+requirement_of namespace pair = where_true (is_plain_key pair.key) (Some (pair_requirement pair))
 
 -- `k8s:io.kubernetes.pod.namespace` has the policy's namespace (Cilium, "CiliumNetworkPolicy", namespaces)
 abbrev pub namespace_requirement : List ℕ → Requirement
 namespace_requirement namespace =
     record { any_source = false; source = codes "k8s"; key = namespace_key; op = OneOf; values = namespace ∷ [] }
 
-abbrev pub bound_selector : List ℕ → RawSelector → List Requirement
-bound_selector namespace selector = map pair_requirement selector.labels ++ namespace_requirement namespace ∷ []
+-- requirements that aren't well formed make no selector (Kubernetes, "LabelSelectorRequirement")
+abbrev pub selector_from : List Requirement → Option (List Requirement)
+selector_from requirements = where_true (all_well_formed requirements) (Some requirements)
 
-abbrev pub subject_selector : List ℕ → Option RawSelector → List Requirement
-subject_selector namespace None = []
-subject_selector namespace (Some selector) = bound_selector namespace selector
+abbrev pub bound_selector : List ℕ → List Requirement → Option (List Requirement)
+bound_selector namespace requirements = selector_from (requirements ++ namespace_requirement namespace ∷ [])
 
-abbrev pub peer_of : List ℕ → RawSelector → Peer
-peer_of namespace selector = Labels (bound_selector namespace selector)
+-- A selector of a namespaced policy is bound to the policy's namespace, as none of its keys says anything of
+-- namespaces (Cilium, "CiliumNetworkPolicy"; which keys count: 'profile'). What `matchExpressions` asks
+-- isn't given so far.
+abbrev pub selector_of : List ℕ → RawSelector → Option (List Requirement)
+selector_of namespace selector =
+    where_true (length selector.expressions == 0)
+    (option_and_then (bound_selector namespace) (each (requirement_of namespace) selector.labels))
 
-abbrev pub peers_of : List ℕ → Option (List RawSelector) → Peers
-peers_of namespace None = Listed []
-peers_of namespace (Some selectors) = Listed (map (peer_of namespace) selectors)
+-- A rule has to have a subject (Cilium, Network Policy, "Rule Basics"): one without says nothing of any
+-- endpoint, and is refused.
+abbrev pub subject_of : List ℕ → Option RawSelector → Option (List Requirement)
+subject_of namespace None = None
+subject_of namespace (Some selector) = selector_of namespace selector
 
-abbrev pub entry_of : List ℕ → RawEntry → Entry
-entry_of namespace entry = record { peers = peers_of namespace entry.endpoints; ports = [] }
+-- ---- entries
 
-abbrev pub rule_of : List ℕ → RawRule → Rule
-rule_of namespace rule = record {
-  subject = subject_selector namespace rule.subject;
-  ingress = map (entry_of namespace) rule.ingress;
-  ingress_deny = [];
-  egress = [];
-  egress_deny = [];
+abbrev pub peer_of : List ℕ → RawSelector → Option Peer
+peer_of namespace selector = option_map Labels (selector_of namespace selector)
+
+-- An entry without a peer member is for every remote, allocated or not, if it has ports (Cilium, Network
+-- Policy, "Layer 3 Examples"). A list of peers that is there and empty selects nobody ('profile').
+abbrev pub peers_of : List ℕ → Option (List RawSelector) → Option Peers
+peers_of namespace None = Some Every
+peers_of namespace (Some selectors) = option_map Listed (each (peer_of namespace) selectors)
+
+-- no peers but by selectors, and no ports: what the others say isn't given so far
+abbrev pub is_by_selectors : RawEntry → Bool
+is_by_selectors entry =
+    is_none entry.cidrs && is_none entry.cidr_sets && is_none entry.entities && length entry.ports == 0
+
+-- An entry without `toPorts`, or with an empty one, is for every protocol and port (Cilium, Network Policy,
+-- "Layer 4 Examples"); with neither peers nor ports it covers nothing (`pol_rule`, `has_effect`).
+abbrev pub entry_from : Peers → Entry
+entry_from peers = record { peers = peers; ports = [] }
+
+abbrev pub entry_of : List ℕ → RawEntry → Option Entry
+entry_of namespace entry = where_true (is_by_selectors entry) (option_map entry_from (peers_of namespace entry.endpoints))
+
+-- ---- rules
+
+abbrev pub rule_from : List Requirement → List Entry → List Entry → List Entry → List Entry → Rule
+rule_from subject ingress ingress_deny egress egress_deny = record {
+  subject = subject;
+  ingress = ingress;
+  ingress_deny = ingress_deny;
+  egress = egress;
+  egress_deny = egress_deny;
 }
 
--- the policy that was written so
-abbrev pub policy_of : RawPolicy → Policy
-policy_of raw = record { key = raw.key; rules = map (rule_of raw.key.namespace) raw.rules }
+-- the subject and the four sections, each as it says (Cilium, Network Policy, "Rule Basics" and "Deny Policies")
+abbrev pub rule_of : List ℕ → RawRule → Option Rule
+rule_of namespace rule =
+    option_and_then (λ subject.
+    option_and_then (λ ingress.
+    option_and_then (λ ingress_deny.
+    option_and_then (λ egress.
+    option_map (rule_from subject ingress ingress_deny egress)
+    (each (entry_of namespace) rule.egress_deny))
+    (each (entry_of namespace) rule.egress))
+    (each (entry_of namespace) rule.ingress_deny))
+    (each (entry_of namespace) rule.ingress))
+    (subject_of namespace rule.subject)
 
--- ---- keys: a policy that was read has no empty one
+abbrev pub policy_from : PolicyKey → List Rule → Policy
+policy_from key rules = record { key = key; rules = rules }
 
-abbrev pub is_keyed_pair : RawPair → Bool
-is_keyed_pair pair = nat_lt 0 (length pair.key)
-
-abbrev pub is_keyed_selector : RawSelector → Bool
-is_keyed_selector selector = list_all is_keyed_pair selector.labels
-
-abbrev pub is_keyed_subject : Option RawSelector → Bool
-is_keyed_subject None = true
-is_keyed_subject (Some selector) = is_keyed_selector selector
-
-abbrev pub is_keyed_peers : Option (List RawSelector) → Bool
-is_keyed_peers None = true
-is_keyed_peers (Some selectors) = list_all is_keyed_selector selectors
-
-abbrev pub is_keyed_entry : RawEntry → Bool
-is_keyed_entry entry = is_keyed_peers entry.endpoints
-
-abbrev pub is_keyed_rule : RawRule → Bool
-is_keyed_rule rule = is_keyed_subject rule.subject && list_all is_keyed_entry rule.ingress
-
-abbrev pub is_keyed_policy : RawPolicy → Bool
-is_keyed_policy raw = list_all is_keyed_rule raw.rules
+-- What the policy says, none where a part of it isn't given so far. The selectors of a cluster-wide policy
+-- aren't bound to a namespace (Cilium, "CiliumClusterwideNetworkPolicy"), which isn't given so far.
+abbrev pub policy_of : RawPolicy → Option Policy
+policy_of raw =
+    where_true (not raw.key.cluster_wide) (option_map (policy_from raw.key) (each (rule_of raw.key.namespace) raw.rules))

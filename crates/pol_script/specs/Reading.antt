@@ -1,6 +1,6 @@
 -- What a line of the script reads as: a command, or the first fault of the line ('profile'). So far these
 -- forms are read: endpoints, policies of one form, synchronisations, and verdicts by identity number.
-use Rattle.std.specs.Prelude.{ℕ, ◌==◌, ◌&&◌, ◌||◌, not, nat_lt, nat_le, Bool, true, false, if◌then◌else◌, List, [], ◌∷◌, length, codes, Option, None, Some, is_some, option_map, option_and_then, Result, Ok, Err}
+use Rattle.std.specs.Prelude.{ℕ, ◌&&◌, nat_le, Bool, if◌then◌else◌, List, [], ◌∷◌, codes, Option, None, Some, is_some, option_map, option_and_then, Result, Err}
 use Rattle.std.specs.List.{list_any}
 use Rattle.std.specs.Str.{bytes_eq, is_utf8, str_eq_ignore_ascii_case}
 use Rattle.serde_json.specs.Data.{Data}
@@ -14,13 +14,13 @@ use Rattle.pol_labels.specs.declared.label.Label.{Label}
 use Rattle.pol_labels.specs.Order.{label_set_of}
 use Rattle.pol_labels.specs.Reading.{is_equals_sign, read_label}
 use Rattle.pol_model.specs.declared.request.Query.{Query}
-use Rattle.pol_model.specs.declared.request.Remote.{Remote}
 use Rattle.pol_model.specs.declared.request.Remote.TheVariants.{Identity}
 use Rattle.pol_model.specs.declared.request.Request.{Request}
 use Rattle.pol_model.specs.declared.request.Request.TheVariants.{AddEndpoint, Apply}
 use Rattle.pol_ports.specs.declared.Direction.TheVariants.{Ingress}
 use Rattle.pol_ports.specs.declared.Proto.{Proto}
 use Rattle.pol_ports.specs.declared.Proto.TheVariants.{Tcp, Udp, Sctp}
+use Rattle.pol_rule.specs.declared.policy.Policy.{Policy}
 use Rattle.pol_script.specs.declared.command.Command.{Command}
 use Rattle.pol_script.specs.declared.command.Command.TheVariants.{Commit, Look, Sync}
 use Rattle.pol_script.specs.declared.line_fault.LineFault.{LineFault}
@@ -81,10 +81,13 @@ read_endpoint d =
 abbrev pub apply_members : List (List ℕ)
 apply_members = codes "op" ∷ codes "policy" ∷ []
 
+abbrev pub apply_of : Policy → Command
+apply_of policy = commit (Apply policy)
+
 abbrev pub read_apply : Data → Option Command
 read_apply d =
     where_true (has_exactly apply_members d)
-    (option_map (λ raw. commit (Apply (policy_of raw))) (option_and_then read_built (present (codes "policy") d)))
+    (option_map apply_of (option_and_then policy_of (option_and_then read_built (present (codes "policy") d))))
 
 -- ---- synchronisations
 

@@ -7,7 +7,6 @@ use Rattle.pol_json.specs.declared.fault.DocFault.TheVariants as doc
 use Rattle.pol_mapkey.specs.declared.Word.{Word}
 use Rattle.pol_mapkey.specs.declared.Word.TheVariants.{Allowed, DeniedByRule, DeniedByDefault}
 use Rattle.pol_model.specs.declared.answer.FullSlot.{FullSlot}
-use Rattle.pol_model.specs.declared.answer.Refused.{Refused}
 use Rattle.pol_model.specs.declared.answer.Trace.{Trace}
 use Rattle.pol_rule.specs.declared.fault.RuleFault.{RuleFault}
 use Rattle.pol_rule.specs.declared.policy.Place.{Place}

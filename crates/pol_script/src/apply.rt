@@ -1,9 +1,7 @@
 //! Lines that apply a policy.
-ghost use Rattle.std.specs.Prelude.{◌≡◌, IsTrue, IfOk};
 ghost use Rattle.serde_json.specs.View.{view};
 ghost use Rattle.pol_json.specs.Document.{read_built};
 ghost use Rattle.pol_script.specs.Gives.{Reads};
-ghost use Rattle.pol_script.specs.Policy.{is_keyed_policy};
 ghost use Rattle.pol_script.specs.Reading.{read_apply};
 
 use crate::policy::policy_of;
@@ -17,8 +15,7 @@ use std::alloc::Global;
 
 /// The policy of a document, as it was written.
 fn read_raw(alloc: Global, document: &Value) -> Result<RawPolicy, LineError>
-    ensures reads { Reads (λ policy. policy) result (read_built (view document.now)) }
-    ensures keyed { IfOk result (λ policy. IsTrue (is_keyed_policy policy)) }
+    ensures { Reads (λ policy. policy) result (read_built (view document.now)) }
 {
     match read_policy(alloc, document) {
         Ok(policy) => Ok(policy),

@@ -27,6 +27,8 @@ pub use lines::{count_lines, read_script};
 pub use text::{answer_text, answers_text};
 
 #[cfg(test)]
+mod policy_tests;
+#[cfg(test)]
 mod tests;
 #[cfg(test)]
 mod text_tests;

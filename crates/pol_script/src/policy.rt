@@ -1,24 +1,49 @@
-//! What a policy says, from the policy as it was written.
-ghost use Rattle.std.specs.Prelude.{◌≡◌, [], ◌∷◌, ◌++◌, IsTrue, IfOk, map};
-ghost use Rattle.std.specs.List.{list_all};
-ghost use Rattle.pol_labels.specs.WellFormed.{all_well_formed};
-ghost use Rattle.pol_script.specs.Policy.{pair_requirement, namespace_requirement, bound_selector, subject_selector, peers_of, entry_of, rule_of, policy_of};
-ghost use Rattle.pol_script.specs.Policy.{is_keyed_pair, is_keyed_selector, is_keyed_subject, is_keyed_peers, is_keyed_entry, is_keyed_rule, is_keyed_policy, peer_of};
+//! What a policy says, from the policy as it was written. What a part says may not be given yet: such a
+//! policy is of a form that isn't read.
+ghost use Rattle.std.specs.Prelude.{◌≡◌, ◌∷◌, [], IfOk};
+ghost use Rattle.pol_json.specs.Document.{each};
+ghost use Rattle.pol_script.specs.Gives.{Reads};
+ghost use Rattle.pol_script.specs.Policy.{bound_selector, entry_from, entry_of, is_by_selectors, is_plain_key, namespace_requirement, pair_requirement, peer_of, peers_of, policy_of, requirement_of, rule_of, selector_from, selector_of, subject_of};
 
+use crate::LineError;
+use crate::read::not_built;
 use pol_data::{Items, Memory, Text, Texts};
-use pol_json::NAMESPACE_KEY;
+use pol_json::{NAMESPACE_KEY, is_key, is_of_namespace};
 use pol_labels::{Operator, Requirement, Selector, SelectorError};
 use pol_rule::{
-    Entries, Entry, Peer, PeerList, Peers, Policy, PolicyKey, RawEntry, RawPair, RawPolicy,
-    RawRule, RawSelector, RawSelectors, Rule, Rules,
+    Entries, Entry, Peer, Peers, Policy, RawEntries, RawEntry, RawPair, RawPolicy, RawRule,
+    RawSelector, RawSelectors, Rule,
 };
 use std::alloc::Global;
 
-fn empty_text(alloc: Global) -> Text
-    ensures { result ≡ [] }
-{
-    Text::from_string(String::new(alloc))
+/// What a part of a policy says, from that part as it was written.
+trait FromRaw<Raw> {
+    ghost use Rattle.std.specs.Prelude.{ℕ, List, Option};
+
+    /// What the part says in a policy of this namespace, none where that isn't given yet.
+    ghost meaning: { List ℕ → Raw → Option Self };
+
+    /// What the part says. `NotBuilt` comes exactly where that isn't given yet.
+    fn from_raw(alloc: Global, namespace: &Text, raw: &Raw) -> Result<Self, LineError>
+        ensures { Reads (λ made. made) result (meaning namespace.now raw.now) };
 }
+
+/// What each part of a list says. `NotBuilt` comes exactly where that of one of them isn't given yet.
+fn each_from_raw<Raw, Part: FromRaw<Raw> + Drop>(
+    alloc: Global,
+    namespace: &Text,
+    parts: &[Raw],
+) -> Result<Items<Part>, LineError>
+    ensures { Reads (λ found. found) result (each (Part.meaning namespace.now) parts.now) }
+{
+    let mut found = Vec::new(alloc);
+    for part in parts {
+        found.push(Part::from_raw(alloc, namespace, part)?)?;
+    }
+    Ok(Items::from_vec(found))
+}
+
+// ---- selectors
 
 fn one_text(alloc: Global, text: &Text) -> Result<Texts, Memory>
     ensures { IfOk result (λ texts. texts ≡ text.now ∷ []) }
@@ -26,6 +51,12 @@ fn one_text(alloc: Global, text: &Text) -> Result<Texts, Memory>
     let mut texts = Vec::new(alloc);
     texts.push(text.copy(alloc)?)?;
     Ok(Items::from_vec(texts))
+}
+
+fn empty_text(alloc: Global) -> Text
+    ensures { result ≡ [] }
+{
+    Text::from_string(String::new(alloc))
 }
 
 /// A key without a source means every source, and `key: value` means that the one value is listed.
@@ -41,6 +72,27 @@ fn pair_requirement(alloc: Global, pair: &RawPair) -> Result<Requirement, Memory
     })
 }
 
+fn is_plain_key(key: &str) -> bool
+    ensures { result ≡ is_plain_key key.now }
+{
+    is_key(key) && !is_of_namespace(key)
+}
+
+impl FromRaw<RawPair> for Requirement {
+    ghost meaning = { requirement_of };
+
+    fn from_raw(
+        alloc: Global,
+        _namespace: &Text,
+        pair: &RawPair,
+    ) -> Result<Requirement, LineError> {
+        if !is_plain_key(pair.key.as_str()) {
+            return Err(not_built());
+        }
+        Ok(pair_requirement(alloc, pair)?)
+    }
+}
+
 fn namespace_requirement(alloc: Global, namespace: &Text) -> Result<Requirement, Memory>
     ensures { IfOk result (λ requirement. requirement ≡ namespace_requirement namespace.now) }
 {
@@ -53,151 +105,153 @@ fn namespace_requirement(alloc: Global, namespace: &Text) -> Result<Requirement,
     })
 }
 
-fn pair_requirements(alloc: Global, pairs: &[RawPair]) -> Result<Vec<Requirement>, Memory>
-    ensures { IfOk result (λ requirements. requirements.items ≡ map pair_requirement pairs.now) }
-{
-    let mut requirements = Vec::new(alloc);
-    for pair in pairs {
-        requirements.push(pair_requirement(alloc, pair)?)?;
-    }
-    Ok(requirements)
-}
-
-/// The selector of requirements that are well formed.
-fn selector_of(alloc: Global, requirements: Vec<Requirement>) -> Result<Selector, Memory>
-    requires { IsTrue (all_well_formed requirements.items) }
-    ensures { IfOk result (λ selector. selector ≡ requirements.items) }
+fn selector_from(alloc: Global, requirements: Vec<Requirement>) -> Result<Selector, LineError>
+    ensures { Reads (λ selector. selector) result (selector_from requirements.items) }
 {
     match Selector::from_requirements(alloc, requirements) {
         Ok(selector) => Ok(selector),
-        Err(SelectorError::Bad) => unreachable!(),
-        Err(SelectorError::Memory) => Err(Memory),
+        Err(SelectorError::Bad) => Err(not_built()),
+        Err(SelectorError::Memory) => Err(LineError::Memory),
     }
 }
 
+/// The selector is bound to the policy's namespace.
 fn bound_selector(
     alloc: Global,
     namespace: &Text,
-    selector: &RawSelector,
-) -> Result<Selector, Memory>
-    requires { IsTrue (is_keyed_selector selector.now) }
-    ensures { IfOk result (λ bound. bound ≡ bound_selector namespace.now selector.now) }
+    requirements: Items<Requirement>,
+) -> Result<Selector, LineError>
+    ensures { Reads (λ selector. selector) result (bound_selector namespace.now requirements) }
 {
-    let mut requirements = pair_requirements(alloc, selector.labels.as_slice())?;
-    requirements.push(namespace_requirement(alloc, namespace)?)?;
-    selector_of(alloc, requirements)
+    let mut bound = requirements.into_vec();
+    bound.push(namespace_requirement(alloc, namespace)?)?;
+    selector_from(alloc, bound)
 }
 
-fn subject_selector(
+impl FromRaw<RawSelector> for Selector {
+    ghost meaning = { selector_of };
+
+    fn from_raw(
+        alloc: Global,
+        namespace: &Text,
+        selector: &RawSelector,
+    ) -> Result<Selector, LineError> {
+        if !selector.expressions.is_empty() {
+            return Err(not_built());
+        }
+        let requirements = each_from_raw(alloc, namespace, selector.labels.as_slice())?;
+        bound_selector(alloc, namespace, requirements)
+    }
+}
+
+/// A rule without a subject is refused.
+fn subject_of(
     alloc: Global,
     namespace: &Text,
     subject: &Option<RawSelector>,
-) -> Result<Selector, Memory>
-    requires { IsTrue (is_keyed_subject subject.now) }
-    ensures { IfOk result (λ selector. selector ≡ subject_selector namespace.now subject.now) }
+) -> Result<Selector, LineError>
+    ensures { Reads (λ selector. selector) result (subject_of namespace.now subject.now) }
 {
     match subject {
-        None => selector_of(alloc, Vec::new(alloc)),
-        Some(selector) => bound_selector(alloc, namespace, selector),
+        None => Err(not_built()),
+        Some(selector) => Selector::from_raw(alloc, namespace, selector),
     }
 }
 
-fn peer_list(alloc: Global, namespace: &Text, selectors: &[RawSelector]) -> Result<PeerList, Memory>
-    requires { IsTrue (list_all is_keyed_selector selectors.now) }
-    ensures { IfOk result (λ peers. peers ≡ map (peer_of namespace.now) selectors.now) }
-{
-    let mut peers = Vec::new(alloc);
-    for selector in selectors {
-        peers.push(Peer::Labels(bound_selector(alloc, namespace, selector)?))?;
+// ---- entries
+
+impl FromRaw<RawSelector> for Peer {
+    ghost meaning = { peer_of };
+
+    fn from_raw(
+        alloc: Global,
+        namespace: &Text,
+        selector: &RawSelector,
+    ) -> Result<Peer, LineError> {
+        Ok(Peer::Labels(Selector::from_raw(alloc, namespace, selector)?))
     }
-    Ok(Items::from_vec(peers))
 }
 
+/// An entry without a peer member is for every remote.
 fn peers_of(
     alloc: Global,
     namespace: &Text,
     endpoints: &Option<RawSelectors>,
-) -> Result<Peers, Memory>
-    requires { IsTrue (is_keyed_peers endpoints.now) }
-    ensures { IfOk result (λ peers. peers ≡ peers_of namespace.now endpoints.now) }
+) -> Result<Peers, LineError>
+    ensures { Reads (λ peers. peers) result (peers_of namespace.now endpoints.now) }
 {
     match endpoints {
-        None => Ok(Peers::Listed(Items::from_vec(Vec::new(alloc)))),
+        None => Ok(Peers::Every),
         Some(selectors) => {
-            let peers = peer_list(alloc, namespace, selectors.as_slice())?;
+            let peers = each_from_raw(alloc, namespace, selectors.as_slice())?;
             Ok(Peers::Listed(peers))
         }
     }
 }
 
-fn entry_of(alloc: Global, namespace: &Text, entry: &RawEntry) -> Result<Entry, Memory>
-    requires { IsTrue (is_keyed_entry entry.now) }
-    ensures { IfOk result (λ made. made ≡ entry_of namespace.now entry.now) }
+fn is_by_selectors(entry: &RawEntry) -> bool
+    ensures { result ≡ is_by_selectors entry.now }
 {
-    Ok(Entry {
-        peers: peers_of(alloc, namespace, &entry.endpoints)?,
+    entry.cidrs.is_none()
+        && entry.cidr_sets.is_none()
+        && entry.entities.is_none()
+        && entry.ports.len() == 0
+}
+
+/// An entry without ports is for every protocol and port.
+fn entry_from(alloc: Global, peers: Peers) -> Entry
+    ensures { result ≡ entry_from peers }
+{
+    Entry {
+        peers,
         ports: Items::from_vec(Vec::new(alloc)),
-    })
-}
-
-fn entries_of(alloc: Global, namespace: &Text, entries: &[RawEntry]) -> Result<Entries, Memory>
-    requires { IsTrue (list_all is_keyed_entry entries.now) }
-    ensures { IfOk result (λ made. made ≡ map (entry_of namespace.now) entries.now) }
-{
-    let mut made = Vec::new(alloc);
-    for entry in entries {
-        made.push(entry_of(alloc, namespace, entry)?)?;
     }
-    Ok(Items::from_vec(made))
 }
 
-fn no_entries(alloc: Global) -> Entries
-    ensures { result ≡ [] }
-{
-    Items::from_vec(Vec::new(alloc))
-}
+impl FromRaw<RawEntry> for Entry {
+    ghost meaning = { entry_of };
 
-fn rule_of(alloc: Global, namespace: &Text, rule: &RawRule) -> Result<Rule, Memory>
-    requires { IsTrue (is_keyed_rule rule.now) }
-    ensures { IfOk result (λ made. made ≡ rule_of namespace.now rule.now) }
-{
-    Ok(Rule {
-        subject: subject_selector(alloc, namespace, &rule.subject)?,
-        ingress: entries_of(alloc, namespace, rule.ingress.as_slice())?,
-        ingress_deny: no_entries(alloc),
-        egress: no_entries(alloc),
-        egress_deny: no_entries(alloc),
-    })
-}
-
-fn rules_of(alloc: Global, namespace: &Text, rules: &[RawRule]) -> Result<Rules, Memory>
-    requires { IsTrue (list_all is_keyed_rule rules.now) }
-    ensures { IfOk result (λ made. made ≡ map (rule_of namespace.now) rules.now) }
-{
-    let mut made = Vec::new(alloc);
-    for rule in rules {
-        made.push(rule_of(alloc, namespace, rule)?)?;
+    fn from_raw(alloc: Global, namespace: &Text, entry: &RawEntry) -> Result<Entry, LineError> {
+        if !is_by_selectors(entry) {
+            return Err(not_built());
+        }
+        let peers = peers_of(alloc, namespace, &entry.endpoints)?;
+        Ok(entry_from(alloc, peers))
     }
-    Ok(Items::from_vec(made))
 }
 
-fn key_of(alloc: Global, key: &PolicyKey) -> Result<PolicyKey, Memory>
-    ensures { IfOk result (λ copy. copy ≡ key.now) }
+// ---- rules
+
+fn entries_of(alloc: Global, namespace: &Text, section: &RawEntries) -> Result<Entries, LineError>
+    ensures { Reads (λ entries. entries) result (each (entry_of namespace.now) section.now) }
 {
-    Ok(PolicyKey {
-        cluster_wide: key.cluster_wide,
-        namespace: key.namespace.copy(alloc)?,
-        name: key.name.copy(alloc)?,
-    })
+    each_from_raw(alloc, namespace, section.as_slice())
 }
 
-/// What the policy says: each selector is a list of requirements, bound to the policy's namespace.
-pub(crate) fn policy_of(alloc: Global, raw: &RawPolicy) -> Result<Policy, Memory>
-    requires { IsTrue (is_keyed_policy raw.now) }
-    ensures { IfOk result (λ policy. policy ≡ policy_of raw.now) }
+impl FromRaw<RawRule> for Rule {
+    ghost meaning = { rule_of };
+
+    fn from_raw(alloc: Global, namespace: &Text, rule: &RawRule) -> Result<Rule, LineError> {
+        Ok(Rule {
+            subject: subject_of(alloc, namespace, &rule.subject)?,
+            ingress: entries_of(alloc, namespace, &rule.ingress)?,
+            ingress_deny: entries_of(alloc, namespace, &rule.ingress_deny)?,
+            egress: entries_of(alloc, namespace, &rule.egress)?,
+            egress_deny: entries_of(alloc, namespace, &rule.egress_deny)?,
+        })
+    }
+}
+
+/// What the policy says. `NotBuilt` comes exactly where what a part of it says isn't given yet.
+pub(crate) fn policy_of(alloc: Global, raw: &RawPolicy) -> Result<Policy, LineError>
+    ensures { Reads (λ policy. policy) result (policy_of raw.now) }
 {
+    if raw.key.cluster_wide {
+        return Err(not_built());
+    }
+    let rules = each_from_raw(alloc, &raw.key.namespace, raw.rules.as_slice())?;
     Ok(Policy {
-        key: key_of(alloc, &raw.key)?,
-        rules: rules_of(alloc, &raw.key.namespace, raw.rules.as_slice())?,
+        key: raw.key.copy(alloc)?,
+        rules,
     })
 }
