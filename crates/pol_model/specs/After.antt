@@ -1,5 +1,5 @@
 -- The state after a list of requests: one fold. A request that has a fault is never in such a list.
-use Rattle.std.specs.Prelude.{ℕ, ◌+◌, List, [], ◌∷◌, ◌++◌, Option, None, Some, option_map}
+use Rattle.std.specs.Prelude.{ℕ, ◌+◌, List, [], ◌∷◌, ◌++◌, option_map}
 use Rattle.pol_addr.specs.declared.address.Addr.{Addr}
 use Rattle.pol_labels.specs.declared.label.Label.{Label}
 use Rattle.pol_model.specs.declared.options.Options.{Options}

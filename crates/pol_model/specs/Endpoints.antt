@@ -1,5 +1,5 @@
 -- Live endpoints and named identities, by name.
-use Rattle.std.specs.Prelude.{ℕ, Bool, not, List, map, find, filter, Option}
+use Rattle.std.specs.Prelude.{ℕ, not, List, map, find, filter, Option}
 use Rattle.std.specs.Str.{bytes_eq}
 use Rattle.pol_model.specs.declared.row.NamedIdentity.{NamedIdentity}
 use Rattle.pol_model.specs.declared.row.Endpoint.{Endpoint}

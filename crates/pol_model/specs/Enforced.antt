@@ -1,6 +1,6 @@
 -- When a direction of an endpoint is enforced (Cilium, Policy Enforcement Modes).
-use Rattle.std.specs.Prelude.{ℕ, ◌==◌, ◌||◌, Bool, true, false, List, [], ◌∷◌, filter, length, nat_lt}
-use Rattle.std.specs.List.{flat_map, list_any}
+use Rattle.std.specs.Prelude.{ℕ, ◌==◌, ◌&&◌, ◌||◌, Bool, true, false, List, length, nat_lt}
+use Rattle.std.specs.List.{list_any}
 use Rattle.pol_labels.specs.Match.{matches}
 use Rattle.pol_ports.specs.declared.Direction.{Direction}
 use Rattle.pol_ports.specs.declared.Direction.TheVariants.{Ingress, Egress}
@@ -12,7 +12,7 @@ use Rattle.pol_rule.specs.declared.policy.Section.TheVariants as section
 use Rattle.pol_model.specs.declared.options.Mode.{Mode}
 use Rattle.pol_model.specs.declared.options.Mode.TheVariants.{Default, Always, Never}
 use Rattle.pol_model.specs.declared.row.Endpoint.{Endpoint}
-use Rattle.pol_model.specs.State.{State}
+use Rattle.pol_model.specs.declared.row.Stamped.{Stamped}
 
 -- the sections of a direction
 abbrev pub allow_section : Direction → Section
@@ -34,18 +34,16 @@ rule_says dir rule = is_there (section_of (allow_section dir) rule) || is_there 
 abbrev pub rule_selects : Endpoint → Rule → Bool
 rule_selects endpoint rule = matches rule.subject endpoint.labels
 
--- the rules of all policies that select the endpoint, in order
-abbrev pub selecting_rules : State → Endpoint → List Rule
-selecting_rules s endpoint = filter (rule_selects endpoint) (flat_map (λ stamped. stamped.policy.rules) s.policies)
+-- some rule of the policy selects the endpoint and passes
+unfoldable pub has_rule : (Rule → Bool) → Endpoint → Stamped → Bool
+has_rule passes endpoint stamped = list_any (λ rule. rule_selects endpoint rule && passes rule) stamped.policy.rules
 
 -- an endpoint of this identity has no labels yet, and is enforced by default
 abbrev pub init_identity : ℕ
 init_identity = 5
 
-abbrev pub enforced_in : Mode → State → Endpoint → Direction → Bool
-enforced_in Always s endpoint dir = true
-enforced_in Never s endpoint dir = false
-enforced_in Default s endpoint dir = (endpoint.identity == init_identity) || list_any (rule_says dir) (selecting_rules s endpoint)
-
-abbrev pub enforced : State → Endpoint → Direction → Bool
-enforced s endpoint dir = enforced_in s.mode s endpoint dir
+-- the direction of the endpoint is enforced in this mode
+abbrev pub enforced : Mode → List Stamped → Endpoint → Direction → Bool
+enforced Always policies endpoint dir = true
+enforced Never policies endpoint dir = false
+enforced Default policies endpoint dir = (endpoint.identity == init_identity) || list_any (has_rule (rule_says dir) endpoint) policies

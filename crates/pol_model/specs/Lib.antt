@@ -5,6 +5,7 @@ pub mod Prefixes
 pub mod Policies
 pub mod Endpoints
 pub mod After
+pub mod Ascending
 pub mod Fault
 pub mod Selects
 pub mod Enforced

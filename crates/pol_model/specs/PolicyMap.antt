@@ -1,5 +1,5 @@
 -- The policy map of an endpoint: all of it is 'profile'.
-use Rattle.std.specs.Prelude.{ℕ, zero, suc, ◌==◌, ◌&&◌, ◌||◌, not, Bool, true, false, if◌then◌else◌, List, [], ◌∷◌, ◌++◌, map, filter, length, Option, None, Some}
+use Rattle.std.specs.Prelude.{ℕ, ◌&&◌, not, Bool, if◌then◌else◌, List, [], ◌∷◌, ◌++◌, map, filter, length, Option, None, Some}
 use Rattle.std.specs.List.{flat_map, list_any}
 use Rattle.std.specs.Ordering.{match_ordering}
 use Rattle.pol_ports.specs.declared.Direction.{Direction}
@@ -20,10 +20,12 @@ use Rattle.pol_rule.specs.declared.policy.Peer.TheVariants as peer
 use Rattle.pol_rule.specs.declared.policy.Peers.{Peers}
 use Rattle.pol_rule.specs.declared.policy.Peers.TheVariants.{Every, Listed}
 use Rattle.pol_rule.specs.declared.policy.PortSpec.{PortSpec}
+use Rattle.pol_rule.specs.declared.policy.Rule.{Rule}
 use Rattle.pol_model.specs.declared.options.Options.{Options}
 use Rattle.pol_model.specs.declared.row.Endpoint.{Endpoint}
+use Rattle.pol_model.specs.declared.row.Stamped.{Stamped}
 use Rattle.pol_model.specs.State.{State}
-use Rattle.pol_model.specs.Enforced.{allow_section, deny_section, selecting_rules, enforced}
+use Rattle.pol_model.specs.Enforced.{allow_section, deny_section, rule_selects, enforced}
 use Rattle.pol_model.specs.Selects.{set_at}
 use Rattle.pol_model.specs.Verdict.{is_never, is_ingress, host_identity}
 
@@ -66,21 +68,25 @@ allow_every dir id = (every_key dir id, Allow)
 
 -- a direction that isn't enforced allows every identity
 abbrev pub unenforced_entries : State → Endpoint → Direction → List MapEntry
-unenforced_entries s endpoint dir = if enforced s endpoint dir then [] else (allow_every dir every_identity ∷ [])
+unenforced_entries s endpoint dir = if enforced s.mode s.policies endpoint dir then [] else (allow_every dir every_identity ∷ [])
 
 abbrev pub localhost_entries : Options → Direction → List MapEntry
 localhost_entries options dir =
     if is_ingress dir && options.localhost then allow_every dir host_identity ∷ [] else []
 
+-- the rules of all policies that select the endpoint, in order
+abbrev pub selecting_rules : List Stamped → Endpoint → List Rule
+selecting_rules policies endpoint = filter (rule_selects endpoint) (flat_map (λ stamped. stamped.policy.rules) policies)
+
 -- what the rules that select the endpoint put into the map in a direction
-abbrev pub entries_of_rules : (Peer → List ℕ) → State → Endpoint → Direction → List MapEntry
-entries_of_rules set s endpoint dir =
+abbrev pub entries_of_rules : (Peer → List ℕ) → List Stamped → Endpoint → Direction → List MapEntry
+entries_of_rules set policies endpoint dir =
     flat_map (λ rule. flat_map (entry_entries set dir Allow) (section_of (allow_section dir) rule)
-    ++ flat_map (entry_entries set dir Deny) (section_of (deny_section dir) rule)) (selecting_rules s endpoint)
+    ++ flat_map (entry_entries set dir Deny) (section_of (deny_section dir) rule)) (selecting_rules policies endpoint)
 
 abbrev pub direction_entries : Options → (Peer → List ℕ) → State → Endpoint → Direction → List MapEntry
 direction_entries options set s endpoint dir =
-    entries_of_rules set s endpoint dir ++ unenforced_entries s endpoint dir ++ localhost_entries options dir
+    entries_of_rules set s.policies endpoint dir ++ unenforced_entries s endpoint dir ++ localhost_entries options dir
 
 -- All that is put into the endpoint's map, where a peer selects the numbers that `set` says. In mode
 -- `never` it is one allow for every identity in each direction.

@@ -1,6 +1,6 @@
 -- The identities of prefixes, and which prefixes a policy holds (Cilium, Terminology, "Identity", local
 -- identities). Which free number is taken, in which order, and that each prefix is held once are 'profile'.
-use Rattle.std.specs.Prelude.{ℕ, Bool, true, false, not, List, [], ◌∷◌, ◌++◌, codes, filter, Option, None, Some}
+use Rattle.std.specs.Prelude.{ℕ, Bool, false, not, List, [], ◌∷◌, ◌++◌, codes, filter, Option, None, Some}
 use Rattle.std.specs.List.{flat_map}
 use Rattle.pol_addr.specs.declared.network.Prefix.{Prefix}
 use Rattle.pol_addr.specs.Prefix.{same_prefix}

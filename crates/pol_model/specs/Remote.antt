@@ -1,22 +1,22 @@
 -- What an address is (Cilium, Terminology, "Identity"): by the numbers that are allocated, and apart from them.
-use Rattle.std.specs.Prelude.{ℕ, ◌==◌, ◌&&◌, ◌||◌, nat_lt, nat_le, Bool, true, false, if◌then◌else◌, List, [], ◌∷◌, codes, find, Option, None, Some}
+use Rattle.std.specs.Prelude.{ℕ, ◌==◌, nat_lt, Bool, false, if◌then◌else◌, List, [], ◌∷◌, codes, find, Option, None, Some}
 use Rattle.std.specs.Option.{option_map_or}
 use Rattle.pol_addr.specs.declared.address.Addr.{Addr}
 use Rattle.pol_addr.specs.Address.{same_addr}
-use Rattle.pol_addr.specs.declared.network.Prefix.{Prefix}
 use Rattle.pol_addr.specs.Prefix.{contains}
 use Rattle.pol_ports.specs.declared.Direction.{Direction}
 use Rattle.pol_ports.specs.declared.Proto.{Proto}
 use Rattle.pol_mapkey.specs.declared.Word.{Word}
 use Rattle.pol_model.specs.declared.options.Options.{Options}
+use Rattle.pol_model.specs.declared.request.Query.{Query}
 use Rattle.pol_model.specs.declared.request.Remote.{Remote}
 use Rattle.pol_model.specs.declared.request.Remote.TheVariants.{Identity, Address}
 use Rattle.pol_model.specs.declared.row.Endpoint.{Endpoint}
 use Rattle.pol_model.specs.declared.row.IdentityRow.{IdentityRow}
 use Rattle.pol_model.specs.State.{State}
 use Rattle.pol_model.specs.Identities.{reserved_label}
-use Rattle.pol_model.specs.Selects.{Known, is_core_number}
-use Rattle.pol_model.specs.Verdict.{Side, host_identity, verdict_on}
+use Rattle.pol_model.specs.Selects.{is_core_number}
+use Rattle.pol_model.specs.Verdict.{Side, host_identity, verdict_on, verdict_of}
 
 -- the live endpoint that has the address
 abbrev pub endpoint_at : Addr → List Endpoint → Option Endpoint
@@ -44,15 +44,20 @@ abbrev pub world_identity : ℕ
 world_identity = 2
 
 -- An address is that of the endpoint that has it, else of the longest prefix that contains it, else of the world.
-abbrev pub number_at : Addr → State → ℕ
-number_at address s =
-    option_map_or (λ endpoint. endpoint.identity) (endpoint_at address s.endpoints)
-    (option_map_or (λ row. row.number) (longest_at address s.identities) world_identity)
+abbrev pub number_at : Addr → List Endpoint → List IdentityRow → ℕ
+number_at address endpoints rows =
+    option_map_or (λ endpoint. endpoint.identity) (endpoint_at address endpoints)
+    (option_map_or (λ row. row.number) (longest_at address rows) world_identity)
 
 -- the number that a query's remote stands for
 abbrev pub remote_number : State → Remote → ℕ
 remote_number s (Identity number) = number
-remote_number s (Address address) = number_at address s
+remote_number s (Address address) = number_at address s.endpoints s.identities
+
+-- the verdict on a query's packet at an endpoint
+abbrev pub verdict_for : Options → State → Query → Endpoint → Word
+verdict_for options s query endpoint =
+    verdict_of options s endpoint query.dir (remote_number s query.remote) query.proto query.port
 
 -- a live endpoint's address: its number and labels, and no prefix
 abbrev pub endpoint_side : Endpoint → Side

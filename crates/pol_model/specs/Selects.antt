@@ -1,5 +1,5 @@
 -- Which identities a peer selects (Cilium, Network Policy, "Endpoints based", "CIDR based" and "Entities based").
-use Rattle.std.specs.Prelude.{ℕ, ◌==◌, ◌&&◌, ◌||◌, not, nat_le, Bool, true, false, List, [], ◌∷◌, codes, map, filter, find, Option, None, Some}
+use Rattle.std.specs.Prelude.{ℕ, ◌==◌, ◌&&◌, ◌||◌, not, nat_le, Bool, true, false, List, codes, map, filter, find, Option, None, Some}
 use Rattle.std.specs.List.{list_any}
 use Rattle.std.specs.Option.{option_map_or}
 use Rattle.pol_addr.specs.declared.network.Prefix.{Prefix}

@@ -1,6 +1,6 @@
 -- A policy has fewer than 2 ^ 32 rules, and each of their sections fewer than 2 ^ 32 entries, so that a place
 -- fits its numbers.
-use Rattle.std.specs.Prelude.{ℕ, ◌<◌, ◌^◌, List, length}
+use Rattle.std.specs.Prelude.{◌<◌, ◌^◌, length}
 use Rattle.std.specs.List.{AllByRecursion}
 use Rattle.pol_rule.specs.declared.policy.Policy.{Policy}
 use Rattle.pol_rule.specs.declared.policy.Rule.{Rule}

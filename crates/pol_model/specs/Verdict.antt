@@ -1,6 +1,6 @@
 -- The verdict on one packet, by a scan of all rules (Cilium, Policy Enforcement Modes, and Network Policy,
 -- "Deny Policies"). It has no tables, no keys and no filters.
-use Rattle.std.specs.Prelude.{ℕ, ◌==◌, ◌&&◌, ◌||◌, not, Bool, true, false, if◌then◌else◌}
+use Rattle.std.specs.Prelude.{ℕ, ◌==◌, ◌&&◌, ◌||◌, not, Bool, true, false, if◌then◌else◌, List}
 use Rattle.std.specs.List.{list_any}
 use Rattle.pol_ports.specs.declared.Direction.{Direction}
 use Rattle.pol_ports.specs.declared.Direction.TheVariants.{Ingress, Egress}
@@ -8,24 +8,30 @@ use Rattle.pol_ports.specs.declared.Proto.{Proto}
 use Rattle.pol_mapkey.specs.declared.Word.{Word}
 use Rattle.pol_mapkey.specs.declared.Word.TheVariants.{Allowed, DeniedByRule, DeniedByDefault}
 use Rattle.pol_rule.specs.Covers.{section_of, covers}
+use Rattle.pol_rule.specs.declared.policy.Rule.{Rule}
 use Rattle.pol_rule.specs.declared.policy.Section.{Section}
 use Rattle.pol_model.specs.declared.options.Mode.{Mode}
 use Rattle.pol_model.specs.declared.options.Mode.TheVariants.{Default, Always, Never}
 use Rattle.pol_model.specs.declared.options.Options.{Options}
 use Rattle.pol_model.specs.declared.row.Endpoint.{Endpoint}
+use Rattle.pol_model.specs.declared.row.Stamped.{Stamped}
 use Rattle.pol_model.specs.State.{State}
 use Rattle.pol_model.specs.Selects.{Known, selects, known_number}
-use Rattle.pol_model.specs.Enforced.{allow_section, deny_section, selecting_rules, enforced}
+use Rattle.pol_model.specs.Enforced.{allow_section, deny_section, has_rule, enforced}
 
 -- the other side: what is known of it, and whether it is the local host
 pub record Side : Type 0 where
   pub known : Known
   pub is_host : Bool
 
+-- some entry of that section of the rule covers the packet
+unfoldable pub rule_covers : Section → Known → Proto → ℕ → Rule → Bool
+rule_covers section known proto port rule = list_any (covers (selects known) proto port) (section_of section rule)
+
 -- some entry of that section of a rule that selects the endpoint covers the packet
-abbrev pub some_covers : State → Endpoint → Section → Known → Proto → ℕ → Bool
-some_covers s endpoint section known proto port =
-    list_any (λ rule. list_any (covers (selects known) proto port) (section_of section rule)) (selecting_rules s endpoint)
+abbrev pub some_covers : List Stamped → Endpoint → Section → Known → Proto → ℕ → Bool
+some_covers policies endpoint section known proto port =
+    list_any (has_rule (rule_covers section known proto port) endpoint) policies
 
 abbrev pub is_never : Mode → Bool
 is_never Default = false
@@ -41,8 +47,8 @@ is_ingress Egress = false
 abbrev pub verdict_on : Options → State → Endpoint → Direction → Side → Proto → ℕ → Word
 verdict_on options s endpoint dir side proto port =
     if is_never s.mode then Allowed
-    else (if some_covers s endpoint (deny_section dir) side.known proto port then DeniedByRule
-    else (if some_covers s endpoint (allow_section dir) side.known proto port || not (enforced s endpoint dir) || (is_ingress dir && side.is_host && options.localhost) then Allowed
+    else (if some_covers s.policies endpoint (deny_section dir) side.known proto port then DeniedByRule
+    else (if some_covers s.policies endpoint (allow_section dir) side.known proto port || not (enforced s.mode s.policies endpoint dir) || (is_ingress dir && side.is_host && options.localhost) then Allowed
     else DeniedByDefault))
 
 -- the number of the local host

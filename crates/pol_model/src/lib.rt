@@ -8,10 +8,13 @@
 #![tactic(auto)]
 
 mod answer;
+pub mod laws;
 mod options;
 mod request;
 mod row;
 mod size;
+#[cfg(test)]
+mod tests;
 
 pub use answer::{CommitError, Committed, Fault, FullList, FullSlot, Places, Refused, Trace};
 pub use options::{Mode, Options};

@@ -1,11 +1,13 @@
 //! What is asked of the policy core.
+ghost use Rattle.std.specs.Prelude.{◌≡◌, IfOk};
 
 use crate::options::Mode;
 use pol_addr::Addr;
-use pol_data::Text;
+use pol_data::{Memory, Text};
 use pol_labels::LabelSet;
 use pol_ports::{Direction, Proto};
 use pol_rule::{Policy, PolicyKey};
+use std::alloc::Global;
 
 /// A change of the state. A request that is accepted is a commit, and raises the revision by one.
 #[derive(Debug, Drop)]
@@ -35,6 +37,38 @@ pub enum Request {
     Remove(PolicyKey),
     /// The mode from now on.
     SetMode(Mode),
+}
+
+impl Request {
+    /// A request equal to this one. The one error is want of memory.
+    pub fn copy(&self, alloc: Global) -> Result<Request, Memory>
+        ensures equal { IfOk result (λ copy. copy ≡ self.now) }
+    {
+        Ok(match self {
+            Request::AddEndpoint {
+                name,
+                labels,
+                address,
+            } => Request::AddEndpoint {
+                name: name.copy(alloc)?,
+                labels: labels.copy(alloc)?,
+                address: *address,
+            },
+            Request::RemoveEndpoint { name } => Request::RemoveEndpoint {
+                name: name.copy(alloc)?,
+            },
+            Request::AddIdentity { name, labels } => Request::AddIdentity {
+                name: name.copy(alloc)?,
+                labels: labels.copy(alloc)?,
+            },
+            Request::RemoveIdentity { name } => Request::RemoveIdentity {
+                name: name.copy(alloc)?,
+            },
+            Request::Apply(policy) => Request::Apply(policy.copy(alloc)?),
+            Request::Remove(key) => Request::Remove(key.copy(alloc)?),
+            Request::SetMode(mode) => Request::SetMode(*mode),
+        })
+    }
 }
 
 /// The other side of a connection.

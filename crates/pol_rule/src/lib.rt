@@ -11,6 +11,8 @@ mod policy;
 mod policy_copy;
 mod raw;
 mod raw_copy;
+#[cfg(test)]
+mod tests;
 
 pub use fault::RuleFault;
 pub use policy::{

@@ -1,0 +1,116 @@
+-- The rows of each state ascend by number, and its endpoints by slot.
+use Rattle.std.proofs.Common.{◌≡◌, ℕ, ◌==◌, ◌&&◌, not, Bool, true, false, cond, List, [], ◌∷◌, map, Option, None, Some, nat_lt, refl, arith}
+use Rattle.pol_addr.specs.declared.network.Prefix.{Prefix}
+use Rattle.pol_labels.specs.declared.label.Label.{Label}
+use Rattle.pol_model.specs.declared.options.Options.{Options}
+use Rattle.pol_model.specs.declared.request.Request.{Request}
+use Rattle.pol_model.specs.declared.request.Request.TheVariants.{AddEndpoint, RemoveEndpoint, AddIdentity, RemoveIdentity, Apply, Remove, SetMode}
+use Rattle.pol_model.specs.declared.row.IdentityRow.{IdentityRow}
+use Rattle.pol_model.specs.State.{State}
+use Rattle.pol_model.specs.Ascending.{Ascends}
+use Rattle.pol_model.specs.Identities.{held_or_new, is_reserved, free_number, number_of_labels, labels_held, number_released, recounted, cluster_first, local_first}
+use Rattle.pol_model.specs.Prefixes.{policy_prefixes, number_of_prefix, prefix_held, prefixes_held, prefixes_released}
+use Rattle.pol_model.specs.Policies.{policy_at, prefixes_of}
+use Rattle.pol_model.specs.After.{start, after, after_all, changed, state_of}
+use Rattle.pol_model.proofs.Ascents.{one_before, filter_ascends, placed_ascends}
+use Rattle.pol_model.proofs.LeastFree.{least_free-free}
+
+-- the rows ascend by number
+abbrev RowsAscend : List IdentityRow → Type 0
+RowsAscend rows = Ascends (map (λ row. row.number) rows)
+
+recounted_if : (b : Bool) (count : ℕ) (row : IdentityRow) → (cond b (record row { holders = count }) row).number ≡ row.number
+recounted_if true count row = refl
+recounted_if false count row = refl
+
+recounted_numbers : (number : ℕ) (count : ℕ → ℕ) (rows : List IdentityRow) → map (λ row. row.number) (map (recounted number count) rows) ≡ map (λ row. row.number) rows
+recounted_numbers number count [] = refl
+recounted_numbers number count (row ∷ rows) =
+    let here = recounted_if ((row.number == number) && not (is_reserved number)) (count row.holders) row in
+    let others = recounted_numbers number count rows in
+    rw (here, others) refl
+
+recounted_ascend : (number : ℕ) (count : ℕ → ℕ) (rows : List IdentityRow) → RowsAscend rows → RowsAscend (map (recounted number count) rows)
+recounted_ascend number count rows ascend = rw (recounted_numbers number count rows) ascend
+
+held_ascend : (found : Option ℕ) (new : IdentityRow) (first : ℕ) (rows : List IdentityRow) → new.number ≡ free_number first rows → RowsAscend rows → RowsAscend (held_or_new found new rows)
+held_ascend (Some number) new first rows free ascend = recounted_ascend number _ rows ascend
+held_ascend None new first rows free ascend =
+    placed_ascends (λ row. row.number) new rows ascend (rw free (least_free-free first (map (λ row. row.number) rows) ascend))
+
+released_ascend : (number : Option ℕ) (rows : List IdentityRow) → RowsAscend rows → RowsAscend (number_released number rows)
+released_ascend None rows ascend = ascend
+released_ascend (Some number) rows ascend =
+    filter_ascends (λ row. row.number) (λ row. nat_lt 0 row.holders) _ (recounted_ascend number _ rows ascend)
+
+labels_ascend : (labels : List Label) (rows : List IdentityRow) → RowsAscend rows → RowsAscend (labels_held labels rows)
+labels_ascend labels rows ascend = held_ascend (number_of_labels labels rows) _ cluster_first rows refl ascend
+
+prefixes_held_ascend : (prefixes : List Prefix) (rows : List IdentityRow) → RowsAscend rows → RowsAscend (prefixes_held prefixes rows)
+prefixes_held_ascend [] rows ascend = ascend
+prefixes_held_ascend (prefix ∷ others) rows ascend =
+    prefixes_held_ascend others (prefix_held prefix rows) (held_ascend (number_of_prefix prefix rows) _ local_first rows refl ascend)
+
+prefixes_released_ascend : (prefixes : List Prefix) (rows : List IdentityRow) → RowsAscend rows → RowsAscend (prefixes_released prefixes rows)
+prefixes_released_ascend [] rows ascend = ascend
+prefixes_released_ascend (prefix ∷ others) rows ascend =
+    prefixes_released_ascend others _ (released_ascend (number_of_prefix prefix rows) rows ascend)
+
+-- the rows and the endpoints of the state ascend
+record BothAscend (s : State) : Type 0 where
+  rows : RowsAscend s.identities
+  slots : Ascends (map (λ endpoint. endpoint.slot) s.endpoints)
+
+changed_ascend : (s : State) (request : Request) → BothAscend s → BothAscend (changed s request)
+changed_ascend s (AddEndpoint name labels address) both = record {
+  rows = labels_ascend labels s.identities both.rows;
+  slots = placed_ascends (λ endpoint. endpoint.slot) _ s.endpoints both.slots (least_free-free 0 _ both.slots);
+}
+changed_ascend s (RemoveEndpoint name) both = record {
+  rows = released_ascend _ s.identities both.rows;
+  slots = filter_ascends (λ endpoint. endpoint.slot) _ s.endpoints both.slots;
+}
+changed_ascend s (AddIdentity name labels) both = record {
+  rows = labels_ascend labels s.identities both.rows;
+  slots = both.slots;
+}
+changed_ascend s (RemoveIdentity name) both = record {
+  rows = released_ascend _ s.identities both.rows;
+  slots = both.slots;
+}
+changed_ascend s (Apply policy) both = record {
+  rows =
+      let taken = prefixes_held_ascend (policy_prefixes policy) s.identities both.rows in
+      prefixes_released_ascend (prefixes_of (policy_at policy.key s.policies)) (prefixes_held (policy_prefixes policy) s.identities) taken;
+  slots = both.slots;
+}
+changed_ascend s (Remove key) both = record {
+  rows = prefixes_released_ascend (prefixes_of (policy_at key s.policies)) s.identities both.rows;
+  slots = both.slots;
+}
+changed_ascend s (SetMode mode) both = record { rows = both.rows; slots = both.slots }
+
+after_all_ascend : (s : State) (requests : List Request) → BothAscend s → BothAscend (after_all s requests)
+after_all_ascend s [] both = both
+after_all_ascend s (request ∷ requests) both =
+    let next = changed_ascend s request both in
+    after_all_ascend (after s request) requests (record { rows = next.rows; slots = next.slots })
+
+reserved_ascend : Ascends (1 ∷ 2 ∷ 3 ∷ 4 ∷ 5 ∷ 6 ∷ 7 ∷ 8 ∷ [])
+reserved_ascend =
+    let from_7 = one_before 7 8 [] (omega arith) (tt, tt) in
+    let from_6 = one_before 6 7 (8 ∷ []) (omega arith) from_7 in
+    let from_5 = one_before 5 6 (7 ∷ 8 ∷ []) (omega arith) from_6 in
+    let from_4 = one_before 4 5 (6 ∷ 7 ∷ 8 ∷ []) (omega arith) from_5 in
+    let from_3 = one_before 3 4 (5 ∷ 6 ∷ 7 ∷ 8 ∷ []) (omega arith) from_4 in
+    let from_2 = one_before 2 3 (4 ∷ 5 ∷ 6 ∷ 7 ∷ 8 ∷ []) (omega arith) from_3 in
+    one_before 1 2 (3 ∷ 4 ∷ 5 ∷ 6 ∷ 7 ∷ 8 ∷ []) (omega arith) from_2
+
+start_ascend : (options : Options) → BothAscend (start options)
+start_ascend options = record { rows = reserved_ascend; slots = tt }
+
+pub state_rows_ascend : (options : Options) (requests : List Request) → RowsAscend (state_of options requests).identities
+state_rows_ascend options requests = (after_all_ascend (start options) requests (start_ascend options)).rows
+
+pub state_slots_ascend : (options : Options) (requests : List Request) → Ascends (map (λ endpoint. endpoint.slot) (state_of options requests).endpoints)
+state_slots_ascend options requests = (after_all_ascend (start options) requests (start_ascend options)).slots

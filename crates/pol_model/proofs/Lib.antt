@@ -1,0 +1,4 @@
+pub mod AscendingStates
+pub mod Ascents
+pub mod Histories
+pub mod LeastFree
