@@ -17,7 +17,7 @@ use Rattle.pol_model.specs.declared.row.Stamped.{Stamped}
 use Rattle.pol_model.specs.Endpoints.{endpoint_of, free_slot, named_of, without_endpoint}
 use Rattle.pol_model.specs.Fault.{fault_if, fault_of, endpoints_max}
 use Rattle.pol_model.specs.Numbers.{placed_by}
-use Rattle.pol_model.specs.Policies.{applied, has_key, removed}
+use Rattle.pol_model.specs.Policies.{applied, is_of_key, removed}
 use Rattle.pol_model.specs.Sizes.{IsShortPolicy}
 use Rattle.pol_model.specs.State.{State}
 use Rattle.pol_rule.specs.declared.policy.PolicyKey.{PolicyKey}
@@ -105,7 +105,7 @@ all_filter P p (x ∷ xs) all = all_kept P (p x) x (filter p xs) all.0 (all_filt
 
 all_applied : (P : Stamped → Type 0) (new : Stamped) (xs : List Stamped) → AllByRecursion P xs → P new → AllByRecursion P (applied new xs)
 all_applied P new [] all here = (here, tt)
-all_applied P new (x ∷ xs) all here = put (has_key new.policy.key x) (all_applied P new xs all.1 here)
+all_applied P new (x ∷ xs) all here = put (is_of_key new.policy.key x) (all_applied P new xs all.1 here)
   where
     put : (t : Bool) → AllByRecursion P (applied new xs) → AllByRecursion P (cond t (new ∷ xs) (x ∷ applied new xs))
     put true later = (here, all.1)
@@ -126,7 +126,7 @@ sound_applied new policies endpoints sound short = record {
 pub sound_removed : (key : PolicyKey) (policies : List Stamped) (endpoints : List Endpoint) → IsSound policies endpoints → IsSound (removed key policies) endpoints
 sound_removed key policies endpoints sound = record {
   slots = sound.slots;
-  short = all_filter (λ stamped. IsShortPolicy stamped.policy) (λ stamped. not (has_key key stamped)) policies sound.short;
+  short = all_filter (λ stamped. IsShortPolicy stamped.policy) (λ stamped. not (is_of_key key stamped)) policies sound.short;
 }
 
 -- a new named identity is the one of its name

@@ -5,12 +5,7 @@ pub mod Distinct
 pub mod Free
 pub mod Held
 pub mod LabelLists
-pub mod Legal
 pub mod Locals
-pub mod Longest
-pub mod Nested
 pub mod Placed
 pub mod Room
 pub mod Sections
-pub mod Traces
-pub mod VerdictParts

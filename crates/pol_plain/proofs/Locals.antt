@@ -8,11 +8,10 @@ use Rattle.std.proofs.lemmas.List.Sums.{sum_by-insert, sum_by-cons}
 use Rattle.pol_addr.specs.declared.network.Prefix.{Prefix}
 use Rattle.pol_labels.specs.declared.label.Label.{Label}
 use Rattle.pol_model.specs.declared.row.IdentityRow.{IdentityRow}
-use Rattle.pol_model.specs.Fault.{locals_held}
+use Rattle.pol_model.specs.Fault.{locals_held, locals_wanted}
 use Rattle.pol_model.specs.Identities.{free_number, is_local, is_reserved, local_first, one_more, recounted, with_holder, held_or_new, reserved_label}
 use Rattle.pol_model.specs.Numbers.{least_free, placed_by}
 use Rattle.pol_model.specs.Prefixes.{has_prefix, number_of_prefix, prefix_held}
-use Rattle.pol_plain.specs.Kept.{wanted}
 use Rattle.pol_plain.proofs.Counts.{count_by-mono, count_by-map, count_by-agree, none_found, list_any-insert, find-map}
 
 -- the number and the prefix of a row don't depend on its count
@@ -39,7 +38,7 @@ number_of_prefix-with_holder : (p : Prefix) (n : ℕ) (rows : List IdentityRow) 
 number_of_prefix-with_holder p n rows =
     find-map (λ row. has_prefix p row.prefix) (recounted n one_more) (λ row. row.number) (λ row. ap (has_prefix p) (recounted-prefix n one_more row)) (recounted-number n one_more) rows
 
-wanted-with_holder : (n : ℕ) (rows : List IdentityRow) (ps : List Prefix) → wanted (with_holder n rows) ps ≡ wanted rows ps
+wanted-with_holder : (n : ℕ) (rows : List IdentityRow) (ps : List Prefix) → locals_wanted (with_holder n rows) ps ≡ locals_wanted rows ps
 wanted-with_holder n rows ps = count_by-agree _ _ (λ p. ap is_none (number_of_prefix-with_holder p n rows)) ps
 
 locals_held-insert : (new : IdentityRow) (k : ℕ) (rows : List IdentityRow) → is_local new.number ≡ true → locals_held (insert rows k new) ≡ locals_held rows + 1
@@ -101,17 +100,17 @@ prefix_held_new p rows number labels none free world =
 pub free_local-fits : (rows : List IdentityRow) (n : ℕ) → locals_held rows + n ≤ 65535 → free_number local_first rows < 2 ^ 32
 free_local-fits rows n room = omega (arith, free_local-le rows)
 
-wanted-cons : (rows : List IdentityRow) (p : Prefix) (ps : List Prefix) → wanted rows (p ∷ ps) ≡ cond (is_none (number_of_prefix p rows)) 1 0 + wanted rows ps
+wanted-cons : (rows : List IdentityRow) (p : Prefix) (ps : List Prefix) → locals_wanted rows (p ∷ ps) ≡ cond (is_none (number_of_prefix p rows)) 1 0 + locals_wanted rows ps
 wanted-cons rows p ps = sum_by-cons (λ q. cond (is_none (number_of_prefix q rows)) 1 0) p ps
 
-room_at : (o : Option ℕ) (p : Prefix) (new : IdentityRow) (rows : List IdentityRow) (ps : List Prefix) → o ≡ number_of_prefix p rows → is_local new.number ≡ true → locals_held rows + (cond (is_none o) 1 0 + wanted rows ps) ≤ 65535 → locals_held (held_or_new o new rows) + wanted (held_or_new o new rows) ps ≤ 65535
+room_at : (o : Option ℕ) (p : Prefix) (new : IdentityRow) (rows : List IdentityRow) (ps : List Prefix) → o ≡ number_of_prefix p rows → is_local new.number ≡ true → locals_held rows + (cond (is_none o) 1 0 + locals_wanted rows ps) ≤ 65535 → locals_held (held_or_new o new rows) + locals_wanted (held_or_new o new rows) ps ≤ 65535
 room_at (Some n) p new rows ps is here room = omega (arith, locals_held-with_holder n rows, wanted-with_holder n rows ps)
 room_at None p new rows ps is here room =
     let k = count_by (λ row. nat_lt row.number new.number) rows in
-    let fewer : wanted (insert rows k new) ps ≤ wanted rows ps = count_by-mono _ _ (λ q none. none_before q new k rows none) ps in
+    let fewer : locals_wanted (insert rows k new) ps ≤ locals_wanted rows ps = count_by-mono _ _ (λ q none. none_before q new k rows none) ps in
     omega (arith, locals_held-insert new k rows here)
 
 -- once a prefix is held, there is room for the others
-pub held_room : (p : Prefix) (rows : List IdentityRow) (ps : List Prefix) → locals_held rows + wanted rows (p ∷ ps) ≤ 65535 → locals_held (prefix_held p rows) + wanted (prefix_held p rows) ps ≤ 65535
+pub held_room : (p : Prefix) (rows : List IdentityRow) (ps : List Prefix) → locals_held rows + locals_wanted rows (p ∷ ps) ≤ 65535 → locals_held (prefix_held p rows) + locals_wanted (prefix_held p rows) ps ≤ 65535
 held_room p rows ps room =
     room_at (number_of_prefix p rows) p (local_row (free_number local_first rows) (reserved_label (codes "world") ∷ []) p) rows ps refl (free_local-is_local rows) (omega (arith, wanted-cons rows p ps))

@@ -4,7 +4,7 @@ use Rattle.std.proofs.Math.ListN.{set}
 use Rattle.std.specs.List.{position, position_or_len}
 use Rattle.std.proofs.lemmas.Bool.{lt-ltb, le-ltb, cases_lt}
 use Rattle.pol_model.specs.declared.row.Stamped.{Stamped}
-use Rattle.pol_model.specs.Policies.{applied, has_key}
+use Rattle.pol_model.specs.Policies.{applied, is_of_key}
 
 -- the list with this element in place of the one at k, or last
 abbrev put_at : {X : Type 0} → ℕ → X → List X → List X
@@ -25,11 +25,11 @@ step : {X : Type 0} (b : Bool) (new x : X) (xs : List X) (k : ℕ) → cond b (n
 step true new x xs k = sym (put_at-first new x xs)
 step false new x xs k = sym (put_at-later new x xs k)
 
-applied_by : (new : Stamped) (xs : List Stamped) → applied new xs ≡ put_at (position_or_len (has_key new.policy.key) xs) new xs
+applied_by : (new : Stamped) (xs : List Stamped) → applied new xs ≡ put_at (position_or_len (is_of_key new.policy.key) xs) new xs
 applied_by new [] = refl
 applied_by new (x ∷ xs) =
-    ap (λ rest. cond (has_key new.policy.key x) (new ∷ xs) (x ∷ rest)) (applied_by new xs)
-    ∙ step (has_key new.policy.key x) new x xs (position_or_len (has_key new.policy.key) xs)
+    ap (λ rest. cond (is_of_key new.policy.key x) (new ∷ xs) (x ∷ rest)) (applied_by new xs)
+    ∙ step (is_of_key new.policy.key x) new x xs (position_or_len (is_of_key new.policy.key) xs)
 
 put_found : {X : Type 0} (b : Bool) (k i : ℕ) (new : X) (xs ys : List X) → Some i ≡ cond b (Some k) None → set xs i new ≡ cond b (set xs k new) ys
 put_found true k i new xs ys found = let e : i ≡ k = cc in ap (λ n. set xs n new) e
@@ -40,13 +40,13 @@ put_last true k xs ys found = cc
 put_last false k xs ys found = refl
 
 -- the policy of that key is there
-pub applied_at : (new : Stamped) (xs : List Stamped) (i : ℕ) → Some i ≡ position (has_key new.policy.key) xs → set xs i new ≡ applied new xs
+pub applied_at : (new : Stamped) (xs : List Stamped) (i : ℕ) → Some i ≡ position (is_of_key new.policy.key) xs → set xs i new ≡ applied new xs
 applied_at new xs i found =
-    put_found (nat_lt (position_or_len (has_key new.policy.key) xs) (length xs)) (position_or_len (has_key new.policy.key) xs) i new xs (xs ++ new ∷ []) found
+    put_found (nat_lt (position_or_len (is_of_key new.policy.key) xs) (length xs)) (position_or_len (is_of_key new.policy.key) xs) i new xs (xs ++ new ∷ []) found
     ∙ sym (applied_by new xs)
 
 -- no policy of that key is there
-pub applied_last : (new : Stamped) (xs : List Stamped) → None ≡ position (has_key new.policy.key) xs → xs ++ new ∷ [] ≡ applied new xs
+pub applied_last : (new : Stamped) (xs : List Stamped) → None ≡ position (is_of_key new.policy.key) xs → xs ++ new ∷ [] ≡ applied new xs
 applied_last new xs found =
-    put_last (nat_lt (position_or_len (has_key new.policy.key) xs) (length xs)) (position_or_len (has_key new.policy.key) xs) (set xs (position_or_len (has_key new.policy.key) xs) new) (xs ++ new ∷ []) found
+    put_last (nat_lt (position_or_len (is_of_key new.policy.key) xs) (length xs)) (position_or_len (is_of_key new.policy.key) xs) (set xs (position_or_len (is_of_key new.policy.key) xs) new) (xs ++ new ∷ []) found
     ∙ sym (applied_by new xs)

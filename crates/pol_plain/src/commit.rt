@@ -1,4 +1,4 @@
-//! What is committed: the faults of requests, and how each changes the state.
+//! What is committed: how each request changes the state.
 ghost use Rattle.std.specs.Prelude.{◌≡◌, ◌<◌, ◌-◌, ◌^◌, IfOk, OnOk, OnErr, IfErr};
 ghost use Rattle.pol_model.specs.After.{after};
 ghost use Rattle.pol_model.specs.Committed.{committed_of, identity_given, slots_of};
@@ -6,58 +6,21 @@ ghost use Rattle.pol_model.specs.Fault.{fault_of};
 ghost use Rattle.pol_model.specs.Sizes.{IsShort, IsShortPolicy};
 ghost use Rattle.pol_plain.specs.Core.{IsCause};
 
-use crate::endpoints::{add_endpoint, count_slots, remove_endpoint};
-use crate::faults::{
-    endpoint_fault, identity_fault, locals_fault, unknown_endpoint, unknown_identity,
-    unknown_policy,
-};
+use crate::endpoints::{count_slots, place_endpoint, remove_endpoint};
 use crate::holdings::{rows_applied, rows_removed};
+use crate::identities::hold_labels;
 use crate::named::{add_named, remove_named};
+use crate::numbers::least_slot;
 use crate::plain::Plain;
 use crate::policies::{put_policy, remove_policy};
-use crate::prefixes::policy_prefixes;
 use pol_addr::Addr;
 use pol_data::{Memory, Text};
 use pol_labels::LabelSet;
-use pol_model::{CommitError, Committed, Fault, Mode, Refused, Request, Stamped};
+use pol_model::{CommitError, Committed, Endpoint, Mode, Refused, Request, Stamped};
 use pol_rule::{Policy, PolicyKey};
 use std::alloc::Global;
 
 impl Plain {
-    /// The fault of the request in the present state, if it has one. The one error is want of memory.
-    pub fn fault(&self, alloc: Global, request: &Request) -> Result<Option<Fault>, Memory>
-        ensures { IfOk result (λ fault. fault ≡ fault_of self.now.options self.now.state request.now) }
-    {
-        let rows = self.identities.as_slice();
-        let endpoints = self.endpoints.as_slice();
-        let named = self.named.as_slice();
-        match request {
-            Request::AddEndpoint {
-                name,
-                labels,
-                address,
-            } => Ok(endpoint_fault(
-                self.options,
-                endpoints,
-                rows,
-                name.as_str(),
-                labels,
-                *address,
-            )),
-            Request::RemoveEndpoint { name } => Ok(unknown_endpoint(endpoints, name.as_str())),
-            Request::AddIdentity { name, labels } => {
-                Ok(identity_fault(named, rows, name.as_str(), labels))
-            }
-            Request::RemoveIdentity { name } => Ok(unknown_identity(named, name.as_str())),
-            Request::Apply(policy) => {
-                let prefixes = policy_prefixes(alloc, policy)?;
-                Ok(locals_fault(rows, &prefixes))
-            }
-            Request::Remove(key) => Ok(unknown_policy(self.policies.as_slice(), key)),
-            Request::SetMode(_) => Ok(None),
-        }
-    }
-
     /// A new endpoint; it answers the number that the endpoint holds.
     pub(crate) fn add_endpoint(
         &mut self,
@@ -72,17 +35,25 @@ impl Plain {
         ensures number { IfOk result (λ number. Some number ≡ identity_given self.new.state (Request.AddEndpoint name labels address)) }
         ensures stays { OnErr result (self.new ≡ self.old) }
     {
-        let number = add_endpoint(
-            alloc,
-            &mut self.identities,
+        self.identities.reserve(1)?;
+        self.endpoints.reserve(1)?;
+        let held = labels.copy(alloc)?;
+        let slot = least_slot(&self.endpoints) as u32;
+        let identity = hold_labels(&mut self.identities, held);
+        let added = self.revision + 1;
+        place_endpoint(
             &mut self.endpoints,
-            name,
-            labels,
-            address,
-            self.revision + 1,
-        )?;
-        self.revision += 1;
-        Ok(number)
+            Endpoint {
+                name,
+                slot,
+                added,
+                labels,
+                identity,
+                address,
+            },
+        );
+        self.revision = added;
+        Ok(identity)
     }
 
     /// The endpoint of that name goes.

@@ -1,23 +1,16 @@
 //! Live endpoints: found by name, added and removed.
-ghost use Rattle.std.specs.Prelude.{◌≡◌, ◌<◌, vec_len, length, is_some, false, IfOk, OnOk, OnErr, option_map};
+ghost use Rattle.std.specs.Prelude.{◌≡◌, ◌<◌, vec_len, is_some, option_map};
 ghost use Rattle.std.specs.List.{AllByRecursion};
 ghost use Rattle.std.specs.Str.{bytes_eq};
 ghost use Rattle.std.specs.Vec.{vec_capacity};
 ghost use Rattle.pol_model.specs.Committed.{slots_of};
 ghost use Rattle.std.specs.Option.{option_copied};
 ghost use Rattle.pol_model.specs.Endpoints.{endpoint_of, without_endpoint};
-ghost use Rattle.pol_model.specs.Fault.{is_exhausted};
-ghost use Rattle.pol_model.specs.Identities.{labels_held, number_for, number_released};
+ghost use Rattle.pol_model.specs.Identities.{number_released};
 ghost use Rattle.pol_model.specs.Numbers.{placed_by};
-ghost use Rattle.pol_plain.specs.Added.{added_endpoint};
 
-use crate::identities::{hold_labels, release_number};
-use crate::numbers::least_slot;
-use pol_addr::Addr;
-use pol_data::{Memory, Text};
-use pol_labels::LabelSet;
+use crate::identities::release_number;
 use pol_model::{Endpoint, IdentityRow};
-use std::alloc::Global;
 
 /// The live endpoint of that name.
 pub fn find_endpoint<'a>(endpoints: &'a [Endpoint], name: &str) -> Option<&'a Endpoint>
@@ -36,7 +29,7 @@ pub fn is_live(endpoints: &[Endpoint], name: &str) -> bool
 }
 
 /// Places an endpoint behind those of lesser slots. It takes no memory.
-fn place_endpoint(endpoints: &mut Vec<Endpoint>, new: Endpoint)
+pub fn place_endpoint(endpoints: &mut Vec<Endpoint>, new: Endpoint)
     requires { vec_len endpoints.old < vec_capacity endpoints.old }
     ensures { endpoints.new.items ≡ placed_by (λ endpoint. endpoint.slot) new endpoints.old.items }
 {
@@ -47,46 +40,8 @@ fn place_endpoint(endpoints: &mut Vec<Endpoint>, new: Endpoint)
     endpoints.insert(place, new).unwrap();
 }
 
-/// Adds an endpoint, which holds the number of its labels and takes the least free slot, and answers
-/// that number. After want of memory both lists are as before.
-pub fn add_endpoint(
-    alloc: Global,
-    rows: &mut Vec<IdentityRow>,
-    endpoints: &mut Vec<Endpoint>,
-    name: Text,
-    labels: LabelSet,
-    address: Addr,
-    added: u64,
-) -> Result<u32, Memory>
-    requires free { is_exhausted labels rows.old.items ≡ false }
-    requires room { length endpoints.old.items < 256 }
-    ensures rows { OnOk result (rows.new.items ≡ labels_held labels rows.old.items) }
-    ensures endpoints { OnOk result (endpoints.new.items ≡ placed_by (λ endpoint. endpoint.slot) (added_endpoint rows.old.items endpoints.old.items name labels address added) endpoints.old.items) }
-    ensures number { IfOk result (λ number. number ≡ number_for labels rows.old.items) }
-    ensures rows_stay { OnErr result (rows.new.items ≡ rows.old.items) }
-    ensures endpoints_stay { OnErr result (endpoints.new.items ≡ endpoints.old.items) }
-{
-    rows.reserve(1)?;
-    endpoints.reserve(1)?;
-    let held = labels.copy(alloc)?;
-    let slot = least_slot(endpoints) as u32;
-    let identity = hold_labels(rows, held);
-    place_endpoint(
-        endpoints,
-        Endpoint {
-            name,
-            slot,
-            added,
-            labels,
-            identity,
-            address,
-        },
-    );
-    Ok(identity)
-}
-
 /// The number that the endpoint of that name holds.
-fn number_at(endpoints: &[Endpoint], name: &str) -> Option<u32>
+fn number_of_name(endpoints: &[Endpoint], name: &str) -> Option<u32>
     ensures { result ≡ option_map (λ endpoint. endpoint.identity) (endpoint_of name.now endpoints.now) }
 {
     match find_endpoint(endpoints, name) {
@@ -112,7 +67,7 @@ pub fn remove_endpoint(rows: &mut Vec<IdentityRow>, endpoints: &mut Vec<Endpoint
     ensures rows { rows.new.items ≡ number_released (option_map (λ endpoint. endpoint.identity) (endpoint_of name.now endpoints.old.items)) rows.old.items }
     ensures endpoints { endpoints.new.items ≡ without_endpoint name.now endpoints.old.items }
 {
-    release_number(rows, number_at(endpoints, name));
+    release_number(rows, number_of_name(endpoints, name));
     drop_endpoint(endpoints, name);
 }
 

@@ -1,8 +1,8 @@
 //! Which rules select an endpoint, and whether a direction is enforced.
 ghost use Rattle.std.specs.Prelude.{◌≡◌};
+ghost use Rattle.std.specs.List.{list_any};
 ghost use Rattle.pol_rule.specs.Covers.{section_of};
-ghost use Rattle.pol_model.specs.Enforced.{allow_section, deny_section, rule_says, rule_selects};
-ghost use Rattle.pol_plain.specs.Rules.{some_says, some_selecting, enforced_by};
+ghost use Rattle.pol_model.specs.Enforced.{allow_section, deny_section, enforced, has_rule, rule_says, rule_selects};
 
 use crate::matching::matches_selector;
 use pol_model::{Endpoint, Mode, Stamped};
@@ -55,9 +55,12 @@ fn says(rule: &Rule, dir: Direction) -> bool
     !entries_of(rule, allows_in(dir)).is_empty() || !entries_of(rule, denies_in(dir)).is_empty()
 }
 
-fn policy_says(rules: &[Rule], endpoint: &Endpoint, dir: Direction) -> bool
-    ensures { result ≡ some_selecting (rule_says dir) endpoint.now rules.now }
+/// Whether some rule of the policy that selects the endpoint does so.
+#[tactic(auto, unfolding(pol_model::specs::Enforced::has_rule))]
+fn policy_says(stamped: &Stamped, endpoint: &Endpoint, dir: Direction) -> bool
+    ensures { result ≡ has_rule (rule_says dir) endpoint.now stamped.now }
 {
+    let rules = stamped.policy.rules.as_slice();
     rules
         .iter()
         .any(|rule| selects_endpoint(rule, endpoint) && says(rule, dir))
@@ -65,14 +68,16 @@ fn policy_says(rules: &[Rule], endpoint: &Endpoint, dir: Direction) -> bool
 
 /// Whether some rule that selects the endpoint speaks of the direction.
 fn some_rule_says(policies: &[Stamped], endpoint: &Endpoint, dir: Direction) -> bool
-    ensures { result ≡ some_says endpoint.now policies.now dir }
+    ensures { result ≡ list_any (has_rule (rule_says dir) endpoint.now) policies.now }
 {
-    policies.iter().any(|stamped| policy_says(stamped.policy.rules.as_slice(), endpoint, dir))
+    policies
+        .iter()
+        .any(|stamped| policy_says(stamped, endpoint, dir))
 }
 
 /// Whether the direction of the endpoint is enforced.
 pub fn is_enforced(mode: Mode, policies: &[Stamped], endpoint: &Endpoint, dir: Direction) -> bool
-    ensures { result ≡ enforced_by mode endpoint.now policies.now dir }
+    ensures { result ≡ enforced mode policies.now endpoint.now dir }
 {
     match mode {
         Mode::Always => true,

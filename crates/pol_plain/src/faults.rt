@@ -1,22 +1,22 @@
 //! Why a request is refused: the first fault that holds, in the stated order.
-ghost use Rattle.std.specs.Prelude.{◌≡◌, is_none};
+ghost use Rattle.std.specs.Prelude.{◌≡◌, IfOk};
 ghost use Rattle.std.specs.List.{list_any};
 ghost use Rattle.pol_addr.specs.Address.{same_addr};
-ghost use Rattle.pol_model.specs.Endpoints.{endpoint_of, named_of};
-ghost use Rattle.pol_model.specs.Fault.{fault_if};
-ghost use Rattle.pol_model.specs.Policies.{policy_of};
-ghost use Rattle.pol_plain.specs.Faults.{is_taken_by, endpoint_fault, identity_fault, locals_fault};
+ghost use Rattle.pol_model.specs.Fault.{fault_if, fault_of, is_taken};
 
 use crate::endpoints::{find_endpoint, is_live};
 use crate::identities::is_exhausted;
 use crate::labels::{has_reserved, is_init};
 use crate::named::{find_named, is_named};
+use crate::plain::Plain;
 use crate::policies::find_policy;
-use crate::prefixes::{locals_held, locals_wanted};
-use pol_addr::{Addr, Prefix};
+use crate::prefixes::{locals_held, locals_wanted, policy_prefixes};
+use pol_addr::Addr;
+use pol_data::Memory;
 use pol_labels::LabelSet;
-use pol_model::{Endpoint, Fault, IdentityRow, NamedIdentity, Options, Stamped};
-use pol_rule::PolicyKey;
+use pol_model::{Endpoint, Fault, Options, Request};
+use pol_rule::Policy;
+use std::alloc::Global;
 
 /// How many endpoints may be live.
 const ENDPOINTS_MAX: usize = 256;
@@ -32,96 +32,92 @@ fn has_address(endpoints: &[Endpoint], address: Addr) -> bool
 
 /// Whether a live endpoint has the address, as far as addresses are kept.
 fn is_taken(options: Options, endpoints: &[Endpoint], address: Addr) -> bool
-    ensures { result ≡ is_taken_by options endpoints.now address }
+    ensures { result ≡ is_taken options endpoints.now address }
 {
     options.addresses && has_address(endpoints, address)
 }
 
-/// The fault of a new endpoint.
-pub fn endpoint_fault(
-    options: Options,
-    endpoints: &[Endpoint],
-    rows: &[IdentityRow],
-    name: &str,
-    labels: &LabelSet,
-    address: Addr,
-) -> Option<Fault>
-    ensures { result ≡ endpoint_fault options endpoints.now rows.now name.now labels.now address }
+/// The fault, where this holds.
+fn fault_where(holds: bool, fault: Fault) -> Option<Fault>
+    ensures { result ≡ fault_if holds fault None }
 {
-    if has_reserved(labels) && !is_init(labels) {
-        Some(Fault::ReservedLabel)
-    } else if is_live(endpoints, name) {
-        Some(Fault::DuplicateEndpoint)
-    } else if ENDPOINTS_MAX <= endpoints.len() {
-        Some(Fault::EndpointsFull)
-    } else if is_taken(options, endpoints, address) {
-        Some(Fault::AddressTaken)
-    } else if is_exhausted(rows, labels) {
-        Some(Fault::IdentitiesExhausted)
-    } else {
-        None
-    }
+    if holds { Some(fault) } else { None }
 }
 
-/// The fault of a new named identity.
-pub fn identity_fault(
-    named: &[NamedIdentity],
-    rows: &[IdentityRow],
-    name: &str,
-    labels: &LabelSet,
-) -> Option<Fault>
-    ensures { result ≡ identity_fault named.now rows.now name.now labels.now }
-{
-    if has_reserved(labels) {
-        Some(Fault::ReservedLabel)
-    } else if is_named(named, name) {
-        Some(Fault::DuplicateIdentityName)
-    } else if is_exhausted(rows, labels) {
-        Some(Fault::IdentitiesExhausted)
-    } else {
-        None
+impl Plain {
+    /// The fault of a new endpoint.
+    fn endpoint_fault(&self, name: &str, labels: &LabelSet, address: Addr) -> Option<Fault>
+        ensures { result ≡ fault_of self.now.options self.now.state (Request.AddEndpoint name.now labels.now address) }
+    {
+        if has_reserved(labels) && !is_init(labels) {
+            Some(Fault::ReservedLabel)
+        } else if is_live(&self.endpoints, name) {
+            Some(Fault::DuplicateEndpoint)
+        } else if ENDPOINTS_MAX <= self.endpoints.len() {
+            Some(Fault::EndpointsFull)
+        } else if is_taken(self.options, &self.endpoints, address) {
+            Some(Fault::AddressTaken)
+        } else if is_exhausted(&self.identities, labels) {
+            Some(Fault::IdentitiesExhausted)
+        } else {
+            None
+        }
     }
-}
 
-/// The fault of a policy that holds these prefixes.
-#[tactic(auto, using(crate::proofs::Room::too_many))]
-pub fn locals_fault(rows: &[IdentityRow], prefixes: &[Prefix]) -> Option<Fault>
-    ensures { result ≡ locals_fault rows.now prefixes.now }
-{
-    let held = locals_held(rows);
-    if LOCALS_MAX < held || LOCALS_MAX - held < locals_wanted(rows, prefixes) {
-        Some(Fault::LocalExhausted)
-    } else {
-        None
+    /// The fault of a new named identity.
+    fn identity_fault(&self, name: &str, labels: &LabelSet) -> Option<Fault>
+        ensures { result ≡ fault_of self.now.options self.now.state (Request.AddIdentity name.now labels.now) }
+    {
+        if has_reserved(labels) {
+            Some(Fault::ReservedLabel)
+        } else if is_named(&self.named, name) {
+            Some(Fault::DuplicateIdentityName)
+        } else if is_exhausted(&self.identities, labels) {
+            Some(Fault::IdentitiesExhausted)
+        } else {
+            None
+        }
     }
-}
 
-/// The fault where no endpoint of that name is live.
-pub fn unknown_endpoint(endpoints: &[Endpoint], name: &str) -> Option<Fault>
-    ensures { result ≡ fault_if (is_none (endpoint_of name.now endpoints.now)) Fault.UnknownEndpoint None }
-{
-    match find_endpoint(endpoints, name) {
-        Some(_) => None,
-        None => Some(Fault::UnknownEndpoint),
+    /// The fault of a policy.
+    #[tactic(auto, using(crate::proofs::Room::too_many))]
+    fn policy_fault(&self, alloc: Global, policy: &Policy) -> Result<Option<Fault>, Memory>
+        ensures { IfOk result (λ fault. fault ≡ fault_of self.now.options self.now.state (Request.Apply policy.now)) }
+    {
+        let prefixes = policy_prefixes(alloc, policy)?;
+        let held = locals_held(&self.identities);
+        if LOCALS_MAX < held || LOCALS_MAX - held < locals_wanted(&self.identities, &prefixes) {
+            Ok(Some(Fault::LocalExhausted))
+        } else {
+            Ok(None)
+        }
     }
-}
 
-/// The fault where no named identity of that name is there.
-pub fn unknown_identity(named: &[NamedIdentity], name: &str) -> Option<Fault>
-    ensures { result ≡ fault_if (is_none (named_of name.now named.now)) Fault.UnknownIdentityName None }
-{
-    match find_named(named, name) {
-        Some(_) => None,
-        None => Some(Fault::UnknownIdentityName),
-    }
-}
-
-/// The fault where no policy has that key.
-pub fn unknown_policy(policies: &[Stamped], key: &PolicyKey) -> Option<Fault>
-    ensures { result ≡ fault_if (is_none (policy_of key.now policies.now)) Fault.UnknownPolicy None }
-{
-    match find_policy(policies, key) {
-        Some(_) => None,
-        None => Some(Fault::UnknownPolicy),
+    /// The fault of the request in the present state, if it has one. The one error is want of memory.
+    pub fn fault(&self, alloc: Global, request: &Request) -> Result<Option<Fault>, Memory>
+        ensures { IfOk result (λ fault. fault ≡ fault_of self.now.options self.now.state request.now) }
+    {
+        match request {
+            Request::AddEndpoint {
+                name,
+                labels,
+                address,
+            } => Ok(self.endpoint_fault(name.as_str(), labels, *address)),
+            Request::RemoveEndpoint { name } => {
+                let none = find_endpoint(&self.endpoints, name.as_str()).is_none();
+                Ok(fault_where(none, Fault::UnknownEndpoint))
+            }
+            Request::AddIdentity { name, labels } => Ok(self.identity_fault(name.as_str(), labels)),
+            Request::RemoveIdentity { name } => {
+                let none = find_named(&self.named, name.as_str()).is_none();
+                Ok(fault_where(none, Fault::UnknownIdentityName))
+            }
+            Request::Apply(policy) => self.policy_fault(alloc, policy),
+            Request::Remove(key) => {
+                let none = find_policy(&self.policies, key).is_none();
+                Ok(fault_where(none, Fault::UnknownPolicy))
+            }
+            Request::SetMode(_) => Ok(None),
+        }
     }
 }

@@ -1,7 +1,7 @@
 //! The rows of identities once a policy comes or goes.
 ghost use Rattle.std.specs.Prelude.{◌≡◌, ◌+◌, ◌≤◌, IfOk};
 ghost use Rattle.pol_model.specs.Fault.{locals_held, locals_wanted};
-ghost use Rattle.pol_model.specs.Policies.{policy_of, prefixes_of, identities_without};
+ghost use Rattle.pol_model.specs.Policies.{policy_at, prefixes_of, identities_without};
 ghost use Rattle.pol_model.specs.Prefixes.{policy_prefixes, prefixes_held, prefixes_released};
 
 use crate::policies::find_policy;
@@ -14,7 +14,7 @@ use std::alloc::Global;
 
 /// The prefixes that go with the policy of that key.
 fn prefixes_at(alloc: Global, policies: &[Stamped], key: &PolicyKey) -> Result<Vec<Prefix>, Memory>
-    ensures { IfOk result (λ prefixes. prefixes.items ≡ prefixes_of (policy_of key.now policies.now)) }
+    ensures { IfOk result (λ prefixes. prefixes.items ≡ prefixes_of (policy_at key.now policies.now)) }
 {
     match find_policy(policies, key) {
         Some(stamped) => policy_prefixes(alloc, &stamped.policy),
@@ -30,8 +30,8 @@ pub fn rows_applied(
     policies: &[Stamped],
     policy: &Policy,
 ) -> Result<Vec<IdentityRow>, Memory>
-    requires { locals_held rows.now + locals_wanted policy.now rows.now ≤ 65535 }
-    ensures { IfOk result (λ made. made.items ≡ prefixes_released (prefixes_of (policy_of policy.now.key policies.now)) (prefixes_held (policy_prefixes policy.now) rows.now)) }
+    requires { locals_held rows.now + locals_wanted rows.now (policy_prefixes policy.now) ≤ 65535 }
+    ensures { IfOk result (λ made. made.items ≡ prefixes_released (prefixes_of (policy_at policy.now.key policies.now)) (prefixes_held (policy_prefixes policy.now) rows.now)) }
 {
     let new = policy_prefixes(alloc, policy)?;
     let old = prefixes_at(alloc, policies, &policy.key)?;

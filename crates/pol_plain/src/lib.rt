@@ -25,3 +25,6 @@ mod selects;
 mod verdict;
 
 pub use plain::Plain;
+
+#[cfg(test)]
+mod tests;

@@ -4,38 +4,36 @@ ghost use Rattle.std.specs.List.{AllByRecursion};
 ghost use Rattle.std.specs.Option.{option_copied};
 ghost use Rattle.pol_rule.specs.Covers.{covers};
 ghost use Rattle.pol_model.specs.Enforced.{rule_selects};
-ghost use Rattle.pol_model.specs.Explain.{entry_places, rule_places};
+ghost use Rattle.pol_model.specs.Explain.{covering_places, covers_query, entry_places, rule_places};
 ghost use Rattle.pol_model.specs.Selects.{known_of, selects};
-ghost use Rattle.pol_plain.specs.Core.{places_by};
 ghost use Rattle.pol_model.specs.Sizes.{HasShortSections, IsShortPolicy};
 
 use crate::covers::covers_packet;
 use crate::enforced::{entries_of, selects_endpoint};
+use crate::plain::Plain;
+use crate::remote::find_row;
 use pol_data::Memory;
-use pol_model::{Endpoint, IdentityRow, Places, Stamped};
-use pol_ports::Proto;
-use pol_rule::{Entry, Place, Policy, PolicyKey, Rule, Section};
+use pol_model::{Endpoint, IdentityRow, Places, Query, Stamped};
+use pol_rule::{Entry, Place, Policy, PolicyKey, Section};
 use std::alloc::Global;
 
-/// Appends the places of the entries that cover the packet.
+/// Appends the places of the entries that cover the query's packet.
 fn push_entries(
-    alloc: Global,
     out: &mut Vec<Place>,
     key: &PolicyKey,
     rule: u32,
     section: Section,
     entries: &[Entry],
     row: Option<&IdentityRow>,
-    proto: Proto,
-    port: u16,
+    query: &Query,
 ) -> Result<(), Memory>
     requires { length entries.now < 2 ^ 32 }
-    ensures { OnOk result (out.new.items ≡ out.old.items ++ entry_places (covers (selects (known_of (option_copied row.entry))) proto port) key.now rule section 0 entries.now) }
+    ensures { OnOk result (out.new.items ≡ out.old.items ++ entry_places (covers (selects (known_of (option_copied row.entry))) query.now.proto query.now.port) key.now rule section 0 entries.now) }
 {
     for (i, entry) in entries.iter().enumerate() {
-        if covers_packet(entry, row, proto, port) {
+        if covers_packet(entry, row, query.proto, query.port) {
             out.push(Place {
-                key: key.copy(alloc)?,
+                key: key.copy(*out.allocator())?,
                 rule,
                 section,
                 entry: i as u32,
@@ -45,60 +43,59 @@ fn push_entries(
     Ok(())
 }
 
-/// Appends the places in that section of the rules that select the endpoint.
-fn push_rules(
-    alloc: Global,
+/// Appends the places in that section of the policy's rules that select the endpoint.
+fn push_policy(
     out: &mut Vec<Place>,
-    key: &PolicyKey,
-    rules: &[Rule],
+    policy: &Policy,
     endpoint: &Endpoint,
     section: Section,
     row: Option<&IdentityRow>,
-    proto: Proto,
-    port: u16,
+    query: &Query,
 ) -> Result<(), Memory>
-    requires rules { length rules.now < 2 ^ 32 }
-    requires sections { AllByRecursion HasShortSections rules.now }
-    ensures { OnOk result (out.new.items ≡ out.old.items ++ rule_places (rule_selects endpoint.now) (covers (selects (known_of (option_copied row.entry))) proto port) key.now section 0 rules.now) }
+    requires rules { length policy.now.rules < 2 ^ 32 }
+    requires sections { AllByRecursion HasShortSections policy.now.rules }
+    ensures { OnOk result (out.new.items ≡ out.old.items ++ rule_places (rule_selects endpoint.now) (covers (selects (known_of (option_copied row.entry))) query.now.proto query.now.port) policy.now.key section 0 policy.now.rules) }
 {
-    for (i, rule) in rules.iter().enumerate() {
+    for (i, rule) in policy.rules.as_slice().iter().enumerate() {
         if selects_endpoint(rule, endpoint) {
             let entries = entries_of(rule, section);
-            push_entries(
-                alloc, out, key, i as u32, section, entries, row, proto, port,
-            )?;
+            push_entries(out, &policy.key, i as u32, section, entries, row, query)?;
         }
     }
     Ok(())
 }
 
-/// The places of the entries of that section that cover the packet, in policy, rule and entry order.
-pub fn places_in(
+/// The places of the entries of that section that cover the query's packet, in policy, rule and entry order.
+fn places_in(
     alloc: Global,
     policies: &[Stamped],
     endpoint: &Endpoint,
     section: Section,
     row: Option<&IdentityRow>,
-    proto: Proto,
-    port: u16,
+    query: &Query,
 ) -> Result<Places, Memory>
     requires { AllByRecursion (λ stamped. IsShortPolicy stamped.policy) policies.now }
-    ensures { IfOk result (λ places. places ≡ places_by endpoint.now policies.now section (covers (selects (known_of (option_copied row.entry))) proto port)) }
+    ensures { IfOk result (λ places. places ≡ covering_places policies.now endpoint.now section (covers (selects (known_of (option_copied row.entry))) query.now.proto query.now.port)) }
 {
     let mut out = Vec::new(alloc);
     for stamped in policies {
-        let Policy { key, rules } = &stamped.policy;
-        push_rules(
-            alloc,
-            &mut out,
-            key,
-            rules.as_slice(),
-            endpoint,
-            section,
-            row,
-            proto,
-            port,
-        )?;
+        push_policy(&mut out, &stamped.policy, endpoint, section, row, query)?;
     }
     Ok(Places::from_vec(out))
+}
+
+impl Plain {
+    /// The places of the entries of that section that cover the query's packet.
+    pub(crate) fn places(
+        &self,
+        alloc: Global,
+        endpoint: &Endpoint,
+        section: Section,
+        query: &Query,
+    ) -> Result<Places, Memory>
+        ensures { IfOk result (λ places. places ≡ covering_places self.now.state.policies endpoint.now section (covers_query self.now.state query.now)) }
+    {
+        let row = find_row(&self.identities, self.remote(query.remote));
+        places_in(alloc, &self.policies, endpoint, section, row, query)
+    }
 }

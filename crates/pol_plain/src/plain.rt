@@ -1,17 +1,14 @@
 //! The plain program's state and what is asked of it.
-ghost use Rattle.std.specs.Prelude.{◌≡◌, IfOk, is_some};
+ghost use Rattle.std.specs.Prelude.{◌≡◌, IfOk, is_some, option_map};
 ghost use Rattle.pol_model.specs.After.{start};
 ghost use Rattle.pol_model.specs.Endpoints.{endpoint_of};
 ghost use Rattle.pol_model.specs.Explain.{explain_for, explain_of};
-ghost use Rattle.pol_model.specs.Remote.{remote_number};
-ghost use Rattle.pol_plain.specs.Core.{verdict_answer};
+ghost use Rattle.pol_model.specs.Remote.{remote_number, verdict_for};
 
-use crate::endpoints::find_endpoint;
+use crate::endpoints::{find_endpoint, is_live};
 use crate::enforced::{allows_in, denies_in};
-use crate::places::places_in;
-use crate::remote::{find_row, number_of};
+use crate::remote::number_at;
 use crate::reserved::reserved_rows;
-use crate::verdict::verdict_at;
 use pol_data::Memory;
 use pol_mapkey::Word;
 use pol_model::{
@@ -79,37 +76,28 @@ impl Plain {
     pub fn endpoint_is_live(&self, name: &str) -> bool
         ensures { result ≡ is_some (endpoint_of name.now self.now.state.endpoints) }
     {
-        find_endpoint(self.endpoints.as_slice(), name).is_some()
+        is_live(&self.endpoints, name)
     }
 
     /// The identity number that a remote stands for.
     pub fn remote(&self, remote: Remote) -> u32
         ensures { result ≡ remote_number self.now.state remote }
     {
-        number_of(
-            self.endpoints.as_slice(),
-            self.identities.as_slice(),
-            remote,
-        )
+        match remote {
+            Remote::Identity(number) => number,
+            Remote::Address(address) => number_at(&self.endpoints, &self.identities, address),
+        }
     }
 
     /// The verdict on the packet that the query names; `None` exactly where no endpoint of that name is
     /// live. It takes no memory.
     pub fn verdict(&self, query: &Query) -> Option<Word>
-        ensures { result ≡ verdict_answer self.now.options self.now.state query.now }
+        ensures { result ≡ option_map (verdict_for self.now.options self.now.state query.now) (endpoint_of query.now.endpoint self.now.state.endpoints) }
     {
-        let number = self.remote(query.remote);
-        let endpoint = find_endpoint(self.endpoints.as_slice(), query.endpoint.as_str())?;
-        let (policies, rows) = (self.policies.as_slice(), self.identities.as_slice());
-        Some(verdict_at(
-            self.options,
-            self.mode,
-            policies,
-            rows,
-            endpoint,
-            query,
-            number,
-        ))
+        match find_endpoint(&self.endpoints, query.endpoint.as_str()) {
+            Some(endpoint) => Some(self.verdict_at(query, endpoint)),
+            None => None,
+        }
     }
 
     /// Why the packet that the query names is allowed or denied: the verdict, the number of the other
@@ -127,47 +115,11 @@ impl Plain {
     fn trace(&self, alloc: Global, query: &Query, endpoint: &Endpoint) -> Result<Trace, Memory>
         ensures { IfOk result (λ trace. trace ≡ explain_for self.now.options self.now.state query.now endpoint.now) }
     {
-        let remote = self.remote(query.remote);
-        let (policies, rows) = (self.policies.as_slice(), self.identities.as_slice());
-        let Query {
-            dir,
-            proto,
-            port,
-            ..
-        } = query;
-        let row = find_row(rows, remote);
-        let word = verdict_at(
-            self.options,
-            self.mode,
-            policies,
-            rows,
-            endpoint,
-            query,
-            remote,
-        );
-        let denies = places_in(
-            alloc,
-            policies,
-            endpoint,
-            denies_in(*dir),
-            row,
-            *proto,
-            *port,
-        )?;
-        let allows = places_in(
-            alloc,
-            policies,
-            endpoint,
-            allows_in(*dir),
-            row,
-            *proto,
-            *port,
-        )?;
         Ok(Trace {
-            word,
-            remote,
-            denies,
-            allows,
+            word: self.verdict_at(query, endpoint),
+            remote: self.remote(query.remote),
+            denies: self.places(alloc, endpoint, denies_in(query.dir), query)?,
+            allows: self.places(alloc, endpoint, allows_in(query.dir), query)?,
         })
     }
 }

@@ -2,21 +2,21 @@
 ghost use Rattle.std.specs.Prelude.{◌≡◌, ◌<◌, vec_len, position};
 ghost use Rattle.std.specs.Vec.{vec_capacity};
 ghost use Rattle.std.specs.Option.{option_copied};
-ghost use Rattle.pol_model.specs.Policies.{applied, has_key, policy_of, removed};
+ghost use Rattle.pol_model.specs.Policies.{applied, is_of_key, policy_at, removed};
 
 use pol_model::Stamped;
 use pol_rule::PolicyKey;
 
 /// The policy of that key.
 pub fn find_policy<'a>(policies: &'a [Stamped], key: &PolicyKey) -> Option<&'a Stamped>
-    ensures { option_copied result ≡ policy_of key.now policies.now }
+    ensures { option_copied result ≡ policy_at key.now policies.now }
 {
     policies.iter().find(|stamped| stamped.policy.key.is(key))
 }
 
 /// The place of the policy of that key.
 fn place_of(policies: &[Stamped], key: &PolicyKey) -> Option<usize>
-    ensures { result ≡ position (has_key key.now) policies.now }
+    ensures { result ≡ position (is_of_key key.now) policies.now }
 {
     policies
         .iter()

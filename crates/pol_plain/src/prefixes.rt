@@ -4,7 +4,7 @@ ghost use Rattle.std.specs.List.{flat_map};
 ghost use Rattle.pol_model.specs.Fault.{locals_held, locals_wanted};
 ghost use Rattle.pol_model.specs.Identities.{free_number, local_first};
 ghost use Rattle.pol_model.specs.Prefixes.{peer_prefixes, entry_prefixes, rule_prefixes, policy_prefixes, distinct, number_of_prefix, prefix_held, prefix_released, prefixes_held, prefixes_released, has_prefix};
-ghost use Rattle.pol_plain.specs.Kept.{is_kept, wanted};
+ghost use Rattle.pol_plain.specs.Kept.{is_kept};
 
 use crate::identities::{LOCAL_FIRST, add_holder, place_row, release};
 use crate::numbers::least_number;
@@ -131,7 +131,7 @@ pub fn locals_held(rows: &[IdentityRow]) -> usize
 
 /// How many of the prefixes have no number.
 pub fn locals_wanted(rows: &[IdentityRow], prefixes: &[Prefix]) -> usize
-    ensures { result ≡ wanted rows.now prefixes.now }
+    ensures { result ≡ locals_wanted rows.now prefixes.now }
 {
     prefixes
         .iter()
@@ -173,7 +173,7 @@ fn hold_prefixes(
     rows: &mut Vec<IdentityRow>,
     prefixes: &[Prefix],
 ) -> Result<(), Memory>
-    requires { locals_held rows.old.items + wanted rows.old.items prefixes.now ≤ 65535 }
+    requires { locals_held rows.old.items + locals_wanted rows.old.items prefixes.now ≤ 65535 }
     ensures { OnOk result (rows.new.items ≡ prefixes_held prefixes.now rows.old.items) }
 {
     for prefix in prefixes {
@@ -229,7 +229,7 @@ pub fn rows_with(
     new: &[Prefix],
     old: &[Prefix],
 ) -> Result<Vec<IdentityRow>, Memory>
-    requires { locals_held rows.now + wanted rows.now new.now ≤ 65535 }
+    requires { locals_held rows.now + locals_wanted rows.now new.now ≤ 65535 }
     ensures { IfOk result (λ made. made.items ≡ prefixes_released old.now (prefixes_held new.now rows.now)) }
 {
     let mut made = copy_rows(alloc, rows)?;

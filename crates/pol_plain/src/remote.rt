@@ -1,12 +1,11 @@
 //! What an address or a number stands for.
 ghost use Rattle.std.specs.Prelude.{◌≡◌};
 ghost use Rattle.std.specs.Option.{option_copied, option_map_or};
-ghost use Rattle.pol_model.specs.Remote.{endpoint_at, longest_at, prefix_length, row_contains, world_identity};
+ghost use Rattle.pol_model.specs.Remote.{endpoint_at, longer, longest_at, number_at, prefix_length, row_contains, world_identity};
 ghost use Rattle.pol_model.specs.Selects.{row_of};
-ghost use Rattle.pol_plain.specs.Numbers.{longest_of, address_number, number_in};
 
 use pol_addr::Addr;
-use pol_model::{Endpoint, IdentityRow, Remote};
+use pol_model::{Endpoint, IdentityRow};
 
 /// The live endpoint that has the address.
 fn find_endpoint_at(endpoints: &[Endpoint], address: Addr) -> Option<&Endpoint>
@@ -43,24 +42,23 @@ fn length_of(row: &IdentityRow) -> u8
 }
 
 /// The row of the longer prefix; of two as long the first one.
-fn longer_of<'a>(best: Option<&'a IdentityRow>, row: &'a IdentityRow) -> Option<&'a IdentityRow>
-    ensures { option_copied result ≡ longest_of (option_copied best.entry) (Some row.now) }
+fn longer_of<'a>(row: &'a IdentityRow, best: Option<&'a IdentityRow>) -> Option<&'a IdentityRow>
+    ensures { option_copied result ≡ longer row.now (option_copied best.entry) }
 {
     match best {
-        Some(best) if length_of(best) >= length_of(row) => Some(best),
+        Some(best) if length_of(row) < length_of(best) => Some(best),
         _ => Some(row),
     }
 }
 
 /// The row of the longest prefix that contains the address.
-#[tactic(auto, using(crate::proofs::Longest::longest_more))]
 fn find_longest(rows: &[IdentityRow], address: Addr) -> Option<&IdentityRow>
     ensures { option_copied result ≡ longest_at address rows.now }
 {
     let mut best: Option<&IdentityRow> = None;
-    for row in rows {
-        if has_address(row, address) {
-            best = longer_of(best, row);
+    for i in (0..rows.len()).rev() {
+        if has_address(&rows[i], address) {
+            best = longer_of(&rows[i], best);
         }
     }
     best
@@ -77,21 +75,11 @@ fn number_by_prefix(rows: &[IdentityRow], address: Addr) -> u32
 }
 
 /// The number that an address stands for.
-fn number_of_address(endpoints: &[Endpoint], rows: &[IdentityRow], address: Addr) -> u32
-    ensures { result ≡ address_number address endpoints.now rows.now }
+pub fn number_at(endpoints: &[Endpoint], rows: &[IdentityRow], address: Addr) -> u32
+    ensures { result ≡ number_at address endpoints.now rows.now }
 {
     match find_endpoint_at(endpoints, address) {
         Some(endpoint) => endpoint.identity,
         None => number_by_prefix(rows, address),
-    }
-}
-
-/// The number that the other side of a connection stands for.
-pub fn number_of(endpoints: &[Endpoint], rows: &[IdentityRow], remote: Remote) -> u32
-    ensures { result ≡ number_in remote endpoints.now rows.now }
-{
-    match remote {
-        Remote::Identity(number) => number,
-        Remote::Address(address) => number_of_address(endpoints, rows, address),
     }
 }

@@ -1,126 +1,79 @@
 //! The verdict on a packet.
 ghost use Rattle.std.specs.Prelude.{◌≡◌};
 ghost use Rattle.std.specs.Option.{option_copied};
+ghost use Rattle.pol_model.specs.Enforced.{has_rule};
+ghost use Rattle.pol_model.specs.Remote.{verdict_for};
 ghost use Rattle.pol_model.specs.Selects.{known_of};
-ghost use Rattle.pol_plain.specs.Rules.{some_entry, some_selecting, policy_covers, rule_covers, is_open, verdict_by};
+ghost use Rattle.pol_model.specs.Verdict.{rule_covers, some_covers};
 
 use crate::covers::covers_packet;
 use crate::enforced::{allows_in, denies_in, entries_of, is_enforced, selects_endpoint};
+use crate::plain::Plain;
 use crate::remote::find_row;
 use pol_mapkey::Word;
-use pol_model::{Endpoint, IdentityRow, Mode, Options, Query, Stamped};
-use pol_ports::{Direction, Proto};
+use pol_model::{Endpoint, IdentityRow, Mode, Query, Stamped};
+use pol_ports::Direction;
 use pol_rule::{Rule, Section};
 
-/// Whether some entry of that section of the rule covers the packet.
-#[tactic(auto, unfolding(crate::specs::Rules::rule_covers))]
-fn rule_covers(
-    rule: &Rule,
-    section: Section,
-    row: Option<&IdentityRow>,
-    proto: Proto,
-    port: u16,
-) -> bool
-    ensures { result ≡ rule_covers section (known_of (option_copied row.entry)) proto port rule.now }
+/// Whether some entry of that section of the rule covers the query's packet.
+#[tactic(auto, unfolding(pol_model::specs::Verdict::rule_covers))]
+fn rule_covers(rule: &Rule, section: Section, row: Option<&IdentityRow>, query: &Query) -> bool
+    ensures { result ≡ rule_covers section (known_of (option_copied row.entry)) query.now.proto query.now.port rule.now }
 {
     entries_of(rule, section)
         .iter()
-        .any(|entry| covers_packet(entry, row, proto, port))
+        .any(|entry| covers_packet(entry, row, query.proto, query.port))
 }
 
-fn some_rule_covers(
-    rules: &[Rule],
-    endpoint: &Endpoint,
-    section: Section,
-    row: Option<&IdentityRow>,
-    proto: Proto,
-    port: u16,
-) -> bool
-    ensures { result ≡ some_selecting (rule_covers section (known_of (option_copied row.entry)) proto port) endpoint.now rules.now }
-{
-    rules.iter().any(|rule| selects_endpoint(rule, endpoint)
-        && rule_covers(rule, section, row, proto, port))
-}
-
-#[tactic(auto, unfolding(crate::specs::Rules::policy_covers))]
+/// Whether some rule of the policy that selects the endpoint has such an entry.
+#[tactic(auto, unfolding(pol_model::specs::Enforced::has_rule))]
 fn policy_covers(
     stamped: &Stamped,
     endpoint: &Endpoint,
     section: Section,
     row: Option<&IdentityRow>,
-    proto: Proto,
-    port: u16,
+    query: &Query,
 ) -> bool
-    ensures { result ≡ policy_covers endpoint.now section (known_of (option_copied row.entry)) proto port stamped.now }
+    ensures { result ≡ has_rule (rule_covers section (known_of (option_copied row.entry)) query.now.proto query.now.port) endpoint.now stamped.now }
 {
-    some_rule_covers(
-        stamped.policy.rules.as_slice(),
-        endpoint,
-        section,
-        row,
-        proto,
-        port,
-    )
+    let rules = stamped.policy.rules.as_slice();
+    rules.iter().any(|rule| selects_endpoint(rule, endpoint)
+        && rule_covers(rule, section, row, query))
 }
 
-/// Whether some entry of that section of a rule that selects the endpoint covers the packet.
-pub fn some_entry_covers(
+/// Whether some entry of that section of a rule that selects the endpoint covers the query's packet.
+fn some_entry_covers(
     policies: &[Stamped],
     endpoint: &Endpoint,
     section: Section,
     row: Option<&IdentityRow>,
-    proto: Proto,
-    port: u16,
-) -> bool
-    ensures { result ≡ some_entry endpoint.now policies.now section (known_of (option_copied row.entry)) proto port }
-{
-    policies.iter().any(|stamped| policy_covers(stamped, endpoint, section, row, proto, port))
-}
-
-/// Whether what no entry covers is allowed.
-fn is_open(
-    options: Options,
-    mode: Mode,
-    policies: &[Stamped],
-    endpoint: &Endpoint,
-    dir: Direction,
-    number: u32,
-) -> bool
-    ensures { result ≡ is_open options mode endpoint.now policies.now dir number }
-{
-    !is_enforced(mode, policies, endpoint, dir)
-        || (matches!(dir, Direction::Ingress) && number == 1 && options.localhost)
-}
-
-/// The verdict on the query's packet at the endpoint, where the other side has this number.
-pub fn verdict_at(
-    options: Options,
-    mode: Mode,
-    policies: &[Stamped],
-    rows: &[IdentityRow],
-    endpoint: &Endpoint,
     query: &Query,
-    number: u32,
-) -> Word
-    ensures { result ≡ verdict_by options mode policies.now rows.now endpoint.now query.now number }
+) -> bool
+    ensures { result ≡ some_covers policies.now endpoint.now section (known_of (option_copied row.entry)) query.now.proto query.now.port }
 {
-    if matches!(mode, Mode::Never) {
-        return Word::Allowed;
-    }
-    let row = find_row(rows, number);
-    let Query {
-        dir,
-        proto,
-        port,
-        ..
-    } = query;
-    if some_entry_covers(policies, endpoint, denies_in(*dir), row, *proto, *port) {
-        Word::DeniedByRule
-    } else if some_entry_covers(policies, endpoint, allows_in(*dir), row, *proto, *port)
-        || is_open(options, mode, policies, endpoint, *dir, number)
+    policies.iter().any(|stamped| policy_covers(stamped, endpoint, section, row, query))
+}
+
+impl Plain {
+    /// The verdict on the query's packet at the endpoint.
+    pub(crate) fn verdict_at(&self, query: &Query, endpoint: &Endpoint) -> Word
+        ensures { result ≡ verdict_for self.now.options self.now.state query.now endpoint.now }
     {
-        Word::Allowed
-    } else {
-        Word::DeniedByDefault
+        if matches!(self.mode, Mode::Never) {
+            return Word::Allowed;
+        }
+        let (policies, dir) = (self.policies.as_slice(), query.dir);
+        let number = self.remote(query.remote);
+        let row = find_row(&self.identities, number);
+        if some_entry_covers(policies, endpoint, denies_in(dir), row, query) {
+            Word::DeniedByRule
+        } else if some_entry_covers(policies, endpoint, allows_in(dir), row, query)
+            || !is_enforced(self.mode, policies, endpoint, dir)
+            || (matches!(dir, Direction::Ingress) && number == 1 && self.options.localhost)
+        {
+            Word::Allowed
+        } else {
+            Word::DeniedByDefault
+        }
     }
 }

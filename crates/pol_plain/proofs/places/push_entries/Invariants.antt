@@ -8,5 +8,5 @@ use Rattle.pol_plain.proofs.places.push_entries.Given as goal
 -- what is appended so far and what is left are the places of all
 abbrev pub invariant-loop-i : goal.invariant-loop-i
 invariant-loop-i l =
-    let passes = covers (selects (known_of (option_copied l.row))) l.proto l.port in
+    let passes = covers (selects (known_of (option_copied l.row))) l.query.proto l.query.port in
     l.out.items ++ entry_places passes l.key l.rule l.section l.i (drop l.i l.entries) ≡ l.initial.out.items ++ entry_places passes l.key l.rule l.section 0 l.entries
