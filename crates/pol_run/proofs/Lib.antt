@@ -10,4 +10,5 @@ pub mod SerialLaw
 pub mod SerialAnswers
 pub mod Counting
 pub mod Lives
-pub mod PlainWords
+pub mod InShort
+pub mod Caps

@@ -9,8 +9,7 @@ use Rattle.pol_model.specs.Endpoints.{endpoint_of}
 use Rattle.pol_model.specs.Explain.{explain_of}
 use Rattle.pol_model.specs.Fault.{fault_of}
 use Rattle.pol_model.specs.PolicyMap.{map_size}
-use Rattle.pol_model.specs.Remote.{remote_number}
-use Rattle.pol_model.specs.Verdict.{verdict_of}
+use Rattle.pol_model.specs.Remote.{verdict_for}
 use Rattle.pol_model.specs.declared.answer.Fault.{Fault}
 use Rattle.pol_model.specs.declared.answer.FullSlot.{FullSlot}
 use Rattle.pol_model.specs.declared.answer.Refused.{Refused}
@@ -124,8 +123,7 @@ module _ (options : Options) (spots : List Spot) (s : State) (seen : Seen) (spot
     live = live_now options spots s query.endpoint serial.endpoint here.now serial.live;
     since_added = added_by query.endpoint serial.endpoint serial.live;
     by_moment = omega arith;
-    scan = subst (λ (t : State). word ≡ verdict_of options t serial.endpoint query.dir (remote_number t query.remote) query.proto query.port)
-        (sym here.now) serial.scan;
+    scan = subst (λ (t : State). word ≡ verdict_for options t query serial.endpoint) (sym here.now) serial.scan;
     fits = subst (λ (t : State). IsTrue (fits_limit options.map_max (map_size options t serial.endpoint))) (sym here.now) serial.fits;
     verdicts_seen = λ other revision listed before verdict.
         verdict_bound other query.endpoint serial.endpoint.added revision (here.past other listed before) verdict;

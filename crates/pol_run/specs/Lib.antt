@@ -6,4 +6,4 @@ pub mod RightAnswer
 pub mod Run
 pub mod Serial
 pub mod SerialLines
-pub mod PlainWords
+pub mod InShort

@@ -1,6 +1,6 @@
 -- Between which revisions a line may be answered.
-use Rattle.std.specs.Prelude.{ℕ, ◌-◌, ◌≤◌, nat_lt, min, max, List, [], ◌∷◌, length, map, filter}
-use Rattle.std.specs.List.{flat_map}
+use Rattle.std.specs.Prelude.{ℕ, ◌-◌, ◌<◌, ◌≤◌, nat_lt, min, max, List, [], ◌∷◌, length, map, filter}
+use Rattle.std.specs.List.{AllByRecursion, flat_map}
 use Rattle.pol_script.specs.declared.answer.Answer.{Answer}
 use Rattle.pol_script.specs.declared.answer.Answer.TheVariants as answer
 use Rattle.pol_run.specs.Spots.{Spot, earlier_in_session, stands_before}
@@ -23,6 +23,11 @@ later_commits spot commits = filter (λ c. stands_before spot c.spot) commits
 -- The cap of a line: the greatest revision that has none of the commits that the line stands before.
 abbrev pub cap : List Spot → Spot → ℕ
 cap spots spot = least (length (commits_of spots)) (map (λ c. c.number - 1) (later_commits spot (commits_of spots)))
+
+-- the first so many commits were made, and the line stands before none of them
+pub record IsCutBeforeLater (spots : List Spot) (spot : Spot) (revision : ℕ) : Type 0 where
+  pub committed : revision ≤ length (commits_of spots)
+  pub none_later : AllByRecursion (λ c. revision < c.number) (later_commits spot (commits_of spots))
 
 -- the revisions that an answer prints
 abbrev pub revisions_in : Answer → List ℕ

@@ -15,8 +15,7 @@ use Rattle.pol_model.specs.Committed.{identity_given}
 use Rattle.pol_model.specs.Endpoints.{endpoint_of}
 use Rattle.pol_model.specs.Explain.{explain_of}
 use Rattle.pol_model.specs.Fault.{fault_of}
-use Rattle.pol_model.specs.Remote.{remote_number}
-use Rattle.pol_model.specs.Verdict.{verdict_of}
+use Rattle.pol_model.specs.Remote.{verdict_for}
 use Rattle.pol_script.specs.declared.answer.Answer.{Answer}
 use Rattle.pol_script.specs.declared.answer.Answer.TheVariants as answer
 use Rattle.pol_script.specs.declared.command.Command.TheVariants as command
@@ -45,8 +44,7 @@ pub record IsRightVerdict (options : Options) (spots : List Spot) (spot : Spot) 
   pub live : IsLive options spots moment query.endpoint endpoint
   pub since_added : endpoint.added ≤ revision
   pub by_moment : revision ≤ moment
-  pub scan : word ≡ verdict_of options (state_at options spots revision) endpoint query.dir
-      (remote_number (state_at options spots revision) query.remote) query.proto query.port
+  pub scan : word ≡ verdict_for options (state_at options spots revision) query endpoint
   pub fits : IsTrue (fits_limit options.map_max (size_at options spots revision endpoint))
   pub verdicts_seen : (other : Spot) (seen : ℕ) → Contains spots other → IsTrue (stands_before other spot)
       → IsVerdictFor options spots other query.endpoint endpoint.added seen → seen ≤ revision
@@ -88,10 +86,10 @@ abbrev pub row_le : FullSlot → FullSlot → Bool
 row_le a b = is_le (ordering_then (slice_cmp nat_cmp a.name b.name) (nat_cmp a.revision b.revision))
 
 -- each row is at most the next one
-abbrev pub rows_ascend : List FullSlot → Type 0
-rows_ascend [] = ⊤
-rows_ascend (row ∷ []) = ⊤
-rows_ascend (row ∷ next ∷ rows) = IsTrue (row_le row next) × rows_ascend (next ∷ rows)
+abbrev pub RowsAscend : List FullSlot → Type 0
+RowsAscend [] = ⊤
+RowsAscend (row ∷ []) = ⊤
+RowsAscend (row ∷ next ∷ rows) = IsTrue (row_le row next) × RowsAscend (next ∷ rows)
 
 -- two rows are of one endpoint
 pub record AreOfOneEndpoint (options : Options) (spots : List Spot) (a b : FullSlot) : Type 0 where
@@ -125,7 +123,7 @@ pub record HasRow (options : Options) (spots : List Spot) (full : List FullSlot)
 pub record IsRightSync (options : Options) (spots : List Spot) (spot : Spot) (revision : ℕ) (full : List FullSlot) : Type 0 where
   pub is_moment : IsMoment spots spot revision
   pub rows : AllByRecursion (IsRightRow options spots spot revision) full
-  pub ascend : rows_ascend full
+  pub ascend : RowsAscend full
   pub distinct : NoTwoOfOneEndpoint options spots full
   pub complete : (name : List ℕ) (added : ℕ)
       → ((k : ℕ) → revision ≤ k → k ≤ cap spots spot → IsTooLarge options spots name added k)

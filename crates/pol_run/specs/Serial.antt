@@ -7,8 +7,7 @@ use Rattle.pol_model.specs.Committed.{identity_given}
 use Rattle.pol_model.specs.Endpoints.{endpoint_of}
 use Rattle.pol_model.specs.Explain.{explain_of}
 use Rattle.pol_model.specs.Fault.{fault_of}
-use Rattle.pol_model.specs.Remote.{remote_number}
-use Rattle.pol_model.specs.Verdict.{verdict_of}
+use Rattle.pol_model.specs.Remote.{verdict_for}
 use Rattle.pol_model.specs.declared.answer.Fault.{Fault}
 use Rattle.pol_model.specs.declared.answer.Trace.{Trace}
 use Rattle.pol_model.specs.declared.options.Options.{Options}
@@ -43,7 +42,7 @@ commit_answer options s request =
 abbrev pub answer_at_endpoint : Options → State → Query → Option Endpoint → Answer
 answer_at_endpoint options s query None = answer.NoEndpoint s.revision
 answer_at_endpoint options s query (Some endpoint) =
-    answer.Verdict s.revision (verdict_of options s endpoint query.dir (remote_number s query.remote) query.proto query.port)
+    answer.Verdict s.revision (verdict_for options s query endpoint)
 
 abbrev pub look_answer : Options → State → Query → Answer
 look_answer options s query = answer_at_endpoint options s query (endpoint_of query.endpoint s.endpoints)

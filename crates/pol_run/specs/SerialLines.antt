@@ -10,8 +10,7 @@ use Rattle.pol_model.specs.Endpoints.{endpoint_of}
 use Rattle.pol_model.specs.Explain.{explain_of}
 use Rattle.pol_model.specs.Fault.{fault_of}
 use Rattle.pol_model.specs.PolicyMap.{map_size}
-use Rattle.pol_model.specs.Remote.{remote_number}
-use Rattle.pol_model.specs.Verdict.{verdict_of}
+use Rattle.pol_model.specs.Remote.{verdict_for}
 use Rattle.pol_model.specs.declared.answer.FullSlot.{FullSlot}
 use Rattle.pol_model.specs.declared.answer.Refused.{Refused}
 use Rattle.pol_model.specs.declared.answer.Trace.{Trace}
@@ -82,7 +81,7 @@ pub record IsVerdictNow (options : Options) (s : State) (query : Query) (revisio
   pub now : revision ≡ s.revision
   pub endpoint : Endpoint
   pub live : endpoint_of query.endpoint s.endpoints ≡ Some endpoint
-  pub scan : word ≡ verdict_of options s endpoint query.dir (remote_number s query.remote) query.proto query.port
+  pub scan : word ≡ verdict_for options s query endpoint
   pub fits : MapFits options s endpoint
 
 -- `notyet at k`: the endpoint is live, no verdict line was for it, and no `synced` line came since it was added

@@ -1,8 +1,9 @@
 //! Laws of runs, over the definitions alone: which answers are a run, and what a run says.
-ghost use Rattle.std.specs.Prelude.{◌≡◌, ℕ, List, Option, None};
+ghost use Rattle.std.specs.Prelude.{◌≡◌, ◌≤◌, ℕ, List, Option, None};
 ghost use Rattle.std.specs.List.{zip};
 ghost use Rattle.pol_model.specs.declared.options.Options.{Options};
-ghost use Rattle.pol_run.specs.PlainWords.{IsPlainRun};
+ghost use Rattle.pol_run.specs.InShort.{IsRunInShort};
+ghost use Rattle.pol_run.specs.Moments.{IsCutBeforeLater, cap};
 ghost use Rattle.pol_run.specs.Run.{IsRun, IsRunOf, readings_of, status_of};
 ghost use Rattle.pol_run.specs.Serial.{serial_answers};
 ghost use Rattle.pol_run.specs.SerialLines.{IsSerial};
@@ -11,8 +12,8 @@ ghost use Rattle.pol_script.specs.Text.{texts_of};
 ghost use Rattle.pol_script.specs.declared.answer.Answer.{Answer};
 
 /// The law of serial runs: lines that are answered in input order, each from the state after the
-/// commits of the lines before it, are a run of the policy machine. It holds for every command and
-/// every answer, and for any sessions and phases ('profile').
+/// commits of the lines before it, are a run of the policy machine. It holds for every command, and for any
+/// sessions and phases, where verdicts are at the newest revision and no `synced` line has a row ('profile').
 pub fn serial_lines_are_a_run()
     ensures { (options : Options) (lines : List (Reading × Answer)) → IsSerial options lines → IsRun options (spots_of lines) }
 {}
@@ -36,6 +37,15 @@ pub fn serial_answers_are_a_run()
 /// the history is their requests, that of `ok k` the k-th. A verdict names a revision that was
 /// reached, at which an endpoint of that name is live and a scan of all rules gives the word, and no
 /// line before it has shown a newer map of that endpoint ('profile').
-pub fn runs_in_plain_words()
-    ensures { (options : Options) (spots : List Spot) → IsRun options spots → IsPlainRun options spots }
+pub fn runs_in_short()
+    ensures { (options : Options) (spots : List Spot) → IsRun options spots → IsRunInShort options spots }
+{}
+
+/// The cap of a line is the greatest revision whose commits hold none that stands behind the line in
+/// its session, and none of a later phase ('profile').
+pub fn caps_are_the_greatest()
+    ensures none_later { (options : Options) (spots : List Spot) (spot : Spot) (revision : ℕ) → IsRun options spots
+        → revision ≤ cap spots spot → IsCutBeforeLater spots spot revision }
+    ensures greatest { (options : Options) (spots : List Spot) (spot : Spot) (revision : ℕ) → IsRun options spots
+        → IsCutBeforeLater spots spot revision → revision ≤ cap spots spot }
 {}

@@ -2,8 +2,7 @@
 use Rattle.std.specs.Prelude.{◌≡◌, ℕ, ◌-◌, ◌==◌, ◌≤◌, ◌⊎◌, List, length, count_by, slice_get, IsTrue, Some, Ok}
 use Rattle.std.specs.List.{Contains}
 use Rattle.pol_mapkey.specs.declared.Word.{Word}
-use Rattle.pol_model.specs.Remote.{remote_number}
-use Rattle.pol_model.specs.Verdict.{verdict_of}
+use Rattle.pol_model.specs.Remote.{verdict_for}
 use Rattle.pol_model.specs.declared.options.Options.{Options}
 use Rattle.pol_model.specs.declared.request.Query.{Query}
 use Rattle.pol_model.specs.declared.row.Endpoint.{Endpoint}
@@ -27,14 +26,13 @@ pub record IsFoundByScan (options : Options) (spots : List Spot) (spot : Spot) (
   pub committed : revision ≤ length (commits_of spots)
   pub endpoint : Endpoint
   pub live : IsLive options spots revision query.endpoint endpoint
-  pub scan : word ≡ verdict_of options (state_at options spots revision) endpoint query.dir
-      (remote_number (state_at options spots revision) query.remote) query.proto query.port
+  pub scan : word ≡ verdict_for options (state_at options spots revision) query endpoint
   pub no_older : (other : Spot) (seen : ℕ) → Contains spots other → IsTrue (stands_before other spot)
       → ShowsMap options spots other query.endpoint endpoint.added seen → seen ≤ revision
 
 -- Each number from 1 to the count of `ok` lines is carried by one of them. The history has as many
 -- requests, and that of `ok k` is the k-th. And each verdict line is found by a scan.
-pub record IsPlainRun (options : Options) (spots : List Spot) : Type 0 where
+pub record IsRunInShort (options : Options) (spots : List Spot) : Type 0 where
   pub numbers : (k : ℕ) → 1 ≤ k → k ≤ length (commits_of spots) → times_carried k spots ≡ 1
   pub size : length (history_of spots) ≡ length (commits_of spots)
   pub kth : (c : Commit) → Contains (commits_of spots) c → slice_get (history_of spots) (c.number - 1) ≡ Some c.request

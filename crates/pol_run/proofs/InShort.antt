@@ -12,7 +12,7 @@ use Rattle.pol_run.specs.History.{Commit, commits_of}
 use Rattle.pol_run.specs.Moments.{later_commits}
 use Rattle.pol_run.specs.RightAnswer.{RightAnswer, IsRightVerdict}
 use Rattle.pol_run.specs.Run.{IsRun}
-use Rattle.pol_run.specs.PlainWords.{ShowsMap, IsFoundByScan, IsPlainRun}
+use Rattle.pol_run.specs.InShort.{ShowsMap, IsFoundByScan, IsRunInShort}
 use Rattle.pol_run.proofs.Lists.{every_contained, least_within}
 use Rattle.pol_run.proofs.Counting.{carried_once, requests_all, request_kth}
 use Rattle.pol_run.proofs.Lives.{live_back}
@@ -48,8 +48,8 @@ right_verdict_of options spots spot session query revision word reads answers ri
     (subst (λ (r : Reading). RightAnswer options spots spot r spot.answer) reads right)
 
 -- a run says this
-pub plain_run : (options : Options) (spots : List Spot) → IsRun options spots → IsPlainRun options spots
-plain_run options spots run = record {
+pub run_in_short : (options : Options) (spots : List Spot) → IsRun options spots → IsRunInShort options spots
+run_in_short options spots run = record {
   numbers = λ k positive most.
       sym (length-filter (λ (c : Commit). c.number == k) (commits_of spots))
       ∙ carried_once (commits_of spots) k run.numbered.from_one run.numbered.each_once positive most;
