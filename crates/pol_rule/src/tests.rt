@@ -1,4 +1,4 @@
-//! Each copy once with ample memory: it shows what its original shows.
+//! Copies with ample memory, compared part by part.
 
 use crate::{
     Entity, Entry, Peer, Peers, Place, Policy, PolicyKey, PortSpec, RawCidrSet, RawEntry,
@@ -90,6 +90,32 @@ fn rule(alloc: Global) -> Result<Rule, Fail> {
     })
 }
 
+fn has_all_peers(peers: &Peers) -> bool {
+    let Peers::Listed(list) = peers else {
+        return false;
+    };
+    let [
+        Peer::Labels(_),
+        Peer::Cidr { prefix: _, except },
+        Peer::Entity(Entity::World),
+    ] = list.as_slice()
+    else {
+        return false;
+    };
+    except.len() == 1
+}
+
+fn is_the_listed_entry(entry: &Entry) -> bool {
+    has_all_peers(&entry.peers) && matches!(entry.ports.as_slice(), [only] if *only == port())
+}
+
+fn is_the_rule(rule: &Rule) -> bool {
+    matches!(rule.ingress.as_slice(), [entry] if is_the_listed_entry(entry))
+        && rule.ingress_deny.is_empty()
+        && rule.egress.len() == 1
+        && rule.egress_deny.is_empty()
+}
+
 #[test]
 fn a_policy_is_copied(rt: HostRuntime) -> Result<(), Fail> {
     let alloc = rt.alloc();
@@ -98,8 +124,9 @@ fn a_policy_is_copied(rt: HostRuntime) -> Result<(), Fail> {
         rules: one(alloc, rule(alloc)?)?,
     };
     let copy = policy.copy(alloc)?;
-    assert!(rt; copy.rules.len() == 1);
-    assert!(rt; format!(in alloc; "{copy:?}")? == format!(in alloc; "{policy:?}")?);
+    assert!(rt; copy.key.is(&policy.key));
+    let is_equal = matches!(copy.rules.as_slice(), [rule] if is_the_rule(rule));
+    assert!(rt; is_equal);
     Ok(())
 }
 
@@ -114,7 +141,7 @@ fn a_place_is_copied(rt: HostRuntime) -> Result<(), Fail> {
     };
     let copy = place.copy(alloc)?;
     assert!(rt; copy.key.is(&place.key));
-    assert!(rt; format!(in alloc; "{copy:?}")? == format!(in alloc; "{place:?}")?);
+    assert!(rt; copy.rule == 2 && copy.section == Section::EgressDeny && copy.entry == 3);
     Ok(())
 }
 
@@ -161,6 +188,28 @@ fn raw_entry(alloc: Global) -> Result<RawEntry, Memory> {
     })
 }
 
+fn is_the_raw_selector(selector: &RawSelector) -> bool {
+    matches!(selector.labels.as_slice(), [pair] if pair.value.as_str() == "empire")
+        && matches!(selector.expressions.as_slice(), [one] if one.operator.as_str() == "In")
+}
+
+fn is_the_raw_port(item: &RawPortItem) -> bool {
+    matches!(item.ports.as_slice(), [port] if port.end_port == Some(443))
+}
+
+fn is_the_raw_entry(entry: &RawEntry) -> bool {
+    entry.cidrs.is_none()
+        && matches!(&entry.cidr_sets, Some(sets) if sets.len() == 1)
+        && matches!(&entry.entities, Some(names) if names.len() == 1)
+        && matches!(entry.ports.as_slice(), [item] if is_the_raw_port(item))
+}
+
+fn is_the_raw_rule(rule: &RawRule) -> bool {
+    matches!(&rule.subject, Some(subject) if is_the_raw_selector(subject))
+        && matches!(rule.ingress.as_slice(), [entry] if is_the_raw_entry(entry))
+        && rule.egress.is_empty()
+}
+
 #[test]
 fn a_written_policy_is_copied(rt: HostRuntime) -> Result<(), Fail> {
     let alloc = rt.alloc();
@@ -176,7 +225,7 @@ fn a_written_policy_is_copied(rt: HostRuntime) -> Result<(), Fail> {
         rules: one(alloc, rule)?,
     };
     let copy = policy.copy(alloc)?;
-    assert!(rt; copy.rules.len() == 1);
-    assert!(rt; format!(in alloc; "{copy:?}")? == format!(in alloc; "{policy:?}")?);
+    let is_equal = matches!(copy.rules.as_slice(), [rule] if is_the_raw_rule(rule));
+    assert!(rt; is_equal);
     Ok(())
 }
