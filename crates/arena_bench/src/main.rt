@@ -1,6 +1,6 @@
 //! Times calls in twins and pools of 1,000 and of 65,536 nodes, the mean of each. A call that walks a chain, the list by
-//! age or the free list would take some 65 times as long in the larger ones. None does: what they take longer is that
-//! fewer of their nodes are in the processor's caches. The figures go to standard error.
+//! age or the free list would take some 65 times as long in the larger ones, whose nodes also fill more of the processor's
+//! caches. The figures go to standard error.
 #![tactic(auto)]
 
 mod figures;
