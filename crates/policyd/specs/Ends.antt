@@ -28,7 +28,7 @@ complaint TooLong = Some (codes "policyd: input too long")
 -- words that can't be read are a faulty command line, unless memory ran out
 abbrev pub status_without_words : ErrorKind → Status
 status_without_words OutOfMemory = Memory
-status_without_words other = Usage
+status_without_words _ = Usage
 
 -- the statuses at which every answer was written
 abbrev pub is_answered : Status → Bool
