@@ -1,5 +1,4 @@
-use Rattle.std.proofs.Common.{◌≡◌, ap, ◌∙◌}
-use Rattle.pol_model.specs.State.{State}
+use Rattle.std.proofs.Common.{ap, ◌∙◌}
 use Rattle.pol_model.specs.After.{start}
 use Rattle.pol_model.specs.declared.options.Options.{Options}
 use Rattle.pol_plain.specs.Core.{Core}
