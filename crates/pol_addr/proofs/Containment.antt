@@ -4,8 +4,8 @@ use Rattle.std.proofs.lemmas.Nat.{pow_pos, pow_below}
 use Rattle.std.proofs.lemmas.Bool.{cases_lt, and_parts, and_from, eqb-true, eq-eqb, leb-true, le-leb}
 use Rattle.pol_addr.specs.Address.{Addr, IsAddr}
 use Rattle.pol_addr.specs.Cidr.{IsPrefix, network}
-use Rattle.pol_addr.specs.Prefix.{Prefix, prefix_of, bit_of, half, contains, covers, world}
-use Rattle.pol_addr.proofs.Blocks.{network-network, network-whole, network_le, network-none, network-next, network-within, next_block}
+use Rattle.pol_addr.specs.Prefix.{Prefix, prefix_of, bit_of, half, contains, covers}
+use Rattle.pol_addr.proofs.Blocks.{network-network, network-whole, network_le, network-next, network-within, next_block}
 
 pub contains-bits : (p : Prefix) (a : Addr) → contains p a ≡ true → network p.len a.bits ≡ p.bits
 unfolding contains
@@ -49,21 +49,9 @@ covers_trans p q r first second =
     let (short', bits') = covers-parts q r second in
     covers_from p r (omega arith) (sym (network-network p.len q.len r.bits short) ∙ ap (network p.len) bits' ∙ bits)
 
-pub covers_antisym : (p q : Prefix) → IsPrefix p → covers p q ≡ true → covers q p ≡ true → p ≡ q
-covers_antisym p q valid first second =
-    let (short, bits) = covers-parts p q first in
-    let (short', bits') = covers-parts q p second in
-    let same : p.len ≡ q.len = omega arith in
-    let bits_same : p.bits ≡ q.bits = sym valid.host_bits_clear ∙ ap (λ l. network l p.bits) same ∙ bits' in
-    λ i. record { bits = bits_same i; len = same i }
-
 -- the network address lies in its prefix
 pub contains-first : (p : Prefix) → IsPrefix p → contains p (record { bits = p.bits }) ≡ true
 contains-first p valid = contains_from p (record { bits = p.bits }) valid.host_bits_clear
-
--- every address lies in 0.0.0.0/0
-pub contains-world : (a : Addr) → IsAddr a → contains world a ≡ true
-contains-world a small = contains_from world a (network-none a.bits small)
 
 -- where each address of q lies in p, p covers q: else p would be longer, and the block after its first would be in q, not in p
 pub covers_from_contains : (p q : Prefix) → IsPrefix p → IsPrefix q → ((a : Addr) → IsAddr a → contains q a ≡ true → contains p a ≡ true) → covers p q ≡ true

@@ -2,3 +2,5 @@ pub mod Address
 pub mod Cidr
 pub mod Prefix
 pub mod Grammar
+pub mod Order
+pub mod Longest

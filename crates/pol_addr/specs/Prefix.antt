@@ -9,6 +9,14 @@ pub use Rattle.pol_addr.specs.declared.network.Prefix.{Prefix}
 abbrev pub prefix_of : Addr → ℕ → Prefix
 prefix_of addr len = record { bits = network len addr.bits; len = len }
 
+-- the prefix that contains the address alone
+abbrev pub host_prefix : Addr → Prefix
+host_prefix addr = prefix_of addr 32
+
+-- the network address: the first of the prefix
+abbrev pub network_of : Prefix → Addr
+network_of p = record { bits = p.bits }
+
 -- 0.0.0.0/0, in which every address lies
 abbrev pub world : Prefix
 world = record { bits = 0; len = 0 }
@@ -48,7 +56,7 @@ cut_at byte (x ∷ xs) = if x == byte then Some ([], xs) else option_map (λ par
 abbrev pub read_bare : List ℕ → Option Prefix
 read_bare text = do
   addr ← read_addr text
-  Some (prefix_of addr 32)
+  Some (host_prefix addr)
 
 -- an address and a length; host bits are cleared (profile)
 abbrev pub read_pair : List ℕ → List ℕ → Option Prefix

@@ -3,9 +3,10 @@ ghost use Rattle.std.specs.Prelude.{◌≡◌, IfSome, IfNone};
 
 use std::net::Ipv4Addr;
 
-/// An IPv4 address: its four octets as one number, the first octet highest.
+/// An IPv4 address.
 #[derive(Clone, Copy, Debug, PartialEq, Eq, PartialOrd, Ord, Hash)]
 pub struct Addr {
+    /// The four octets as one number, the first one highest.
     pub bits: u32,
 }
 
@@ -32,5 +33,12 @@ impl Addr {
         Addr {
             bits: (high * 256 + u32::from(c)) * 256 + u32::from(d),
         }
+    }
+
+    /// The four octets as one number, the first one highest.
+    pub fn bits(&self) -> u32
+        ensures { result ≡ self.now.bits }
+    {
+        self.bits
     }
 }

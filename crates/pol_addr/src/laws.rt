@@ -2,8 +2,11 @@
 ghost use Rattle.std.specs.Prelude.{◌≡◌, ℕ, ◌↔◌, ◌⊎◌, List, Some, IsTrue};
 ghost use Rattle.pol_addr.specs.Address.{Addr, IsAddr, read_addr};
 ghost use Rattle.pol_addr.specs.Cidr.{IsPrefix};
+ghost use Rattle.pol_addr.specs.Order.{prefix_cmp};
 ghost use Rattle.pol_addr.specs.Prefix.{Prefix, contains, covers, read_prefix};
 ghost use Rattle.pol_addr.specs.Grammar.{WritesAddr, WritesPrefix};
+
+use crate::{Addr, Prefix};
 
 /// A text is read as an address exactly where it writes that address.
 pub fn address_texts_are_read()
@@ -40,4 +43,15 @@ pub fn covers_is_containment()
 pub fn overlapping_prefixes_are_nested()
     ensures { (p q : Prefix) (addr : Addr) → IsTrue (contains p addr) → IsTrue (contains q addr) →
         IsTrue (covers p q) ⊎ IsTrue (covers q p) }
+{}
+
+/// `==` is true exactly where both are one value, so an address or a prefix may be the key of a table.
+pub fn equality()
+    ensures addresses { (a b : Addr) → IsTrue (⟦<Addr as PartialEq>⟧.eq a b) ↔ (a ≡ b) }
+    ensures prefixes { (p q : Prefix) → IsTrue (⟦<Prefix as PartialEq>⟧.eq p q) ↔ (p ≡ q) }
+{}
+
+/// The order of prefixes is that of their addresses, and the shorter first.
+pub fn order_of_prefixes()
+    ensures { (p q : Prefix) → ⟦<Prefix as Ord>⟧.cmp p q ≡ prefix_cmp p q }
 {}

@@ -11,6 +11,3 @@ mod network;
 
 pub use address::Addr;
 pub use network::Prefix;
-
-#[cfg(test)]
-mod tests;

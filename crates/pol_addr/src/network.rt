@@ -2,7 +2,7 @@
 ghost use Rattle.std.specs.Prelude.{◌≡◌, ℕ, ◌≤◌, ◌<◌, ◌^◌, ◌-◌, ◌↔◌, IsTrue, IfSome, IfNone};
 ghost use Rattle.pol_addr.specs.Address.{Addr, IsAddr};
 ghost use Rattle.pol_addr.specs.Cidr.{network, IsPrefix};
-ghost use Rattle.pol_addr.specs.Prefix.{Prefix, bit_of, contains, covers, prefix_of, read_bare, read_pair, read_prefix, world};
+ghost use Rattle.pol_addr.specs.Prefix.{Prefix, bit_of, contains, covers, host_prefix, network_of, prefix_of, read_bare, read_pair, read_prefix, world};
 ghost use Rattle.pol_addr.specs.Grammar.{WritesPrefix};
 
 use crate::address::Addr;
@@ -63,8 +63,7 @@ fn shared_len(a: u32, b: u32, most: u8) -> u8
 fn parse_bare(text: &str) -> Option<Prefix>
     ensures { result ≡ read_bare text.now }
 {
-    let addr = Addr::parse(text)?;
-    Some(Prefix::new(addr, 32))
+    Some(Prefix::host(Addr::parse(text)?))
 }
 
 /// The texts before and after the slash.
@@ -88,6 +87,13 @@ impl Prefix {
         }
     }
 
+    /// The prefix that contains this address alone.
+    pub fn host(addr: Addr) -> Prefix
+        ensures { result ≡ host_prefix addr }
+    {
+        Prefix::new(addr, 32)
+    }
+
     /// 0.0.0.0/0, which contains every address.
     pub fn world() -> Prefix
         ensures { result ≡ world }
@@ -107,6 +113,14 @@ impl Prefix {
             None => parse_bare(text),
             Some((addr, len)) => parse_pair(addr, len),
         }
+    }
+
+    /// The network address: the first address of the prefix, whose host bits are zeros.
+    pub fn network(&self) -> Addr
+        ensures value { result ≡ network_of self.now }
+        ensures valid { IsPrefix self.now }
+    {
+        Addr { bits: self.bits }
     }
 
     /// How many of the first bits are the network's, 0 to 32.

@@ -5,3 +5,4 @@ pub mod Kept
 pub mod PoolLemmas
 pub mod PoolRunLemmas
 pub mod TwinRunLemmas
+pub mod RunLemmas

@@ -6,6 +6,7 @@ use Rattle.std.proofs.lemmas.List.{get_or-set_other, get_or_past, get_or_append_
 use Rattle.std.proofs.lemmas.List.Sums.{sum_by-cons}
 use Rattle.pol_arena.specs.Pool.{Pool, node_at, next_of, filled, IsSound, after_put, with_value}
 use Rattle.pol_arena.specs.PoolRuns.{Operation, Reserve, Put, Take, Write, IsAllowed, after, AreAllowed, after_all, Leaves, AllLeave, WriteChangesOneNode}
+use Rattle.pol_arena.proofs.RunLemmas.{kept_through, both_in_turn, in_turn_from_every}
 use Rattle.pol_arena.proofs.PoolLemmas.{empty_at, empty_within, empty_is_none, empty_from_none, first_is_free, in_use_within, IsSound-put_new, IsSound-put_again, IsSound-take, IsSound-write, count-write, Updates-set}
 
 -- a number that a list has is counted
@@ -60,8 +61,7 @@ module _ {T : Type 0} where
 
   -- allowed operations keep a pool sound
   pub IsSound-after_all : (p : Pool T) (os : List (Operation T)) → IsSound p → AreAllowed p os → IsSound (after_all p os)
-  IsSound-after_all p [] sound allowed = sound
-  IsSound-after_all p (o ∷ os) sound allowed = IsSound-after_all (after p o) os (IsSound-after p o sound allowed.0) allowed.1
+  IsSound-after_all = kept_through after IsAllowed (λ p. IsSound p) IsSound-after
 
   -- a write changes one node
   pub write_changes_one : WriteChangesOneNode T
@@ -91,9 +91,10 @@ module _ {T : Type 0} where
   stays_after p (Write other written) node value sound leaves at = get_or-set_other p.slots other node (Some written) None leaves ∙ at
 
   pub stays_after_all : (p : Pool T) (os : List (Operation T)) (node : ℕ) (value : T) → IsSound p → AreAllowed p os → AllLeave node os → node_at p node ≡ Some value → node_at (after_all p os) node ≡ Some value
-  stays_after_all p [] node value sound allowed leave at = at
-  stays_after_all p (o ∷ os) node value sound allowed leave at =
-      stays_after_all (after p o) os node value (IsSound-after p o sound allowed.0) allowed.1 leave.1 (stays_after p o node value sound leave.0 at)
+  stays_after_all p os node value sound allowed leave at =
+      (kept_through after (λ q o. IsAllowed q o × Leaves node o) (λ q. IsSound q × (node_at q node ≡ Some value))
+      (λ q o good each. (IsSound-after q o good.0 each.0, stays_after q o node value good.0 each.1 good.1))
+      p os (sound, at) (both_in_turn after IsAllowed (λ _ o. Leaves node o) p os allowed (in_turn_from_every after (Leaves node) p os leave))).1
 
   -- the free list has a node exactly where it is empty
   pub Contains-free : (p : Pool T) (node : ℕ) → IsSound p → Contains p.free node ↔ ((node < length p.slots) × (node_at p node ≡ None))

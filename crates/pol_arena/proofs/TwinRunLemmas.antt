@@ -1,6 +1,6 @@
 -- The laws of a list by age and the chains in it.
 use Rattle.std.proofs.Common.{max, ◌≡◌, ◌≢◌, ℕ, zero, suc, ◌+◌, ◌-◌, ◌<◌, ◌≤◌, Bool, true, false, cond, List, [], ◌∷◌, ◌++◌, length, take, drop, map, get_or, is_some, Option, Some, None, refl, sym, ap, subst, ◌∙◌, ◌⊎◌, inl, inr, arith, eqb}
-use Rattle.std.specs.Prelude.{Contains, nat_eq, option_map, slice_get, filter, find}
+use Rattle.std.specs.Prelude.{nat_eq, option_map, slice_get, filter, find}
 use Rattle.std.specs.List.{IsDistinct, AllByRecursion}
 use Rattle.std.specs.Option.{option_or}
 use Rattle.std.proofs.lemmas.Bool.{cases_eq, cases_Bool, eq-eqb, eqb-true, ne_eqb}
@@ -8,42 +8,11 @@ use Rattle.std.proofs.lemmas.Option.{same_Some, slice_get_within, slice_get-get_
 use Rattle.std.proofs.lemmas.List.{append-nil, take-append-drop, drop_more, drop_all, length-take}
 use Rattle.std.proofs.lemmas.List.Elements.{filter-append, All-contains, All-weaker, All-cons, All-nil, All-take, filter_passes}
 use Rattle.std.proofs.lemmas.List.Folds.{find-append}
+use Rattle.pol_data.proofs.Members.{Contains-from_filter, Contains-filter}
 use Rattle.pol_arena.specs.Twin.{Entry, Twin, empty_twin, on_chain, newest_on, entry_of, older_than, oldest, without_oldest, after_drop, IsSound}
 use Rattle.pol_arena.specs.TwinRuns.{Operation, Reserve, Push, Drop, IsAllowed, after, AreAllowed, after_all, Leaves, IsBefore, NodesInUseStay, IsMergeOfChains, MergesChains, PushLengthensOneChain, DropShortensOneChain, PushKeepsNodes, DropKeepsNodes, WalksChains}
+use Rattle.pol_arena.proofs.RunLemmas.{kept_through, both_in_turn}
 use Rattle.pol_arena.proofs.Kept.{others_differ}
-
-Contains-cons : {X : Type 0} (y : X) (xs : List X) (x : X) → Contains xs x → Contains (y ∷ xs) x
-Contains-cons y xs x h = (suc h.0, omega (arith, h.1), h.2)
-
-Contains-here : {X : Type 0} (y : X) (xs : List X) (x : X) → y ≡ x → Contains (y ∷ xs) x
-Contains-here y xs x e = (zero, omega arith, e)
-
-Contains-cons_cases : {X : Type 0} (y : X) (xs : List X) (x : X) → Contains (y ∷ xs) x → (y ≡ x) ⊎ Contains xs x
-Contains-cons_cases y xs x (zero, w, e) = inl e
-Contains-cons_cases y xs x (suc k, w, e) = inr (k, omega arith, e)
-
--- a filtered list has the elements of the list that pass
-Contains-from_filter : {X : Type 0} (p : X → Bool) (xs : List X) (x : X) → Contains (filter p xs) x → Contains xs x
-Contains-from_filter p [] x h = h
-Contains-from_filter p (y ∷ xs) x h =
-    elim (cases_Bool (p y)) [
-      | inl passes ↦ elim (Contains-cons_cases y (filter p xs) x (rw passes at h)) [
-        | inl is ↦ Contains-here y xs x is
-        | inr rest ↦ Contains-cons y xs x (Contains-from_filter p xs x rest)
-      ]
-      | inr fails ↦ Contains-cons y xs x (Contains-from_filter p xs x (rw fails at h))
-    ]
-
-Contains-filter : {X : Type 0} (p : X → Bool) (xs : List X) (x : X) → p x ≡ true → Contains xs x → Contains (filter p xs) x
-Contains-filter p [] x passes h = h
-Contains-filter p (y ∷ xs) x passes h =
-    elim (Contains-cons_cases y xs x h) [
-      | inl is ↦ rw (ap p is ∙ passes) (Contains-here y (filter p xs) x is)
-      | inr rest ↦ elim (p y) as (λ b. Contains (cond b (y ∷ filter p xs) (filter p xs)) x) [
-        | true ↦ Contains-cons y (filter p xs) x (Contains-filter p xs x passes rest)
-        | false ↦ Contains-filter p xs x passes rest
-      ]
-    ]
 
 -- the first of a longer list stands there, and each other one where the rest has it
 place_cons : {X : Type 0} (y : X) (zs ys : List X) (x : X) (k : ℕ) → slice_get (y ∷ zs) k ≡ Some x → ((m : ℕ) → slice_get zs m ≡ Some x → (l : ℕ) × (slice_get ys l ≡ Some x)) → (l : ℕ) × (slice_get (y ∷ ys) l ≡ Some x)
@@ -148,8 +117,7 @@ module _ {T : Type 0} where
       ]
 
   all_sound : (t : Twin T) (os : List (Operation T)) → IsSound t → AreAllowed t os → IsSound (after_all t os)
-  all_sound t [] sound allowed = sound
-  all_sound t (o ∷ os) sound allowed = all_sound (after t o) os (step_sound t o sound allowed.0) allowed.1
+  all_sound = kept_through after IsAllowed (λ t. IsSound t) step_sound
 
   pub empty_sound : IsSound {T = T} empty_twin
   unfolding IsDistinct
@@ -229,9 +197,10 @@ module _ {T : Type 0} where
       ]
 
   pub all_stay : NodesInUseStay T
-  all_stay t [] node e sound allowed leave at = at
-  all_stay t (o ∷ os) node e sound allowed leave at =
-      all_stay (after t o) os node e (step_sound t o sound allowed.0) allowed.1 leave.1 (step_stays t o node e sound allowed.0 leave.0 at)
+  all_stay t os node e sound allowed leave at =
+      (kept_through after (λ s o. IsAllowed s o × Leaves s node o) (λ s. IsSound s × (entry_of node s.ages ≡ Some e))
+      (λ s o good each. (step_sound s o good.0 each.0, step_stays s o node e good.0 each.0 each.1 good.1))
+      t os (sound, at) (both_in_turn after IsAllowed (λ s o. Leaves s node o) t os allowed leave)).1
 
   newest_first : (chain : ℕ) (es : List (Entry T)) → newest_on chain es ≡ option_map (λ e. e.node) (slice_get (on_chain chain es) 0)
   newest_first chain [] = refl

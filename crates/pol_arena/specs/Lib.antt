@@ -3,5 +3,6 @@ pub mod Pool
 pub mod PoolRuns
 pub mod Queue
 pub mod Room
+pub mod Runs
 pub mod Twin
 pub mod TwinRuns

@@ -1,5 +1,7 @@
 -- Lists of operations on a pool, and what holds after any of them.
-use Rattle.std.specs.Prelude.{◌≡◌, ◌≢◌, ◌↔◌, ℕ, ◌+◌, ◌^◌, ◌<◌, ◌≤◌, max, ⊤, List, [], ◌∷◌, length, Contains, None, Some}
+use Rattle.std.specs.Prelude.{◌≡◌, ◌≢◌, ◌↔◌, ℕ, ◌+◌, ◌^◌, ◌<◌, ◌≤◌, max, ⊤, List, fold, length, Contains, None, Some}
+use Rattle.std.specs.List.{AllByRecursion}
+use Rattle.pol_arena.specs.Runs.{EachInTurn}
 use Rattle.pol_arena.specs.Pool.{Pool, node_at, IsInUse, nodes_in_use, next_node, after_put, after_take, with_value, Updates, IsSound}
 
 -- an operation on a pool; a write is one through `get_mut`
@@ -26,13 +28,11 @@ module _ {T : Type 0} where
 
   -- each operation's condition holds where its turn comes
   abbrev pub AreAllowed : Pool T → List (Operation T) → Type 0
-  AreAllowed p [] = ⊤
-  AreAllowed p (o ∷ os) = IsAllowed p o × AreAllowed (after p o) os
+  AreAllowed = EachInTurn after IsAllowed
 
   -- the pool after all of them, in order
   abbrev pub after_all : Pool T → List (Operation T) → Pool T
-  after_all p [] = p
-  after_all p (o ∷ os) = after_all (after p o) os
+  after_all = fold after
 
   -- the operation neither takes nor writes the node
   abbrev pub Leaves : ℕ → Operation T → Type 0
@@ -43,8 +43,7 @@ module _ {T : Type 0} where
 
   -- none of them does
   abbrev pub AllLeave : ℕ → List (Operation T) → Type 0
-  AllLeave node [] = ⊤
-  AllLeave node (o ∷ os) = Leaves node o × AllLeave node os
+  AllLeave node = AllByRecursion (Leaves node)
 
 -- A sound pool is sound after any operations that are allowed in their order.
 abbrev pub PoolsAreSound : Type 0 → Type 0

@@ -1,6 +1,7 @@
 -- Lists of operations on a twin, what holds after any of them, and how each changes the chains.
-use Rattle.std.specs.Prelude.{◌≡◌, ◌≢◌, ℕ, ◌+◌, ◌<◌, ◌==◌, nat_eq, if◌then◌else◌, List, [], ◌∷◌, ◌++◌, map, slice_get, Some, None, option_map, Contains, ◌^◌, ◌≤◌, max, ⊤, length}
+use Rattle.std.specs.Prelude.{◌≡◌, ◌≢◌, ℕ, ◌+◌, ◌<◌, ◌==◌, nat_eq, if◌then◌else◌, List, [], ◌∷◌, ◌++◌, fold, map, slice_get, Some, None, option_map, Contains, ◌^◌, ◌≤◌, max, ⊤, length}
 use Rattle.std.specs.List.{IsDistinct}
+use Rattle.pol_arena.specs.Runs.{EachInTurn}
 use Rattle.pol_arena.specs.Twin.{Entry, Twin, on_chain, newest_on, entry_of, older_than, oldest, IsInUse, after_push, after_drop, IsSound}
 
 -- an operation on a twin; a push names the node that it gave
@@ -24,13 +25,11 @@ module _ {T : Type 0} where
 
   -- each operation's condition holds where its turn comes
   abbrev pub AreAllowed : Twin T → List (Operation T) → Type 0
-  AreAllowed t [] = ⊤
-  AreAllowed t (o ∷ os) = IsAllowed t o × AreAllowed (after t o) os
+  AreAllowed = EachInTurn after IsAllowed
 
   -- the twin after all of them, in order
   abbrev pub after_all : Twin T → List (Operation T) → Twin T
-  after_all t [] = t
-  after_all t (o ∷ os) = after_all (after t o) os
+  after_all = fold after
 
   -- the operation doesn't drop the node
   abbrev pub Leaves : Twin T → ℕ → Operation T → Type 0
@@ -40,8 +39,7 @@ module _ {T : Type 0} where
 
   -- none of them does
   abbrev pub AllLeave : Twin T → ℕ → List (Operation T) → Type 0
-  AllLeave t node [] = ⊤
-  AllLeave t node (o ∷ os) = Leaves t node o × AllLeave (after t o) node os
+  AllLeave t node = EachInTurn after (λ s o. Leaves s node o) t
 
 -- the first stands before the second in the list
 abbrev pub IsBefore : {X : Type 0} → List X → X → X → Type 0

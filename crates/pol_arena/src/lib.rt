@@ -11,6 +11,3 @@ mod twin;
 
 pub use pool::Pool;
 pub use twin::Twin;
-
-#[cfg(test)]
-mod tests;

@@ -152,6 +152,3 @@ impl<T> Pool<T> {
         value_mut(&mut self.slots[node as usize])
     }
 }
-
-#[cfg(test)]
-mod tests;

@@ -182,6 +182,3 @@ impl<T> Twin<T> {
         Some(value)
     }
 }
-
-#[cfg(test)]
-mod tests;

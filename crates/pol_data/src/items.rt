@@ -1,5 +1,5 @@
 //! A list of values, seen as the list of what contracts see of each.
-ghost use Rattle.std.specs.Prelude.{◌≡◌, IsTrue, ◌↔◌, length, IfOk};
+ghost use Rattle.std.specs.Prelude.{◌≡◌, IsTrue, ◌↔◌, [], ◌∷◌, length, IfOk};
 ghost use Rattle.std.specs.Cmp.Lexicographic.{pointwise, lists_per, lists_equiv};
 ghost use Rattle.std.specs.Hash as fed;
 ghost use Rattle.std.specs.Hash.{items_Alike};
@@ -31,6 +31,15 @@ impl<T> Items<T> {
         Items { inner: vector }
     }
 
+    /// The list with no element. It takes no memory.
+    pub fn empty(alloc: Global) -> Items<T>
+        ensures { result ≡ [] }
+    {
+        Items {
+            inner: Vec::new(alloc),
+        }
+    }
+
     /// The vector, given back. It takes no memory.
     pub fn into_vec(self) -> Vec<T>
         ensures { result.items ≡ self }
@@ -57,6 +66,17 @@ impl<T> Items<T> {
         ensures { IsTrue result ↔ (length self.now ≡ 0) }
     {
         self.inner.is_empty()
+    }
+}
+
+impl<T: Drop> Items<T> {
+    /// The list of this one element. The one error is want of memory.
+    pub fn one(alloc: Global, item: T) -> Result<Items<T>, Memory>
+        ensures one { IfOk result (λ list. list ≡ item ∷ []) }
+    {
+        let mut inner = Vec::with_capacity(alloc, 1)?;
+        inner.push(item)?;
+        Ok(Items { inner })
     }
 }
 

@@ -9,6 +9,7 @@
 
 mod copy;
 mod items;
+pub mod laws;
 mod steps;
 mod text;
 
@@ -21,6 +22,3 @@ pub use text::Text;
 
 /// A list of texts.
 pub type Texts = Items<Text>;
-
-#[cfg(test)]
-mod tests;

@@ -1,10 +1,10 @@
-//! A count of steps that costs nothing when the program runs.
+//! A count of steps for contracts alone.
 ghost use Rattle.std.specs.Prelude.{◌≡◌, ◌+◌, ◌<◌};
 
 use std::marker::Model;
 use std::sync::ledger::{Blank, Book, Ledger, Share};
 
-/// How many steps were taken, over the ledger `L`. It has no bytes, and only `tick` changes it.
+/// How many steps were taken, over the ledger `L`.
 ///
 /// A function that counts steps takes a `&mut Steps<L>` last. What a step is stands in the clause of
 /// the call that takes one, as `Selector::matches` and the visit of a node of a trie.

@@ -1,5 +1,5 @@
 //! A text, seen as the list of its bytes.
-ghost use Rattle.std.specs.Prelude.{◌≡◌, IsTrue, ◌↔◌, length, IfOk, nat_eq, refl};
+ghost use Rattle.std.specs.Prelude.{◌≡◌, IsTrue, ◌↔◌, [], length, IfOk, nat_eq, refl};
 ghost use Rattle.std.specs.String.{string_bytes};
 ghost use Rattle.std.specs.Ordering.{nat_cmp, as_partial_cmp};
 ghost use Rattle.std.specs.Cmp.Lexicographic.{pointwise, slice_cmp, nat_list_eq_equiv, nat_list_cmp_total, texts_po, texts_ties};
@@ -35,6 +35,15 @@ impl Text {
         ensures { result ≡ string_bytes string }
     {
         Text { inner: string }
+    }
+
+    /// The text with no byte. It takes no memory.
+    pub fn empty(alloc: Global) -> Text
+        ensures { result ≡ [] }
+    {
+        Text {
+            inner: String::new(alloc),
+        }
     }
 
     /// The string, given back. It takes no memory.

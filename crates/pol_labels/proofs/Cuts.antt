@@ -2,6 +2,7 @@
 use Rattle.std.proofs.Common.{◌≡◌, suc, ◌+◌, List, [], ◌∷◌, ◌++◌, length, take, drop, refl, sym, ◌∙◌, ap, arith, Bool, true, false, cond, not, ◌||◌, ◌&&◌}
 use Rattle.std.specs.List.{list_any, list_all, position_or_len, before_first, after_first}
 use Rattle.std.specs.Cmp.{first_so, second_so}
+use Rattle.std.proofs.lemmas.Bool.{not-true, or_right}
 
 -- no element passes where the first place that does is the end
 pub list_any-none : {X : Type 0} (p : X → Bool) (xs : List X) → position_or_len p xs ≡ length xs → list_any p xs ≡ false
@@ -11,10 +12,6 @@ list_any-none p (x ∷ xs) at_end =
       | true ↦ λ end. absurd (omega (arith, end))
       | false ↦ λ end. list_any-none p xs (omega (arith, end))
     ] at_end
-
-not_passes : (b : Bool) → not b ≡ true → b ≡ false
-not_passes true e = sym e
-not_passes false e = refl
 
 module _ {X : Type 0} (p : X → Bool) where
   before-hit : (x : X) (xs : List X) → p x ≡ true → before_first p (x ∷ xs) ≡ []
@@ -38,7 +35,7 @@ module _ {X : Type 0} (p : X → Bool) where
   none_pass xs = list_all (λ x. not (p x)) xs
 
   miss_first : (x : X) (xs : List X) → none_pass (x ∷ xs) ≡ true → p x ≡ false
-  miss_first x xs none = not_passes (p x) (first_so (not (p x)) (none_pass xs) none)
+  miss_first x xs none = not-true (p x) (first_so (not (p x)) (none_pass xs) none)
 
   miss_rest : (x : X) (xs : List X) → none_pass (x ∷ xs) ≡ true → none_pass xs ≡ true
   miss_rest x xs none = second_so (not (p x)) (none_pass xs) none
@@ -55,11 +52,7 @@ module _ {X : Type 0} (p : X → Bool) where
 
   pub list_any-cut : (xs : List X) (y : X) (ys : List X) → p y ≡ true → list_any p (xs ++ y ∷ ys) ≡ true
   list_any-cut [] y ys hit = ap (λ b. b || list_any p ys) hit
-  list_any-cut (x ∷ xs) y ys hit = ap (λ b. p x || b) (list_any-cut xs y ys hit) ∙ or_true (p x)
-    where
-      or_true : (b : Bool) → (b || true) ≡ true
-      or_true true = refl
-      or_true false = refl
+  list_any-cut (x ∷ xs) y ys hit = ap (λ b. p x || b) (list_any-cut xs y ys hit) ∙ or_right (p x) true refl
 
   pub before_first-none : (xs : List X) → none_pass xs ≡ true → before_first p xs ≡ xs
   before_first-none [] none = refl

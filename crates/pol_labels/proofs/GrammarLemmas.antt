@@ -6,30 +6,14 @@ use Rattle.std.specs.Char.{is_ascii_graphic}
 use Rattle.std.specs.Cmp.{first_so, second_so}
 use Rattle.std.specs.Cmp.Lexicographic.{bytes_decides}
 use Rattle.std.specs.Str.{bytes_eq}
+use Rattle.std.proofs.lemmas.Bool.{and_from}
 use Rattle.std.proofs.lemmas.Bool.Decides.{Decides-ltb, Decides-eqb}
 use Rattle.std.proofs.lemmas.List.Folds.{list_all-append}
+use Rattle.pol_data.proofs.Filters.{list_all-weaker, list_all-both}
 use Rattle.pol_labels.specs.declared.label.Label.{Label}
-use Rattle.pol_labels.specs.Reading.{is_equals_sign, is_colon, name_part, value_part, source_part, key_part, label_parts, allows_source, is_readable, read_label}
+use Rattle.pol_labels.specs.LabelText.{is_equals_sign, is_colon, name_part, value_part, source_part, key_part, label_parts, allows_source, is_readable, read_label}
 use Rattle.pol_labels.specs.Grammar.{is_name_byte, is_source_byte, IsSource, IsKey, IsBareKey, IsValue, label_text, IsTextOf, whole, no_value, no_source, key_alone}
 use Rattle.pol_labels.proofs.Cuts.{none_pass, before_first-cut, after_first-cut, list_any-cut, before_first-none, after_first-none, list_any-none_pass, none_pass-from_list_any, none_pass-before_first, cut_at_first}
-
-and_true : (p q : Bool) → p ≡ true → q ≡ true → (p && q) ≡ true
-and_true true q first second = second
-and_true false q first second = first
-
--- what each element passes, it passes by a weaker test
-weaker : (p q : ℕ → Bool) → ((x : ℕ) → p x ≡ true → q x ≡ true) → (xs : List ℕ) → list_all p xs ≡ true → list_all q xs ≡ true
-weaker p q implies [] all = refl
-weaker p q implies (x ∷ xs) all =
-    and_true (q x) (list_all q xs) (implies x (first_so (p x) (list_all p xs) all)) (weaker p q implies xs (second_so (p x) (list_all p xs) all))
-
--- two tests are one
-joined : (p q : ℕ → Bool) (xs : List ℕ) → list_all p xs ≡ true → list_all q xs ≡ true → list_all (λ x. p x && q x) xs ≡ true
-joined p q [] first second = refl
-joined p q (x ∷ xs) first second =
-    and_true (p x && q x) (list_all (λ y. p y && q y) xs)
-    (and_true (p x) (q x) (first_so (p x) (list_all p xs) first) (first_so (q x) (list_all q xs) second))
-    (joined p q xs (second_so (p x) (list_all p xs) first) (second_so (q x) (list_all q xs) second))
 
 graphic_name : (x : ℕ) → is_name_byte x ≡ true → is_ascii_graphic x ≡ true
 graphic_name x is = first_so (is_ascii_graphic x) (not (is_equals_sign x)) is
@@ -38,21 +22,21 @@ name_source : (x : ℕ) → is_source_byte x ≡ true → is_name_byte x ≡ tru
 name_source x is = first_so (is_name_byte x) (not (is_colon x)) is
 
 no_equals : (xs : List ℕ) → list_all is_name_byte xs ≡ true → none_pass is_equals_sign xs ≡ true
-no_equals = weaker is_name_byte (λ x. not (is_equals_sign x)) (λ x is. second_so (is_ascii_graphic x) (not (is_equals_sign x)) is)
+no_equals = list_all-weaker is_name_byte (λ x. not (is_equals_sign x)) (λ x is. second_so (is_ascii_graphic x) (not (is_equals_sign x)) is)
 
 no_colon : (xs : List ℕ) → list_all is_source_byte xs ≡ true → none_pass is_colon xs ≡ true
-no_colon = weaker is_source_byte (λ x. not (is_colon x)) (λ x is. second_so (is_name_byte x) (not (is_colon x)) is)
+no_colon = list_all-weaker is_source_byte (λ x. not (is_colon x)) (λ x is. second_so (is_name_byte x) (not (is_colon x)) is)
 
 names : (xs : List ℕ) → list_all is_source_byte xs ≡ true → list_all is_name_byte xs ≡ true
-names = weaker is_source_byte is_name_byte name_source
+names = list_all-weaker is_source_byte is_name_byte name_source
 
 graphics : (xs : List ℕ) → list_all is_name_byte xs ≡ true → list_all is_ascii_graphic xs ≡ true
-graphics = weaker is_name_byte is_ascii_graphic graphic_name
+graphics = list_all-weaker is_name_byte is_ascii_graphic graphic_name
 
 -- all of two parts and the byte between them
 all_around : (p : ℕ → Bool) (xs : List ℕ) (y : ℕ) (ys : List ℕ) → list_all p xs ≡ true → p y ≡ true → list_all p ys ≡ true → list_all p (xs ++ y ∷ ys) ≡ true
 all_around p xs y ys front here back =
-    list_all-append p xs (y ∷ ys) ∙ and_true _ _ front (and_true (p y) (list_all p ys) here back)
+    list_all-append p xs (y ∷ ys) ∙ and_from _ _ front (and_from (p y) (list_all p ys) here back)
 
 some_bytes : (xs : List ℕ) → xs ≢ [] → nat_lt 0 (length xs) ≡ true
 some_bytes [] some = absurd (some refl)
@@ -73,7 +57,7 @@ apart_from_not_same xs ys apart same =
     let e : true ≡ false = sym apart ∙ ap not ((bytes_decides xs ys).1 same) in cc
 
 allows_source-from : (source : List ℕ) → source ≢ [] → source ≢ codes "any" → allows_source source ≡ true
-allows_source-from source some not_any = and_true _ _ (some_bytes source some) (not_same source (codes "any") not_any)
+allows_source-from source some not_any = and_from _ _ (some_bytes source some) (not_same source (codes "any") not_any)
 
 -- ---- from the grammar to the reading
 
@@ -102,7 +86,7 @@ reads text name label is_name is_value is_source is_key graphic some allowed =
     let key : key_part (name_part text) ≡ label.key = ap key_part is_name ∙ is_key in
     let parts : label_parts text ≡ label = λ i. record { source = source i; key = key i; value = is_value i } in
     let readable : is_readable text ≡ true =
-    and_true _ _ graphic (and_true _ _ (ap (λ k. nat_lt 0 (length k)) key ∙ some_bytes label.key some) (ap allows_source source ∙ allowed)) in
+    and_from _ _ graphic (and_from _ _ (ap (λ k. nat_lt 0 (length k)) key ∙ some_bytes label.key some) (ap allows_source source ∙ allowed)) in
     λ i. cond (readable i) (Some (parts i)) None
 
 reads_name : (label : Label) → IsSource label.source → IsKey label.key → list_all is_name_byte (label.source ++ 58 ∷ label.key) ≡ true
@@ -185,7 +169,7 @@ value_cases text graphic =
           let all : list_all is_ascii_graphic (name_part text ++ 61 ∷ value_part text) ≡ true = sym (ap (list_all is_ascii_graphic) is) ∙ graphic in
           inl (record {
             is = is;
-            name = joined is_ascii_graphic (λ x. not (is_equals_sign x)) (name_part text) (all_front is_ascii_graphic (name_part text) 61 (value_part text) all) (none_pass-before_first is_equals_sign text);
+            name = list_all-both is_ascii_graphic (λ x. not (is_equals_sign x)) (name_part text) (all_front is_ascii_graphic (name_part text) 61 (value_part text) all) (none_pass-before_first is_equals_sign text);
             value = all_back is_ascii_graphic (name_part text) 61 (value_part text) all;
           })
       | false ↦ λ none.
@@ -193,7 +177,7 @@ value_cases text graphic =
           let name : name_part text ≡ text = before_first-none is_equals_sign text nowhere in
           inr (record {
             is = sym name;
-            name = ap (list_all is_name_byte) name ∙ joined is_ascii_graphic (λ x. not (is_equals_sign x)) text graphic nowhere;
+            name = ap (list_all is_name_byte) name ∙ list_all-both is_ascii_graphic (λ x. not (is_equals_sign x)) text graphic nowhere;
             value = after_first-none is_equals_sign text nowhere;
           })
     ] refl
@@ -223,7 +207,7 @@ source_cases name bytes =
           let all : list_all is_name_byte (source_part name ++ 58 ∷ key_part name) ≡ true = sym (ap (list_all is_name_byte) is) ∙ bytes in
           inl (record {
             is = is;
-            source = joined is_name_byte (λ x. not (is_colon x)) (source_part name) (all_front is_name_byte (source_part name) 58 (key_part name) all)
+            source = list_all-both is_name_byte (λ x. not (is_colon x)) (source_part name) (all_front is_name_byte (source_part name) 58 (key_part name) all)
                 (ap (none_pass is_colon) source ∙ none_pass-before_first is_colon name);
             key = all_back is_name_byte (source_part name) 58 (key_part name) all;
           })
@@ -231,7 +215,7 @@ source_cases name bytes =
           inr (record {
             source = ap (λ b. cond b (before_first is_colon name) (codes "unspec")) none;
             key = ap (λ b. cond b (after_first is_colon name) name) none;
-            bytes = joined is_name_byte (λ x. not (is_colon x)) name bytes (none_pass-from_list_any is_colon name none);
+            bytes = list_all-both is_name_byte (λ x. not (is_colon x)) name bytes (none_pass-from_list_any is_colon name none);
           })
     ] refl
 

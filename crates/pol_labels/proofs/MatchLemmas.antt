@@ -1,28 +1,14 @@
 -- What a requirement asks depends on nothing but the labels of its key.
-use Rattle.std.proofs.Common.{◌≡◌, List, [], ◌∷◌, refl, sym, ◌∙◌, ap, Bool, true, false, cond, not, ◌||◌}
+use Rattle.std.proofs.Common.{◌≡◌, List, [], sym, ◌∙◌, ap, false, not}
 use Rattle.std.specs.Prelude.{filter}
 use Rattle.std.specs.List.{list_any}
 use Rattle.std.specs.Cmp.{first_so}
+use Rattle.pol_data.proofs.Filters.{list_any-filter, filter-none}
 use Rattle.pol_labels.specs.declared.label.Label.{Label}
 use Rattle.pol_labels.specs.declared.requirement.Requirement.{Requirement}
 use Rattle.pol_labels.specs.declared.requirement.Operator.{Operator}
 use Rattle.pol_labels.specs.declared.requirement.Operator.TheVariants.{OneOf, NoneOf, Present, Absent}
 use Rattle.pol_labels.specs.Match.{has_key, candidate, candidate_with_value, asked, meets}
-
--- a test that passes only what q passes finds the same among what q keeps
-list_any-filter : {X : Type 0} (p q : X → Bool) → ((x : X) → p x ≡ true → q x ≡ true) → (xs : List X) → list_any p xs ≡ list_any p (filter q xs)
-list_any-filter p q implies [] = refl
-list_any-filter p q implies (x ∷ xs) =
-    elim (q x) as (λ b. q x ≡ b → (p x || list_any p xs) ≡ list_any p (cond b (x ∷ filter q xs) (filter q xs))) [
-      | true ↦ λ _. ap (λ b. p x || b) (list_any-filter p q implies xs)
-      | false ↦ λ drops. ap (λ b. b || list_any p xs) (fails drops) ∙ list_any-filter p q implies xs
-    ] refl
-  where
-    fails : q x ≡ false → p x ≡ false
-    fails drops = elim (p x) as (λ b. p x ≡ b → b ≡ false) [
-      | true ↦ λ passes. sym (implies x passes) ∙ drops
-      | false ↦ λ _. refl
-    ] refl
 
 candidates-filter : (requirement : Requirement) (labels : List Label) → list_any (candidate requirement) labels ≡ list_any (candidate requirement) (filter (has_key requirement.key) labels)
 candidates-filter requirement =
@@ -45,14 +31,6 @@ meets-same_key requirement a b same =
     asked-filter requirement.op requirement a
     ∙ (ap (asked requirement.op requirement) same ∙ sym (asked-filter requirement.op requirement b))
 
-none_kept : {X : Type 0} (p : X → Bool) (xs : List X) → list_any p xs ≡ false → filter p xs ≡ []
-none_kept p [] none = refl
-none_kept p (x ∷ xs) none =
-    elim (p x) as (λ b. (b || list_any p xs) ≡ false → cond b (x ∷ filter p xs) (filter p xs) ≡ []) [
-      | true ↦ λ none. cc
-      | false ↦ λ none. none_kept p xs none
-    ] none
-
 -- where no label has the key, there is no candidate, and so none with a listed value
 pub asked-no_key : (op : Operator) (requirement : Requirement) (labels : List Label) → list_any (has_key requirement.key) labels ≡ false → asked op requirement labels ≡ asked op requirement []
-asked-no_key op requirement labels none = asked-filter op requirement labels ∙ ap (asked op requirement) (none_kept (has_key requirement.key) labels none)
+asked-no_key op requirement labels none = asked-filter op requirement labels ∙ ap (asked op requirement) (filter-none (has_key requirement.key) labels none)

@@ -9,14 +9,16 @@ use Rattle.std.specs.Ordering.{ordering_reverse, ordering_then, is_eq, is_lt, na
 use Rattle.std.specs.Cmp.{IsTotalOrder, IsEquivalence, both_ways}
 use Rattle.std.specs.Cmp.Lexicographic.{slice_cmp, nat_list_eq_equiv}
 use Rattle.std.proofs.lemmas.Cmp.{then_total, on_total, nat_list_cmp_total, and_equiv, on_equiv}
+use Rattle.std.proofs.lemmas.Bool.{or_parts, or_right}
 use Rattle.std.proofs.lemmas.Map.Text.{is_eq-slice_cmp}
 use Rattle.std.proofs.lemmas.List.Folds.{list_any_at}
-use Rattle.std.proofs.lemmas.List.Sums.{sum_by-cons}
 use Rattle.std.proofs.lemmas.Map.Steps.{list_any_congr}
 use Rattle.std.proofs.lemmas.List.Sorted.{sum_by-IsPermutation, Contains-permutation, IsPermutation-sym}
 use Rattle.pol_labels.specs.declared.label.Label.{Label}
-use Rattle.pol_labels.specs.Order.{place_order, IsLabelSet, same_place, has_duplicate_key, put_in_order, in_order, label_set_of}
-use Rattle.pol_labels.proofs.Members.{In, In-from_Contains, Contains-from_In, each-at, each-from, same_members}
+use Rattle.pol_labels.specs.Order.{label_order, place_order, IsLabelSet, same_place, has_duplicate_key, put_in_order, in_order, label_set_of}
+use Rattle.pol_data.proofs.Members.{In, In-from_Contains, Contains-from_In, every-in, every-from_in, list_any-none_in}
+use Rattle.pol_data.proofs.Ascending.{same_members}
+use Rattle.pol_data.proofs.Counts.{count_by-cons, count_by-none, count_by-some}
 
 pub place_order-total : IsTotalOrder place_order
 place_order-total = then_total (on_total (λ (label : Label). label.source) nat_list_cmp_total) (on_total (λ (label : Label). label.key) nat_list_cmp_total)
@@ -48,12 +50,6 @@ below_from_not_above a b not_above apart =
 pub apart_from_below : (a b : Label) → place_order a b ≡ Less → same_place a b ≡ false
 apart_from_below a b below = sym (is_eq-place_order a b) ∙ ap is_eq below
 
--- labels by source, then key, then value, as their `cmp` has it
-abbrev pub label_order : Label → Label → Ordering
-label_order a b =
-    ordering_then (slice_cmp nat_cmp a.source b.source)
-    (ordering_then (slice_cmp nat_cmp a.key b.key) (slice_cmp nat_cmp a.value b.value))
-
 not_above_by_place : (a b : Label) → is_lt (label_order a b) ≡ false → is_lt (place_order a b) ≡ false
 not_above_by_place a b =
     by_cases (slice_cmp nat_cmp a.source b.source) (slice_cmp nat_cmp a.key b.key) (slice_cmp nat_cmp a.value b.value)
@@ -77,7 +73,7 @@ IsLabelSet-from_neighbours (x ∷ xs) ascends =
     head [] sorted first = tt
     head (y ∷ ys) sorted first =
         let above : place_order x y ≡ Less = first y (omega arith) in
-        (above, each-from _ ys (λ z there. place_order-total.trans x y z above (each-at _ ys sorted.0 z there)))
+        (above, every-from_in _ ys (λ z there. place_order-total.trans x y z above (every-in _ ys sorted.0 z there)))
 
 -- a sorted list whose neighbours have different places is a set
 pub IsLabelSet-sorted : (cmp : Label → Label → Ordering) → ((a b : Label) → cmp a b ≡ label_order a b) → (xs : List Label) → IsSorted cmp xs
@@ -91,44 +87,17 @@ IsLabelSet-sorted cmp is xs sorted apart =
 
 -- ---- labels that share source and key
 
-or_false_first : (a b : Bool) → (a || b) ≡ false → a ≡ false
-or_false_first true b e = e
-or_false_first false b e = refl
-
-or_false_second : (a b : Bool) → (a || b) ≡ false → b ≡ false
-or_false_second true b e = cc
-or_false_second false b e = e
-
-count_by-cons : (p : Label → Bool) (x : Label) (xs : List Label) → count_by p (x ∷ xs) ≡ cond (p x) 1 0 + count_by p xs
-count_by-cons p x xs = sum_by-cons (λ y. cond (p y) 1 0) x xs
-
-none_counted : (p : Label → Bool) (xs : List Label) → list_any p xs ≡ false → count_by p xs ≡ 0
-none_counted p [] none = refl
-none_counted p (x ∷ xs) none =
-    let first : p x ≡ false = or_false_first (p x) (list_any p xs) none in
-    let rest : count_by p xs ≡ 0 = none_counted p xs (or_false_second (p x) (list_any p xs) none) in
-    count_by-cons p x xs ∙ (λ i. cond (first i) 1 0 + rest i)
-
-some_counted : (p : Label → Bool) (xs : List Label) → list_any p xs ≡ true → 1 ≤ count_by p xs
-some_counted p [] some = cc
-some_counted p (x ∷ xs) some =
-    subst (λ n. 1 ≤ n) (sym (count_by-cons p x xs))
-    (elim (p x) as (λ b. (b || list_any p xs) ≡ true → 1 ≤ cond b 1 0 + count_by p xs) [
-      | true ↦ λ _. omega arith
-      | false ↦ λ later. let rest = some_counted p xs later in omega (arith, rest)
-    ] some)
-
 -- without such labels each place has at most one label
 at_most_one : (xs : List Label) → has_duplicate_key xs ≡ false → (place : Label) → count_by (same_place place) xs ≤ 1
 at_most_one [] none place = omega arith
 at_most_one (x ∷ xs) none place =
-    let others : list_any (same_place x) xs ≡ false = or_false_first _ (has_duplicate_key xs) none in
-    let rest = at_most_one xs (or_false_second (list_any (same_place x) xs) _ none) place in
+    let others : list_any (same_place x) xs ≡ false = (or_parts _ (has_duplicate_key xs) none).0 in
+    let rest = at_most_one xs ((or_parts (list_any (same_place x) xs) _ none).1) place in
     subst (λ n. n ≤ 1) (sym (count_by-cons (same_place place) x xs))
     (elim (same_place place x) as (λ b. same_place place x ≡ b → cond b 1 0 + count_by (same_place place) xs ≤ 1) [
       | true ↦ λ here.
           let none_here : list_any (same_place place) xs ≡ false = list_any_congr same_place-equivalence place x xs here ∙ others in
-          let no_more = none_counted (same_place place) xs none_here in
+          let no_more = count_by-none (same_place place) xs none_here in
           omega (arith, no_more)
       | false ↦ λ _. omega (arith, rest)
     ] refl)
@@ -139,7 +108,7 @@ two_counted [] some = cc
 two_counted (x ∷ xs) some =
     elim (list_any (same_place x) xs) as (λ b. list_any (same_place x) xs ≡ b → (b || has_duplicate_key xs) ≡ true → (place : Label) × (2 ≤ count_by (same_place place) (x ∷ xs))) [
       | true ↦ λ again _.
-          let more : 1 ≤ count_by (same_place x) xs = some_counted (same_place x) xs again in
+          let more : 1 ≤ count_by (same_place x) xs = count_by-some (same_place x) xs again in
           let one : ℕ = 1 in
           let itself : cond (same_place x x) 1 0 ≡ one = ap (λ b. cond b 1 0) (same_place-equivalence.refl x) in
           let all = count_by-cons (same_place x) x xs in
@@ -183,11 +152,7 @@ has_duplicate_key-at (x ∷ xs) i zero d ordered below same = absurd (omega arit
 has_duplicate_key-at (x ∷ xs) zero (suc j) d ordered below same =
     ap (λ b. b || has_duplicate_key xs) (list_any_at (same_place x) xs j d (omega arith) same)
 has_duplicate_key-at (x ∷ xs) (suc i) (suc j) d ordered below same =
-    ap (λ b. list_any (same_place x) xs || b) (has_duplicate_key-at xs i j d (omega arith) (omega arith) same) ∙ or_true _
-  where
-    or_true : (b : Bool) → (b || true) ≡ true
-    or_true true = refl
-    or_true false = refl
+    ap (λ b. list_any (same_place x) xs || b) (has_duplicate_key-at xs i j d (omega arith) (omega arith) same) ∙ or_right _ true refl
 
 -- ---- the labels in order
 
@@ -241,12 +206,12 @@ IsLabelSet-put_in_order new [] sorted apart = (tt, tt)
 IsLabelSet-put_in_order new (x ∷ xs) sorted apart =
     elim (is_lt (place_order x new)) as (λ b. is_lt (place_order x new) ≡ b → IsLabelSet (cond b (x ∷ put_in_order new xs) (new ∷ x ∷ xs))) [
       | true ↦ λ below. (
-        each-from _ (put_in_order new xs) (λ z there. above (less (place_order x new) below) z (in_put_order z new xs there)),
+        every-from_in _ (put_in_order new xs) (λ z there. above (less (place_order x new) below) z (in_put_order z new xs there)),
         IsLabelSet-put_in_order new xs sorted.1 (λ z there. apart z (inr there)),
       )
       | false ↦ λ not_above.
           let first : place_order new x ≡ Less = below_from_not_above new x not_above (apart x (inl refl)) in (
-            (first, each-from _ xs (λ z there. place_order-total.trans new x z first (each-at _ xs sorted.0 z there))),
+            (first, every-from_in _ xs (λ z there. place_order-total.trans new x z first (every-in _ xs sorted.0 z there))),
             sorted,
           )
     ] refl
@@ -258,20 +223,15 @@ IsLabelSet-put_in_order new (x ∷ xs) sorted apart =
 
     above : place_order x new ≡ Less → (z : Label) → (new ≡ z) ⊎ In z xs → place_order x z ≡ Less
     above below z (inl same) = subst (λ w. place_order x w ≡ Less) same below
-    above below z (inr there) = each-at _ xs sorted.0 z there
-
-none_at : (p : Label → Bool) (xs : List Label) → list_any p xs ≡ false → (z : Label) → In z xs → p z ≡ false
-none_at p [] none z there = elim there [ ]
-none_at p (x ∷ xs) none z (inl first) = subst (λ w. p w ≡ false) first (or_false_first (p x) _ none)
-none_at p (x ∷ xs) none z (inr later) = none_at p xs (or_false_second (p x) _ none) z later
+    above below z (inr there) = every-in _ xs sorted.0 z there
 
 pub IsLabelSet-in_order : (xs : List Label) → has_duplicate_key xs ≡ false → IsLabelSet (in_order xs)
 unfolding IsStrictlySortedBy
 IsLabelSet-in_order [] none = tt
 IsLabelSet-in_order (x ∷ xs) none =
     IsLabelSet-put_in_order x (in_order xs)
-    (IsLabelSet-in_order xs (or_false_second (list_any (same_place x) xs) _ none))
-    (λ z there. none_at (same_place x) xs (or_false_first _ (has_duplicate_key xs) none) z (in_in_order z xs there))
+    (IsLabelSet-in_order xs ((or_parts (list_any (same_place x) xs) _ none).1))
+    (λ z there. list_any-none_in (same_place x) xs ((or_parts _ (has_duplicate_key xs) none).0) z (in_in_order z xs there))
 
 -- a set with the same labels is the labels in order
 pub label_set_of-IsPermutation : (xs ys : List Label) → IsPermutation xs ys → IsLabelSet ys → label_set_of xs ≡ Some ys

@@ -1,13 +1,17 @@
 -- What the definitions of label sets mean.
-use Rattle.std.proofs.Common.{◌≡◌, ℕ, zero, suc, ◌<◌, List, [], ◌∷◌, length, get_or, refl, ap, subst, arith, Bool, true, false, cond, ◌||◌, ◌&&◌}
+use Rattle.std.proofs.Common.{◌≡◌, ℕ, zero, suc, List, [], ◌∷◌, refl, ◌∙◌, ap, subst, arith, Bool, true, false, cond, ◌||◌}
 use Rattle.std.specs.Prelude.{◌↔◌, Some, None}
 use Rattle.std.specs.List.{Contains, list_any}
 use Rattle.std.specs.Cmp.{first_so, second_so}
 use Rattle.std.specs.Cmp.Lexicographic.{bytes_decides}
 use Rattle.std.specs.Str.{bytes_eq}
+use Rattle.std.proofs.lemmas.Bool.{and_from}
+use Rattle.std.proofs.lemmas.List.{get_or_default}
+use Rattle.std.proofs.lemmas.List.Folds.{Any-from_list_any}
 use Rattle.pol_labels.specs.declared.label.Label.{Label}
 use Rattle.pol_labels.specs.Order.{IsLabelSet, same_place, has_duplicate_key, in_order, label_set_of, ShareKeyAt}
-use Rattle.pol_labels.proofs.Members.{In-from_Contains, Contains-from_In, same_members}
+use Rattle.pol_data.proofs.Members.{In-from_Contains, Contains-from_In}
+use Rattle.pol_data.proofs.Ascending.{same_members}
 use Rattle.pol_labels.proofs.Places.{place_order-total, IsLabelSet-in_order, has_duplicate_key-at, in_in_order, in_order-in}
 
 -- two sets with the same labels are equal
@@ -47,20 +51,8 @@ same_place-parts a b = (
     (bytes_decides a.source b.source).0 (first_so _ (bytes_eq a.key b.key) same),
     (bytes_decides a.key b.key).0 (second_so (bytes_eq a.source b.source) _ same),
   ),
-  λ same. and_true _ _ ((bytes_decides a.source b.source).1 same.0) ((bytes_decides a.key b.key).1 same.1),
+  λ same. and_from _ _ ((bytes_decides a.source b.source).1 same.0) ((bytes_decides a.key b.key).1 same.1),
 )
-  where
-    and_true : (p q : Bool) → p ≡ true → q ≡ true → (p && q) ≡ true
-    and_true true q first second = second
-    and_true false q first second = first
-
-found_at : (p : Label → Bool) (xs : List Label) → list_any p xs ≡ true → (k : ℕ) × (k < length xs) × ((d : Label) → p (get_or xs k d) ≡ true)
-found_at p [] some = cc
-found_at p (x ∷ xs) some =
-    elim (p x) as (λ b. p x ≡ b → (b || list_any p xs) ≡ true → (k : ℕ) × (k < length (x ∷ xs)) × ((d : Label) → p (get_or (x ∷ xs) k d) ≡ true)) [
-      | true ↦ λ here _. (zero, omega arith, λ _. here)
-      | false ↦ λ _ later. let rest = found_at p xs later in (suc rest.0, (let below = rest.1 in omega (arith, below)), rest.2)
-    ] refl some
 
 -- two labels share source and key exactly where two places of the list have such labels
 pub has_duplicate_key-places : (labels : List Label) → (has_duplicate_key labels ≡ true) ↔ ((i : ℕ) × (j : ℕ) × ShareKeyAt labels i j)
@@ -71,9 +63,11 @@ has_duplicate_key-places labels = (places labels, λ found. back labels found.0 
     places (x ∷ xs) some =
         elim (list_any (same_place x) xs) as (λ b. list_any (same_place x) xs ≡ b → (b || has_duplicate_key xs) ≡ true → (i : ℕ) × (j : ℕ) × ShareKeyAt (x ∷ xs) i j) [
           | true ↦ λ here _.
-              let found = found_at (same_place x) xs here in
-              let below = found.1 in
-              (zero, suc found.0, record { ordered = omega arith; below = omega (arith, below); same = found.2 })
+              let (k, y, below, at, shared) = Any-from_list_any (same_place x) xs here in (
+                zero,
+                suc k,
+                record { ordered = omega arith; below = omega arith; same = λ d. ap (same_place x) (get_or_default xs k d y below ∙ at) ∙ shared },
+              )
           | false ↦ λ _ later.
               let found = places xs later in
               let shared = found.2 in

@@ -4,7 +4,7 @@ use Rattle.std.specs.Prelude.{◌≡◌, ◌≢◌, ℕ, Bool, not, ◌&&◌, Li
 use Rattle.std.specs.List.{list_all}
 use Rattle.std.specs.Char.{is_ascii_graphic}
 use Rattle.pol_labels.specs.declared.label.Label.{Label}
-use Rattle.pol_labels.specs.Reading.{is_equals_sign, is_colon}
+use Rattle.pol_labels.specs.LabelText.{is_equals_sign, is_colon}
 
 -- a byte that may stand before the `=`
 abbrev pub is_name_byte : ℕ → Bool

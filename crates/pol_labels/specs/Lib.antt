@@ -1,7 +1,7 @@
 pub mod Grammar
 pub mod Match
 pub mod Order
-pub mod Reading
+pub mod LabelText
 pub mod Same
 pub mod SameLaws
 pub mod WellFormed

@@ -8,6 +8,7 @@ use Rattle.pol_labels.specs.declared.label.Label.{Label}
 use Rattle.pol_labels.specs.declared.requirement.Requirement.{Requirement}
 use Rattle.pol_labels.specs.declared.requirement.Operator.{Operator}
 use Rattle.pol_labels.specs.declared.requirement.Operator.TheVariants.{OneOf, NoneOf, Present, Absent}
+use Rattle.pol_labels.specs.Same.{same_label}
 
 -- the label has the key
 abbrev pub has_key : List ℕ → Label → Bool
@@ -37,3 +38,7 @@ meets requirement labels = asked requirement.op requirement labels
 -- the labels match the selector: they meet each of its requirements
 abbrev pub matches : List Requirement → List Label → Bool
 matches selector labels = list_all (λ requirement. meets requirement labels) selector
+
+-- the label is one of these
+abbrev pub carries : List Label → Label → Bool
+carries labels label = list_any (same_label label) labels

@@ -9,6 +9,12 @@ use Rattle.std.specs.List.Sorted.{IsStrictlySortedBy}
 use Rattle.std.specs.Str.{bytes_eq}
 use Rattle.pol_labels.specs.declared.label.Label.{Label}
 
+-- labels by source, then key, then value, each by bytes
+abbrev pub label_order : Label → Label → Ordering
+label_order a b =
+    ordering_then (slice_cmp nat_cmp a.source b.source)
+    (ordering_then (slice_cmp nat_cmp a.key b.key) (slice_cmp nat_cmp a.value b.value))
+
 -- labels by source, then key, each by bytes
 abbrev pub place_order : Label → Label → Ordering
 place_order a b = ordering_then (slice_cmp nat_cmp a.source b.source) (slice_cmp nat_cmp a.key b.key)

@@ -1,25 +1,22 @@
 -- The equality tests decide equality, and so are equivalences. The `PartialEq` and `Hash` of label sets and selectors stand on these.
-use Rattle.std.specs.Prelude.{◌≡◌, Bool, true, false, ◌&&◌, List}
+use Rattle.std.specs.Prelude.{◌≡◌, true, ◌&&◌, List}
 use Rattle.std.specs.Bool.{Decides, beq}
 use Rattle.std.specs.Cmp.{IsEquivalence, first_so, second_so, decided, booleans_Decides}
 use Rattle.std.specs.Cmp.Lexicographic.{pointwise_decides, bytes_decides}
 use Rattle.std.specs.Str.{bytes_eq}
 use Rattle.std.proofs.Common.{subst, refl}
+use Rattle.std.proofs.lemmas.Bool.{and_from}
 use Rattle.pol_labels.specs.declared.label.Label.{Label}
 use Rattle.pol_labels.specs.declared.requirement.Requirement.{Requirement}
 use Rattle.pol_labels.specs.declared.requirement.Operator.{Operator}
 use Rattle.pol_labels.specs.declared.requirement.Operator.TheVariants.{OneOf, NoneOf, Present, Absent}
 use Rattle.pol_labels.specs.Same.{same_label, same_labels, same_operator, same_requirement, same_requirements}
 
-and_true : (p q : Bool) → p ≡ true → q ≡ true → (p && q) ≡ true
-and_true true q first second = second
-and_true false q first second = first
-
 -- each test decides equality
 same_label-itself : (a : Label) → same_label a a ≡ true
 same_label-itself a =
-    and_true _ _ ((bytes_decides a.source a.source).1 refl)
-    (and_true _ _ ((bytes_decides a.key a.key).1 refl) ((bytes_decides a.value a.value).1 refl))
+    and_from _ _ ((bytes_decides a.source a.source).1 refl)
+    (and_from _ _ ((bytes_decides a.key a.key).1 refl) ((bytes_decides a.value a.value).1 refl))
 
 pub same_label-Decides : (a b : Label) → Decides (same_label a b) (a ≡ b)
 same_label-Decides a b = (to, λ same. subst (λ c. same_label a c ≡ true) same (same_label-itself a))
@@ -35,7 +32,7 @@ same_label-Decides a b = (to, λ same. subst (λ c. same_label a c ≡ true) sam
 pub same_labels-Decides : (a b : List Label) → Decides (same_labels a b) (a ≡ b)
 same_labels-Decides = pointwise_decides same_label-Decides
 
-same_operator-Decides : (a b : Operator) → Decides (same_operator a b) (a ≡ b)
+pub same_operator-Decides : (a b : Operator) → Decides (same_operator a b) (a ≡ b)
 same_operator-Decides OneOf OneOf = (λ _. refl, λ _. refl)
 same_operator-Decides NoneOf NoneOf = (λ _. refl, λ _. refl)
 same_operator-Decides Present Present = (λ _. refl, λ _. refl)
@@ -55,10 +52,10 @@ same_operator-Decides Absent Present = (λ e. cc, λ e. cc)
 
 same_requirement-itself : (a : Requirement) → same_requirement a a ≡ true
 same_requirement-itself a =
-    and_true _ _ ((booleans_Decides a.any_source a.any_source).1 refl)
-    (and_true _ _ ((bytes_decides a.source a.source).1 refl)
-    (and_true _ _ ((bytes_decides a.key a.key).1 refl)
-    (and_true _ _ ((same_operator-Decides a.op a.op).1 refl) ((pointwise_decides bytes_decides a.values a.values).1 refl))))
+    and_from _ _ ((booleans_Decides a.any_source a.any_source).1 refl)
+    (and_from _ _ ((bytes_decides a.source a.source).1 refl)
+    (and_from _ _ ((bytes_decides a.key a.key).1 refl)
+    (and_from _ _ ((same_operator-Decides a.op a.op).1 refl) ((pointwise_decides bytes_decides a.values a.values).1 refl))))
 
 pub same_requirement-Decides : (a b : Requirement) → Decides (same_requirement a b) (a ≡ b)
 same_requirement-Decides a b = (to, λ same. subst (λ c. same_requirement a c ≡ true) same (same_requirement-itself a))

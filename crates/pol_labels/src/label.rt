@@ -2,7 +2,7 @@
 ghost use Rattle.std.specs.Prelude.{◌≡◌, ◌↔◌, IsTrue, IfOk, IsErrOf, None, Some, length};
 ghost use Rattle.std.specs.List.{list_all};
 ghost use Rattle.std.specs.Char.{is_ascii_graphic};
-ghost use Rattle.pol_labels.specs.Reading.{read_label, name_part, value_part, source_part, key_part, allows_source};
+ghost use Rattle.pol_labels.specs.LabelText.{read_label, name_part, value_part, source_part, key_part, allows_source};
 ghost use Rattle.pol_labels.specs.Order.{same_place};
 ghost use Rattle.pol_labels.specs.declared.label.LabelError.TheVariants.{Memory as WantOfMemory};
 

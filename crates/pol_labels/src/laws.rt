@@ -4,12 +4,15 @@ ghost use Rattle.std.specs.Prelude.{◌≡◌, ◌↔◌, ℕ, true, false, not,
 ghost use Rattle.std.specs.List.{Contains, list_any};
 ghost use Rattle.pol_labels.specs.declared.label.Label.{Label};
 ghost use Rattle.pol_labels.specs.declared.requirement.Requirement.{Requirement};
+ghost use Rattle.pol_labels.specs.declared.requirement.Operator.{Operator};
 ghost use Rattle.pol_labels.specs.declared.requirement.Operator.TheVariants.{OneOf, NoneOf, Present, Absent};
 ghost use Rattle.pol_labels.specs.Grammar.{IsTextOf, IsSource, IsKey, IsValue, label_text};
 ghost use Rattle.pol_labels.specs.Match.{has_key, meets};
-ghost use Rattle.pol_labels.specs.Order.{IsLabelSet, ShareKeyAt, same_place, has_duplicate_key, label_set_of};
-ghost use Rattle.pol_labels.specs.Reading.{read_label};
+ghost use Rattle.pol_labels.specs.Order.{label_order, IsLabelSet, ShareKeyAt, same_place, has_duplicate_key, label_set_of};
+ghost use Rattle.pol_labels.specs.LabelText.{read_label};
 ghost use Rattle.pol_labels.specs.Same.{same_label, same_labels, same_requirement, same_requirements};
+
+use crate::{Label, LabelSet, Operator, Requirement, Selector};
 
 /// What a text is read as, by the grammar: a text is read as a label exactly where it is a text of it,
 /// it is a text of one label at most, and the printed text of a label whose parts allow it is read as it.
@@ -52,10 +55,24 @@ pub fn requirements()
         → meets requirement a ≡ meets requirement b }
 {}
 
+/// The order of labels: by source, then key, then value, each by bytes.
+pub fn order_of_labels()
+    ensures { (a b : Label) → ⟦<Label as Ord>⟧.cmp a b ≡ label_order a b }
+{}
+
 /// The equality tests are true exactly where the two are the same.
 pub fn equality_tests()
     ensures label { (a b : Label) → IsTrue (same_label a b) ↔ (a ≡ b) }
     ensures labels { (a b : List Label) → IsTrue (same_labels a b) ↔ (a ≡ b) }
     ensures requirement { (a b : Requirement) → IsTrue (same_requirement a b) ↔ (a ≡ b) }
     ensures requirements { (a b : List Requirement) → IsTrue (same_requirements a b) ↔ (a ≡ b) }
+{}
+
+/// `==` is true exactly where both are one value, so each of these types may be the key of a table.
+pub fn equality()
+    ensures label { (a b : Label) → IsTrue (⟦<Label as PartialEq>⟧.eq a b) ↔ (a ≡ b) }
+    ensures set { (a b : List Label) → IsTrue (⟦<LabelSet as PartialEq>⟧.eq a b) ↔ (a ≡ b) }
+    ensures operator { (a b : Operator) → IsTrue (⟦<Operator as PartialEq>⟧.eq a b) ↔ (a ≡ b) }
+    ensures requirement { (a b : Requirement) → IsTrue (⟦<Requirement as PartialEq>⟧.eq a b) ↔ (a ≡ b) }
+    ensures selector { (a b : List Requirement) → IsTrue (⟦<Selector as PartialEq>⟧.eq a b) ↔ (a ≡ b) }
 {}

@@ -13,6 +13,7 @@
 //! `laws` has what these mean, as functions whose contract is the law.
 #![tactic(auto)]
 
+mod carries;
 mod label;
 mod label_set;
 pub mod laws;
@@ -23,6 +24,3 @@ pub use label::{Label, LabelError};
 pub use label_set::{LabelSet, SetError};
 pub use requirement::{Operator, Requirement};
 pub use selector::{Selector, SelectorError};
-
-#[cfg(test)]
-mod tests;

@@ -1,5 +1,5 @@
 //! What a selector asks of a label set.
-ghost use Rattle.std.specs.Prelude.{◌≡◌, IfOk};
+ghost use Rattle.std.specs.Prelude.{◌≡◌, IfOk, Ok};
 ghost use Rattle.std.specs.List.{list_any};
 ghost use Rattle.std.specs.Str.{bytes_eq};
 ghost use Rattle.pol_labels.specs.WellFormed.{is_well_formed, takes_values};
@@ -23,9 +23,9 @@ pub enum Operator {
 }
 
 impl Operator {
-    /// The operator again. It takes no memory.
+    /// The operator again. It takes no memory, and so has no error.
     pub fn copy(&self, _alloc: Global) -> Result<Operator, Memory>
-        ensures equal { IfOk result (λ copy. copy ≡ self.now) }
+        ensures { result ≡ Ok self.now }
     {
         Ok(*self)
     }

@@ -1,8 +1,9 @@
 //! A list of requirements that are all to be met.
-ghost use Rattle.std.specs.Prelude.{◌≡◌, ◌+◌, ◌↔◌, false, IsTrue, IfOk, OnOk, IsErrOf};
+ghost use Rattle.std.specs.Prelude.{◌≡◌, ◌+◌, ◌↔◌, false, IsTrue, IfOk, IfErr, OnOk, IsErrOf};
 ghost use Rattle.std.specs.Cmp.{partial_equiv_from_equiv};
 ghost use Rattle.std.specs.Hash as fed;
 ghost use Rattle.std.specs.Hash.{same_Alike};
+ghost use Rattle.pol_labels.specs.declared.selector.SelectorError.TheVariants.{Bad};
 ghost use Rattle.pol_labels.specs.Match.{matches};
 ghost use Rattle.pol_labels.specs.Same.{same_requirements};
 ghost use Rattle.pol_labels.specs.SameLaws.{same_requirements-equivalence, same_requirements-Decides};
@@ -50,7 +51,7 @@ impl Selector {
     ///
     /// `Bad` comes exactly where a key is empty, or where the values don't fit the operator: `OneOf` and
     /// `NoneOf` need at least one, `Present` and `Absent` take none (Kubernetes, `LabelSelectorRequirement`).
-    /// No memory is taken, and `Memory` is not answered.
+    /// There is no other error: no memory is taken.
     pub fn from_requirements(
         _alloc: Global,
         list: Vec<Requirement>,
@@ -58,6 +59,7 @@ impl Selector {
         ensures selector { IfOk result (λ selector. selector ≡ list.items) }
         ensures well_formed { OnOk result (IsTrue (all_well_formed list.items)) }
         ensures bad { IsErrOf result SelectorError.Bad ↔ (all_well_formed list.items ≡ false) }
+        ensures no_other { IfErr result (λ error. error ≡ Bad) }
     {
         if !are_well_formed(list.as_slice()) {
             return Err(SelectorError::Bad);
@@ -75,16 +77,13 @@ impl Selector {
         self.requirements.as_slice()
     }
 
-    /// Whether the labels match: they meet each requirement. It is one step, and takes no memory.
+    /// Whether the labels match, as `is_met_by`. It is one step, and takes no memory.
     pub fn matches<L: Ledger>(&self, labels: &LabelSet, steps: &mut Steps<L>) -> bool
         ensures answer { result ≡ matches self.now labels.now }
         ensures cost { steps.new ≡ steps.old + 1 }
     {
         steps.tick();
-        let labels = labels.as_slice();
-        self.as_slice()
-            .iter()
-            .all(|requirement| requirement.is_met_by(labels))
+        self.is_met_by(labels)
     }
 
     /// A selector equal to this one. The one error is want of memory.

@@ -8,7 +8,7 @@ use Rattle.pol_addr.specs.Prefix.{half, covers}
 use Rattle.pol_addr.proofs.Containment.{covers_refl, covers_trans, covers_from_half, covers_from_covered, same_from_covered}
 use Rattle.pol_lpm.specs.declared.node.Node.{Node}
 use Rattle.pol_lpm.specs.Trie.{child, IsTree}
-use Rattle.pol_lpm.proofs.Halves.{cases_side, same_half, not_both, half_no_cover, covers_len, half_over, half_moved, covers_moved}
+use Rattle.pol_addr.proofs.Halves.{cases_side, same_half, not_both, half_no_cover, covers_len, half_over, half_moved, covers_moved}
 
 -- node `c` came under the key j, between node `n` under the key i and what was below it on this side
 pub record Attached (at at' : ℕ → Option Node) (i j : ℕ) (n n' c : Node) (high : Bool) : Type 0 where

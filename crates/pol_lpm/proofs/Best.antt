@@ -77,8 +77,8 @@ module _ (s : Slab Node) (t : IsTree (get s)) (target : Prefix) where
   first root is over zero None numbered = λ j m is_m over_m short.
       ap (λ x. x.number) (alone 0 j root m is is_m over over_m (omega arith)) ∙ numbered
 
-  pub best_start : (root : Node) → get s 0 ≡ Some root → StandsOver s target 33 0 → root.prefix ≡ world → IsBest s target 0 root.number
-  best_start root is h prefix_is =
+  pub best_start : (limit : ℕ) (root : Node) → get s 0 ≡ Some root → StandsOver s target limit 0 → root.prefix ≡ world → IsBest s target 0 root.number
+  best_start limit root is h prefix_is =
       let same : h.node ≡ root = same_Some h.node root (sym h.there ∙ is) in
       let over : covers root.prefix target ≡ true = ap (λ x. covers x.prefix target) (sym same) ∙ h.over in
       subst (λ most. MatchOption root.number (NoNumberUpTo s target most) (IsNumberUpTo s target most)) (sym (len_at-node s 0 root is))

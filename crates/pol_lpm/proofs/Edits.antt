@@ -6,7 +6,7 @@ use Rattle.slab.specs.Slab.{Slab, get, Updates}
 use Rattle.pol_addr.specs.Cidr.{IsPrefix}
 use Rattle.pol_addr.specs.Prefix.{world}
 use Rattle.pol_addr.proofs.Containment.{covers_from_half}
-use Rattle.pol_lpm.proofs.Halves.{half_moved, covers_moved}
+use Rattle.pol_addr.proofs.Halves.{half_moved, covers_moved}
 use Rattle.pol_lpm.specs.declared.node.Node.{Node}
 use Rattle.pol_lpm.specs.Trie.{child, with_child, IsTree, IsTrie, HasRoot, FitsBelow, HasOnly, number_of, Numbers, SameNumbers, StillThere}
 use Rattle.pol_lpm.proofs.Attach.{Attached, attached_tree, attached_keeps, attached_from, absent}

@@ -1,7 +1,5 @@
-pub mod Halves
 pub mod Attach
 pub mod Splice
-pub mod Order
 pub mod Lookup
 pub mod Steps
 pub mod Best

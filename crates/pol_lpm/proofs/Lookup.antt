@@ -4,9 +4,9 @@ use Rattle.std.proofs.lemmas.Option.{none-some, same_Some}
 use Rattle.std.specs.FinMap.{find}
 use Rattle.pol_addr.specs.declared.network.Prefix.{Prefix}
 use Rattle.pol_lpm.specs.declared.node.Node.{Node}
-use Rattle.pol_lpm.specs.Table.{prefix_cmp}
+use Rattle.pol_addr.specs.Order.{prefix_cmp}
 use Rattle.pol_lpm.specs.Trie.{entry_before, numbered}
-use Rattle.pol_lpm.proofs.Order.{tied_same, not_tied, cases_same}
+use Rattle.pol_addr.proofs.Order.{tied_same, not_tied, cases_same}
 
 -- what stands in a slot
 abbrev pub slot : List (Option Node) → ℕ → Option Node

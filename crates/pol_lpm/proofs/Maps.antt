@@ -7,12 +7,13 @@ use Rattle.std.specs.List.{AllZip}
 use Rattle.slab.specs.Slab.{Slab, get, IsSlotClone, IsSlabClone}
 use Rattle.pol_addr.specs.declared.address.Addr.{Addr}
 use Rattle.pol_addr.specs.declared.network.Prefix.{Prefix}
-use Rattle.pol_addr.specs.Prefix.{prefix_of, contains, covers}
+use Rattle.pol_addr.specs.Prefix.{host_prefix, contains, covers}
 use Rattle.pol_addr.proofs.Containment.{contains-covers}
 use Rattle.pol_lpm.specs.declared.node.Node.{Node}
-use Rattle.pol_lpm.specs.Table.{prefix_cmp, IsLongestMatch, NoneMatches}
+use Rattle.pol_addr.specs.Order.{prefix_cmp}
+use Rattle.pol_lpm.specs.Table.{IsLongestMatch, NoneMatches}
 use Rattle.pol_lpm.specs.Trie.{IsTree, IsTrie, numbered, number_of, map_of, Numbers, SameNumbers, IsNumberOver, NoNumberOver}
-use Rattle.pol_lpm.proofs.Order.{prefix_cmp_total, prefix_cmp-IsAntisymmetric}
+use Rattle.pol_addr.proofs.Order.{prefix_cmp_total, prefix_cmp-IsAntisymmetric}
 use Rattle.pol_lpm.proofs.Numbers.{HasNumber, HasNumber-from, number_of-node}
 
 pub get-map_of : (s : Slab Node) (q : Prefix) → map.get (map_of s) q ≡ number_of s q
@@ -52,7 +53,7 @@ node_found s t p some = go (number_of s p) refl (ap is_some (sym (get-map_of s p
 
 module _ (s : Slab Node) (t : IsTree (get s)) (addr : Addr) where
   -- a node whose prefix contains the address covers it as a prefix
-  over_address : (p : Prefix) (x : ℕ) (h : HasNumber s p x) → IsTrue (contains p addr) → covers h.node.prefix (prefix_of addr 32) ≡ true
+  over_address : (p : Prefix) (x : ℕ) (h : HasNumber s p x) → IsTrue (contains p addr) → covers h.node.prefix (host_prefix addr) ≡ true
   over_address p x h inside =
       let valid = t.valid h.key h.node h.there in
       sym (contains-covers h.node.prefix addr valid.len_in_range) ∙ ap (λ q. contains q addr) h.prefix ∙ inside
@@ -60,7 +61,7 @@ module _ (s : Slab Node) (t : IsTree (get s)) (addr : Addr) where
   len_at_most : (p : Prefix) (x : ℕ) (h : HasNumber s p x) → h.node.prefix.len ≤ 32
   len_at_most p x h = let valid = t.valid h.key h.node h.there in valid.len_in_range
 
-  pub longest_match : (x : ℕ) → IsNumberOver s (prefix_of addr 32) x → IsLongestMatch (map_of s) addr x
+  pub longest_match : (x : ℕ) → IsNumberOver s (host_prefix addr) x → IsLongestMatch (map_of s) addr x
   longest_match x h =
       let valid = t.valid h.key h.node h.there in
       record {
@@ -73,16 +74,16 @@ module _ (s : Slab Node) (t : IsTree (get s)) (addr : Addr) where
             omega (arith, shorter, ap (λ q. q.len) g.prefix);
       }
 
-  pub none_matches : NoNumberOver s (prefix_of addr 32) → NoneMatches (map_of s) addr
+  pub none_matches : NoNumberOver s (host_prefix addr) → NoneMatches (map_of s) addr
   none_matches none p matches =
       let (y, g) = node_found s t p matches.0 in
       none-some y (sym (none g.key g.node g.there (over_address p y g matches.1) (len_at_most p y g)) ∙ g.number)
 
-  pub found_by : (r : Option ℕ) → IfSome r (IsNumberOver s (prefix_of addr 32)) → IfSome r (IsLongestMatch (map_of s) addr)
+  pub found_by : (r : Option ℕ) → IfSome r (IsNumberOver s (host_prefix addr)) → IfSome r (IsLongestMatch (map_of s) addr)
   found_by None h = h
   found_by (Some x) h = longest_match x h
 
-  pub none_by : (r : Option ℕ) → IfSome r (IsNumberOver s (prefix_of addr 32)) → IfNone r (NoNumberOver s (prefix_of addr 32)) → IsNone r ↔ NoneMatches (map_of s) addr
+  pub none_by : (r : Option ℕ) → IfSome r (IsNumberOver s (host_prefix addr)) → IfNone r (NoNumberOver s (host_prefix addr)) → IsNone r ↔ NoneMatches (map_of s) addr
   none_by None h none = (λ _. none_matches none, λ _. refl)
   none_by (Some x) h none = (
     λ is. absurd (cc),

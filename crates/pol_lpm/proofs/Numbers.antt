@@ -5,7 +5,7 @@ use Rattle.slab.specs.Slab.{Slab, get}
 use Rattle.pol_addr.specs.declared.network.Prefix.{Prefix}
 use Rattle.pol_lpm.specs.declared.node.Node.{Node}
 use Rattle.pol_lpm.specs.Trie.{IsTree, number_of, Numbers}
-use Rattle.pol_lpm.proofs.Order.{tied_same, not_tied, cases_same}
+use Rattle.pol_addr.proofs.Order.{tied_same, not_tied, cases_same}
 use Rattle.pol_lpm.proofs.Lookup.{number_in-node, number_in-absent, locate}
 
 -- a node has this prefix and this number

@@ -4,36 +4,22 @@ use Rattle.std.proofs.lemmas.Option.{none-some, same_Some}
 use Rattle.std.proofs.lemmas.Bool.{cases_eq}
 use Rattle.slab.specs.Slab.{Slab, get, Updates}
 use Rattle.pol_addr.specs.declared.network.Prefix.{Prefix}
-use Rattle.pol_addr.specs.Cidr.{IsPrefix, network}
+use Rattle.pol_addr.specs.Cidr.{IsPrefix}
 use Rattle.pol_addr.specs.Prefix.{world, bit_of, half, covers}
-use Rattle.pol_addr.proofs.Blocks.{network-none}
+use Rattle.pol_addr.proofs.World.{world-IsPrefix, strictly}
 use Rattle.pol_addr.proofs.Containment.{covers_refl, covers_half, covers_from_covered, same_from_covered}
 use Rattle.pol_lpm.specs.declared.node.Node.{Node}
 use Rattle.std.specs.Ordering.{eq_by_cmp}
-use Rattle.pol_lpm.specs.Table.{prefix_cmp}
+use Rattle.pol_addr.specs.Order.{prefix_cmp}
 use Rattle.pol_lpm.specs.Trie.{child, with_child, IsTree, IsTrie, IsDeepest, IsSpot, FitsBelow, Numbers, SameNumbers, number_of}
-use Rattle.pol_lpm.proofs.Halves.{covers_len, half_no_cover, half_moved}
-use Rattle.pol_lpm.proofs.Order.{cases_same, tied_same, not_tied}
+use Rattle.pol_addr.proofs.Halves.{covers_len, half_no_cover, half_moved}
+use Rattle.pol_addr.proofs.Order.{cases_same, tied_same, not_tied}
 use Rattle.pol_lpm.proofs.Numbers.{same_number}
 use Rattle.pol_lpm.proofs.Edits.{link_longer}
 
 pub none_from_test : (o : Option Node) → (IsSome o → ⊥) → o ≡ None
 none_from_test None not = refl
 none_from_test (Some n) not = absurd (not refl)
-
--- the prefix of length 0
-pub world_from_len : (p : Prefix) → IsPrefix p → p.len ≡ 0 → p ≡ world
-world_from_len p valid zero =
-    let bits : p.bits ≡ 0 = sym valid.host_bits_clear ∙ ap (λ l. network l p.bits) zero ∙ network-none p.bits valid.bits_in_range in
-    λ i. record { bits = bits i; len = zero i }
-
--- a prefix that covers another one is shorter
-pub strictly : (p q : Prefix) → IsPrefix q → covers p q ≡ true → q ≢ p → p.len < q.len
-strictly p q valid over differs =
-    elim (cases_eq p.len q.len) [
-      | inl same ↦ absurd (differs (sym (same_from_covered p q q over (covers_refl q valid) same)))
-      | inr other ↦ omega (arith, other, covers_len p q over)
-    ]
 
 pub spot_at : (s : Slab Node) (p : Prefix) (i : ℕ) (n : Node) (b : Bool) (len : ℕ) → IsPrefix p → IsDeepest s p p.len i → get s i ≡ Some n → len ≡ n.prefix.len → b ≡ bit_of p len → IsSpot s p i b
 spot_at s p i n b len valid d is len_is bit =
@@ -64,7 +50,7 @@ module _ (old new : Slab Node) (key : ℕ) (root : Node) (none : (i : ℕ) (n : 
   no_child false = no_low
 
   root_valid : IsPrefix root.prefix
-  root_valid = subst IsPrefix (sym prefix_is) (record { len_in_range = omega arith; bits_in_range = omega arith; host_bits_clear = network-none 0 (omega arith) })
+  root_valid = subst IsPrefix (sym prefix_is) world-IsPrefix
 
   root_tree : IsTree (get new)
   root_tree = record {

@@ -8,7 +8,7 @@ use Rattle.pol_addr.specs.Prefix.{half, covers}
 use Rattle.pol_addr.proofs.Containment.{covers_refl, covers_trans, covers_from_half, covers_from_covered, same_from_covered}
 use Rattle.pol_lpm.specs.declared.node.Node.{Node}
 use Rattle.pol_lpm.specs.Trie.{child, IsTree}
-use Rattle.pol_lpm.proofs.Halves.{cases_side, same_half, covers_len, half_over, half_moved, covers_moved, not_itself}
+use Rattle.pol_addr.proofs.Halves.{cases_side, same_half, covers_len, half_over, half_moved, covers_moved, not_itself}
 
 -- node `m` went from the key j, and its only child, if it has one, came in its place below node `n`
 pub record Spliced (at at' : ℕ → Option Node) (i j : ℕ) (n n' m : Node) (high : Bool) : Type 0 where

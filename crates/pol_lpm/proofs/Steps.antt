@@ -6,11 +6,11 @@ use Rattle.slab.specs.Slab.{Slab, get}
 use Rattle.pol_addr.specs.declared.network.Prefix.{Prefix}
 use Rattle.pol_addr.specs.Cidr.{IsPrefix}
 use Rattle.pol_addr.specs.Prefix.{bit_of, half, covers, world}
-use Rattle.pol_addr.proofs.Containment.{covers_from, covers_trans, covers_half, covers_from_half, covers_from_covered}
-use Rattle.pol_addr.proofs.Blocks.{network-none}
+use Rattle.pol_addr.proofs.Containment.{covers_trans, covers_half, covers_from_half, covers_from_covered}
+use Rattle.pol_addr.proofs.World.{covers-world}
 use Rattle.pol_lpm.specs.declared.node.Node.{Node}
 use Rattle.pol_lpm.specs.Trie.{child, child_toward, IsTree, HasRoot, StandsOver, IsDeepest, NoneBetween, len_at}
-use Rattle.pol_lpm.proofs.Halves.{same_half, covers_len, half_over}
+use Rattle.pol_addr.proofs.Halves.{same_half, covers_len, half_over}
 
 cond_Some : {A : Type 0} (b : Bool) (o : Option A) (x : A) → cond b o None ≡ Some x → (b ≡ true) × (o ≡ Some x)
 cond_Some true o x e = (refl, e)
@@ -94,7 +94,7 @@ pub root_stands : (s : Slab Node) (target : Prefix) (limit : ℕ) → HasRoot (g
 root_stands s target limit (root, is, prefix_is) valid some = record {
   node = root;
   there = is;
-  over = ap (λ p. covers p target) prefix_is ∙ covers_from world target (omega arith) (network-none target.bits valid.bits_in_range);
+  over = ap (λ p. covers p target) prefix_is ∙ covers-world target valid;
   short = omega (arith, ap (λ p. p.len) prefix_is);
 }
 

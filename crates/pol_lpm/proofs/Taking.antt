@@ -10,10 +10,10 @@ use Rattle.pol_addr.specs.Prefix.{half, covers}
 use Rattle.pol_addr.proofs.Containment.{covers_from_half, covers_refl, same_from_covered}
 use Rattle.pol_lpm.specs.declared.node.Node.{Node}
 use Rattle.pol_lpm.specs.Trie.{child, IsTree, IsTrie, IsSpot, IsNodeOf, HasOnly, Numbers, number_of}
-use Rattle.pol_lpm.proofs.Halves.{covers_len}
+use Rattle.pol_addr.proofs.Halves.{covers_len}
 use Rattle.pol_lpm.proofs.Lookup.{number_in-absent}
 use Rattle.pol_lpm.proofs.Numbers.{number_of-node, numbers_at}
-use Rattle.pol_lpm.proofs.Places.{world_from_len}
+use Rattle.pol_addr.proofs.World.{world_from_len}
 use Rattle.pol_lpm.proofs.Edits.{link_longer}
 
 some_from_test : (o : Option Node) → IsSome o → (n : Node) × (o ≡ Some n)

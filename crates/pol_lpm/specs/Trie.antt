@@ -8,7 +8,8 @@ use Rattle.pol_addr.specs.Cidr.{IsPrefix}
 use Rattle.pol_addr.specs.declared.network.Prefix.{Prefix}
 use Rattle.pol_addr.specs.Prefix.{world, bit_of, half, covers}
 use Rattle.pol_lpm.specs.declared.node.Node.{Node}
-use Rattle.pol_lpm.specs.Table.{PrefixMap, prefix_cmp}
+use Rattle.pol_addr.specs.Order.{prefix_cmp}
+use Rattle.pol_lpm.specs.Table.{PrefixMap}
 
 -- the key of the child on the side of this bit
 abbrev pub child : Node → Bool → Option ℕ
@@ -76,10 +77,10 @@ NoNumberUpTo s target most = (j : ℕ) (m : Node) → get s j ≡ Some m → cov
 
 -- the same among all nodes
 abbrev pub IsNumberOver : Slab Node → Prefix → ℕ → Type 0
-IsNumberOver s target = IsNumberUpTo s target 32
+IsNumberOver s target = IsNumberUpTo s target target.len
 
 abbrev pub NoNumberOver : Slab Node → Prefix → Type 0
-NoNumberOver s target = NoNumberUpTo s target 32
+NoNumberOver s target = NoNumberUpTo s target target.len
 
 -- what a walk has found at a node
 abbrev pub IsBest : Slab Node → Prefix → ℕ → Option ℕ → Type 0

@@ -55,8 +55,7 @@ impl PrefixTable {
         Ok(())
     }
 
-    /// Takes the prefix out and gives its number: None exactly where it is not there. It takes no memory, and the
-    /// room that it frees serves later prefixes.
+    /// Takes the prefix out and gives its number: None exactly where it is not there. It takes no memory.
     pub fn remove(&mut self, prefix: Prefix) -> Option<u32>
         ensures value { result ≡ map.get self.old prefix }
         ensures rest { self.new ≡ map.remove self.old prefix }
@@ -64,17 +63,16 @@ impl PrefixTable {
         take(&mut self.nodes, &prefix)
     }
 
-    /// The number of the longest prefix that contains the address: None exactly where none does. It walks at most
-    /// 33 nodes and takes no memory.
+    /// The number of the longest prefix that contains the address: None exactly where none does. It takes no memory.
     pub fn find(&self, addr: Addr) -> Option<u32>
         ensures scan { result ≡ look_up self.now addr }
         ensures found { IfSome result (IsLongestMatch self.now addr) }
         ensures none { IsNone result ↔ NoneMatches self.now addr }
     {
-        longest_over(&self.nodes, &Prefix::new(addr, 32))
+        longest_over(&self.nodes, &Prefix::host(addr))
     }
 
-    /// The same table once more. The memory is that of the one allocator.
+    /// The same table once more. The one error is want of memory.
     pub fn copy(&self, alloc: Global) -> Result<PrefixTable, Memory>
         ensures { IfOk result (λ copy. copy ≡ self.now) }
     {

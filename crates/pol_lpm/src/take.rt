@@ -31,7 +31,7 @@ fn node_of(nodes: &Slab<Node>, prefix: &Prefix) -> Option<usize>
     }
 }
 
-/// Takes out a node that no longer serves: one that has no number and at most one child, and isn't the root.
+/// Takes this node out where nothing needs it, or leaves it. No number changes, and each other node stays.
 fn prune(nodes: &mut Slab<Node>, at: usize)
     requires trie { IsTrie nodes.old }
     requires there { ContainsKey nodes.old at }
@@ -52,7 +52,7 @@ fn prune(nodes: &mut Slab<Node>, at: usize)
     splice(nodes, parent, high, at, only);
 }
 
-/// Takes the number of the prefix out, and the nodes that only led to it.
+/// Takes the number of the prefix out.
 pub(crate) fn take(nodes: &mut Slab<Node>, prefix: &Prefix) -> Option<u32>
     requires { IsTrie nodes.old }
     ensures value { result ≡ number_of nodes.old prefix.now }

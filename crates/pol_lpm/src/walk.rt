@@ -73,11 +73,11 @@ pub(crate) fn longest_over(nodes: &Slab<Node>, target: &Prefix) -> Option<u32>
     ensures none { IfNone result (NoNumberOver nodes.now target.now) }
     ensures valid { IsPrefix target.now }
 {
-    let _ = target.len();
+    let limit = target.len() + 1;
     let root = nodes.get(0)?;
     let mut at = 0;
     let mut best = root.number;
-    while let Some(next) = step(nodes, at, target, 33) {
+    while let Some(next) = step(nodes, at, target, limit) {
         at = next;
         best = nodes[at].number.or(best);
     }

@@ -9,14 +9,14 @@ use Rattle.pol_ports.specs.declared.Proto.{Proto}
 use Rattle.pol_ports.specs.declared.Proto.TheVariants.{Tcp as TcpPackets, Udp as UdpPackets, Sctp as SctpPackets}
 use Rattle.pol_ports.specs.declared.PortPrefix.{PortPrefix}
 use Rattle.pol_ports.specs.Direction.{same_direction}
-use Rattle.pol_ports.specs.PortPrefix.{prefix_holds, prefix_contains, same_prefix}
-use Rattle.pol_ports.proofs.Same.{same_direction-self, same_direction-is, same_prefix-self, same_prefix-is}
+use Rattle.pol_ports.specs.PortPrefix.{prefix_holds, prefix_contains}
+use Rattle.pol_ports.proofs.Same.{same_direction-self, same_direction-is}
 use Rattle.pol_ports.proofs.Containing.{nested, contains_itself, contains_both, contains_three, empty_contains, contains_ports, contains_from_ports, holds_from}
 use Rattle.pol_mapkey.specs.declared.KeyProto.{KeyProto}
 use Rattle.pol_mapkey.specs.declared.KeyProto.TheVariants.{Every, Tcp, Udp, Sctp}
 use Rattle.pol_mapkey.specs.declared.MapKey.{MapKey}
-use Rattle.pol_mapkey.specs.KeyProto.{key_proto, proto_covers, proto_place, same_key_proto}
-use Rattle.pol_mapkey.specs.MapKey.{covers, covers_packet, same_key}
+use Rattle.pol_mapkey.specs.KeyProto.{key_proto, proto_covers}
+use Rattle.pol_mapkey.specs.MapKey.{covers, covers_packet}
 
 -- what a test of three or four parts gives and takes
 four_parts : (a b c d : Bool) → (a && b && c && d) ≡ true → (a ≡ true) × (b ≡ true) × (c ≡ true) × (d ≡ true)
@@ -213,28 +213,3 @@ covers-from_packets a b ids all =
     covers_from a b (packet_is a b.dir some.0 b.port.bits (at some.0 b.port.bits some.1 first)).0 ids
     (from_protos a.proto b.proto (λ proto s. (packet_is a b.dir proto b.port.bits (at proto b.port.bits s first)).1))
     (contains_from_ports a.port b.port (λ port t. (packet_is a b.dir some.0 port (at some.0 port some.1 t)).2))
-
--- the test of sameness passes exactly where two keys are equal
-same_key_proto-self : (k : KeyProto) → same_key_proto k k ≡ true
-same_key_proto-self k = eq-eqb (proto_place k) (proto_place k) refl
-
-same_key_proto-is : (j k : KeyProto) → same_key_proto j k ≡ true → j ≡ k
-same_key_proto-is j k t =
-    proto_covers-both j k (covers_from_same j k t) (covers_from_same k j (eq-eqb (proto_place k) (proto_place j) (sym (eqb-true (proto_place j) (proto_place k) t))))
-  where
-    covers_from_same : (j k : KeyProto) → same_key_proto j k ≡ true → proto_covers j k ≡ true
-    covers_from_same Every k t = refl
-    covers_from_same Tcp k t = t
-    covers_from_same Udp k t = t
-    covers_from_same Sctp k t = t
-
-pub same_key-self : (a : MapKey) → same_key a a ≡ true
-same_key-self a =
-    four_from (same_direction a.dir a.dir) (a.id == a.id) (same_key_proto a.proto a.proto) (same_prefix a.port a.port) (same_direction-self a.dir)
-    (eq-eqb a.id a.id refl) (same_key_proto-self a.proto) (same_prefix-self a.port)
-
-pub same_key-is : (a b : MapKey) → same_key a b ≡ true → a ≡ b
-same_key-is a b t =
-    let p = four_parts (same_direction a.dir b.dir) (a.id == b.id) (same_key_proto a.proto b.proto) (same_prefix a.port b.port) t in
-    key_same a b (same_direction-is a.dir b.dir p.0) (eqb-true a.id b.id p.1) (same_key_proto-is a.proto b.proto p.2)
-    (same_prefix-is a.port b.port p.3)

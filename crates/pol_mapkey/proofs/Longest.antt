@@ -1,47 +1,14 @@
 -- The longest key: there is one wherever some key covers the packet, and only one.
-use Rattle.std.proofs.Common.{◌≡◌, ℕ, Bool, true, false, not, ◌&&◌, ◌||◌, ◌==◌, List, [], ◌∷◌, get_or, Option, Some, None, cond, refl, sym, ◌∙◌, ap, subst, inl, inr, ◌⊎◌, ◌↔◌, arith, MatchOption}
-use Rattle.std.specs.List.{All, Contains, find, list_all}
+use Rattle.std.proofs.Common.{◌≡◌, ℕ, Bool, true, false, not, ◌&&◌, ◌||◌, ◌==◌, List, [], ◌∷◌, get_or, Option, Some, None, refl, sym, ◌∙◌, ap, subst, inl, inr, ◌⊎◌, ◌↔◌, arith, MatchOption}
+use Rattle.std.specs.List.{Contains, find}
 use Rattle.std.proofs.lemmas.Bool.{and_parts, and_from, eqb-true, cases_Bool, cases_order, or_cases, or_left, or_right, not-true, not_from_false, both_ways}
 use Rattle.std.proofs.lemmas.List.{get_or_default}
-use Rattle.std.proofs.lemmas.List.Elements.{Contains-get_or}
 use Rattle.pol_ports.specs.declared.Direction.{Direction}
 use Rattle.pol_ports.specs.declared.Proto.{Proto}
-use Rattle.pol_ports.proofs.Members.{Contains-here, Contains-later, Contains-split}
+use Rattle.pol_data.proofs.Members.{Contains-here, Contains-later, Contains-cases, find-gives, list_all-from_in, list_all-in}
 use Rattle.pol_mapkey.specs.MapKey.{covers, covers_packet}
-use Rattle.pol_mapkey.specs.Reading.{Entry, reaches, all_cover, longest, EachKeyOnce}
+use Rattle.pol_mapkey.specs.Entries.{Entry, reaches, all_cover, longest, EachKeyOnce}
 use Rattle.pol_mapkey.proofs.Keys.{chain, covers-self, covers-both, covers-three}
-
--- what `find` gives is an element that passes, and where it gives none no element does
-find_gives : {X : Type 0} (p : X → Bool) (xs : List X)
-    → MatchOption (find p xs) ((x : X) → Contains xs x → p x ≡ false) (λ x. Contains xs x × (p x ≡ true))
-find_gives p [] = λ x has. absurd (let below = has.1 in omega arith)
-find_gives {X} p (y ∷ xs) =
-    let P : Option X → Type 0 = λ r. MatchOption r ((x : X) → Contains (y ∷ xs) x → p x ≡ false) (λ x. Contains (y ∷ xs) x × (p x ≡ true)) in
-    elim (cases_Bool (p y)) [
-      | inl t ↦ (let Q : Bool → Type 0 = λ b. P (cond b (Some y) (find p xs)) in subst Q (sym t) (Contains-here y xs, t))
-      | inr f ↦ (let Q : Bool → Type 0 = λ b. P (cond b (Some y) (find p xs)) in
-          subst Q (sym f) (found_later p y xs f (find p xs) (find_gives p xs)))
-    ]
-  where
-    found_later : {X : Type 0} (p : X → Bool) (y : X) (xs : List X) → p y ≡ false → (r : Option X)
-        → MatchOption r ((x : X) → Contains xs x → p x ≡ false) (λ x. Contains xs x × (p x ≡ true))
-        → MatchOption r ((x : X) → Contains (y ∷ xs) x → p x ≡ false) (λ x. Contains (y ∷ xs) x × (p x ≡ true))
-    found_later p y xs f None h = λ x has. elim (Contains-split y xs x has) [ inl e ↦ ap p (sym e) ∙ f | inr later ↦ h x later ]
-    found_later p y xs f (Some x) h = (Contains-later y xs x h.0, h.1)
-
-list_all_is : {X : Type 0} (p : X → Bool) (xs : List X) → list_all p xs ≡ true → (x : X) → Contains xs x → p x ≡ true
-list_all_is p [] t x has = absurd (let below = has.1 in omega arith)
-list_all_is p (y ∷ xs) t x has =
-    let both = and_parts (p y) (list_all p xs) t in
-    elim (Contains-split y xs x has) [ inl e ↦ ap p (sym e) ∙ both.0 | inr later ↦ list_all_is p xs both.1 x later ]
-
-list_all_from : {X : Type 0} (p : X → Bool) (xs : List X) → ((x : X) → Contains xs x → p x ≡ true) → list_all p xs ≡ true
-list_all_from p [] all = refl
-list_all_from p (y ∷ xs) all =
-    and_from (p y) (list_all p xs) (all y (Contains-here y xs)) (list_all_from p xs (λ x has. all x (Contains-later y xs x has)))
-
-pub All_from_contains : {X : Type 0} (P : X → Type 0) (xs : List X) → ((x : X) → Contains xs x → P x) → All P xs
-All_from_contains P xs all = λ k d below. all (get_or xs k d) (Contains-get_or xs k d below)
 
 -- no entry reaches the packet
 abbrev pub NoneReaches : List Entry → Direction → ℕ → Proto → ℕ → Type 0
@@ -89,7 +56,7 @@ module _ (dir : Direction) (id : ℕ) (proto : Proto) (port : ℕ) where
             (
               Contains-here y xs,
               t,
-              λ f has s. elim (Contains-split y xs f has) [
+              λ f has s. elim (Contains-cases y xs f has) [
                 | inl same ↦ (let P : Entry → Type 0 = λ z. covers z.0 y.0 ≡ true in subst P same (covers-self y.0))
                 | inr later ↦ absurd (both_ways (reaches dir id proto port f) (none f later) s)
               ],
@@ -101,7 +68,7 @@ module _ (dir : Direction) (id : ℕ) (proto : Proto) (port : ℕ) where
               (
                 Contains-later y xs some.0 some.1.0,
                 some.1.1,
-                λ f has s. elim (Contains-split y xs f has) [
+                λ f has s. elim (Contains-cases y xs f has) [
                   | inl same ↦ (let P : Entry → Type 0 = λ z. covers z.0 some.0.0 ≡ true in subst P same wider)
                   | inr later ↦ some.1.2 f later s
                 ],
@@ -112,7 +79,7 @@ module _ (dir : Direction) (id : ℕ) (proto : Proto) (port : ℕ) where
               (
                 Contains-here y xs,
                 t,
-                λ f has s. elim (Contains-split y xs f has) [
+                λ f has s. elim (Contains-cases y xs f has) [
                   | inl same ↦ (let P : Entry → Type 0 = λ z. covers z.0 y.0 ≡ true in subst P same (covers-self y.0))
                   | inr later ↦ covers-three f.0 some.0.0 y.0 (some.1.2 f later s) narrower
                 ],
@@ -121,7 +88,7 @@ module _ (dir : Direction) (id : ℕ) (proto : Proto) (port : ℕ) where
           ]
         ]
         | inr n ↦ elim (some_longest xs) [
-          | inl none ↦ inl (λ e has. elim (Contains-split y xs e has) [
+          | inl none ↦ inl (λ e has. elim (Contains-cases y xs e has) [
             | inl same ↦ ap (reaches dir id proto port) (sym same) ∙ n
             | inr later ↦ none e later
           ])
@@ -130,7 +97,7 @@ module _ (dir : Direction) (id : ℕ) (proto : Proto) (port : ℕ) where
             (
               Contains-later y xs some.0 some.1.0,
               some.1.1,
-              λ f has s. elim (Contains-split y xs f has) [
+              λ f has s. elim (Contains-cases y xs f has) [
                 | inl same ↦ absurd (both_ways (reaches dir id proto port f) (ap (reaches dir id proto port) (sym same) ∙ n) s)
                 | inr later ↦ some.1.2 f later s
               ],
@@ -151,7 +118,7 @@ module _ (dir : Direction) (id : ℕ) (proto : Proto) (port : ℕ) where
         both.0,
         λ f in_f s.
             elim (or_cases (not (reaches dir id proto port f)) (covers f.0 e.0)
-            (list_all_is (λ g. not (reaches dir id proto port g) || covers g.0 e.0) entries both.1 f in_f)) [
+            (list_all-in (λ g. not (reaches dir id proto port g) || covers g.0 e.0) entries both.1 f in_f)) [
               | inl no' ↦ absurd (both_ways (reaches dir id proto port f) (not-true (reaches dir id proto port f) no') s)
               | inr yes' ↦ yes'
             ],
@@ -161,7 +128,7 @@ module _ (dir : Direction) (id : ℕ) (proto : Proto) (port : ℕ) where
   unfolding longest_test
   test_from entries e longest' =
       and_from (reaches dir id proto port e) (all_cover (reaches dir id proto port) entries e.0) longest'.1
-      (list_all_from (λ g. not (reaches dir id proto port g) || covers g.0 e.0) entries (λ f in_f.
+      (list_all-from_in (λ g. not (reaches dir id proto port g) || covers g.0 e.0) entries (λ f in_f.
       elim (cases_Bool (reaches dir id proto port f)) [
         | inl t ↦ or_right (not (reaches dir id proto port f)) (covers f.0 e.0) (longest'.2 f in_f t)
         | inr n ↦ or_left (not (reaches dir id proto port f)) (covers f.0 e.0) (not_from_false (reaches dir id proto port f) n)
@@ -170,7 +137,7 @@ module _ (dir : Direction) (id : ℕ) (proto : Proto) (port : ℕ) where
   -- what `longest` gives
   pub longest_gives : (entries : List Entry) → MatchOption (longest entries dir id proto port) (NoneReaches entries dir id proto port) (IsLongest entries dir id proto port)
   unfolding longest longest_test
-  longest_gives entries = gives entries (find (longest_test entries) entries) (find_gives (longest_test entries) entries)
+  longest_gives entries = gives entries (find (longest_test entries) entries) (find-gives (longest_test entries) entries)
     where
       gives : (entries : List Entry) (r : Option Entry)
           → MatchOption r ((e : Entry) → Contains entries e → longest_test entries e ≡ false) (λ e. Contains entries e × (longest_test entries e ≡ true))

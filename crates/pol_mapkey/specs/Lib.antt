@@ -1,3 +1,3 @@
 pub mod KeyProto
 pub mod MapKey
-pub mod Reading
+pub mod Entries

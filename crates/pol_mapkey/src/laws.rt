@@ -1,11 +1,11 @@
 //! Laws of keys and of reading a map.
-ghost use Rattle.std.specs.Prelude.{◌≡◌, ℕ, ◌⊎◌, ◌↔◌, true, List, MatchOption};
+ghost use Rattle.std.specs.Prelude.{◌≡◌, ℕ, ◌⊎◌, ◌↔◌, true, IsTrue, List, MatchOption};
 ghost use Rattle.std.specs.List.{All, Contains};
 ghost use Rattle.pol_ports.specs.declared.Direction.{Direction};
 ghost use Rattle.pol_ports.specs.declared.Proto.{Proto};
 ghost use Rattle.pol_mapkey.specs.declared.MapKey.{MapKey};
 ghost use Rattle.pol_mapkey.specs.MapKey.{covers, covers_packet, key_cmp, same_key};
-ghost use Rattle.pol_mapkey.specs.Reading.{Entry, reaches, longest, read_map, EachKeyOnce};
+ghost use Rattle.pol_mapkey.specs.Entries.{Entry, reaches, longest, read_map, EachKeyOnce};
 
 use crate::MapKey;
 use std::cmp::Ordering;
@@ -17,13 +17,11 @@ pub fn order_of_keys(a: &MapKey, b: &MapKey) -> Ordering
     a.cmp(b)
 }
 
-/// Keys are compared by all their fields.
-pub fn sameness_of_keys(a: &MapKey, b: &MapKey) -> bool
-    ensures test { result ≡ same_key a.now b.now }
-    ensures equal { (result ≡ true) ↔ (a.now ≡ b.now) }
-{
-    *a == *b
-}
+/// `==` and the test of sameness are true exactly where both are one key, so a key may be the key of a table.
+pub fn equality()
+    ensures keys { (a b : MapKey) → IsTrue (⟦<MapKey as PartialEq>⟧.eq a b) ↔ (a ≡ b) }
+    ensures test { (a b : MapKey) → IsTrue (same_key a b) ↔ (a ≡ b) }
+{}
 
 /// Covering is a partial order.
 pub fn covers_is_a_partial_order()

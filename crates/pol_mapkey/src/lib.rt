@@ -9,13 +9,11 @@ ghost use Rattle.pol_mapkey.specs.declared.KeyProto.{KeyProto};
 ghost use Rattle.pol_mapkey.specs.declared.KeyProto.TheVariants.{Every};
 
 pub mod laws;
-#[cfg(test)]
-mod tests;
 
 use pol_ports::{Direction, PortPrefix, Proto};
 
 /// The protocol of a key.
-#[derive(Clone, Copy, PartialEq, Eq, PartialOrd, Ord, Debug)]
+#[derive(Clone, Copy, PartialEq, Eq, PartialOrd, Ord, Hash, Debug)]
 pub enum KeyProto {
     /// TCP, UDP and SCTP together, on every port.
     Every,
@@ -29,7 +27,7 @@ pub enum KeyProto {
 
 /// A key of a policy map. Keys are ordered by direction, identity, protocol, the port prefix's
 /// bits, and its length (profile).
-#[derive(Clone, Copy, PartialEq, Eq, PartialOrd, Ord, Debug)]
+#[derive(Clone, Copy, PartialEq, Eq, PartialOrd, Ord, Hash, Debug)]
 pub struct MapKey {
     /// The direction of the packets.
     pub dir: Direction,
@@ -43,7 +41,7 @@ pub struct MapKey {
 }
 
 /// What an entry of a policy map does with the packets of its key.
-#[derive(Clone, Copy, PartialEq, Eq, PartialOrd, Ord, Debug)]
+#[derive(Clone, Copy, PartialEq, Eq, PartialOrd, Ord, Hash, Debug)]
 pub enum Kind {
     /// It allows them.
     Allow,
@@ -53,7 +51,7 @@ pub enum Kind {
 
 /// What a policy map says of a packet (Cilium, "Deny Policies", and profile for the two words of a
 /// denial).
-#[derive(Clone, Copy, PartialEq, Eq, PartialOrd, Ord, Debug)]
+#[derive(Clone, Copy, PartialEq, Eq, PartialOrd, Ord, Hash, Debug)]
 pub enum Word {
     /// An entry allows the packet, and none that decides denies it.
     Allowed,

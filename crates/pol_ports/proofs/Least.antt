@@ -6,6 +6,7 @@ use Rattle.std.proofs.lemmas.List.Folds.{Any-from_list_any, list_any-from_Any}
 use Rattle.std.proofs.lemmas.List.Sums.{sum_by-cons}
 use Rattle.std.proofs.lemmas.Nat.{pow_pos}
 use Rattle.std.proofs.Math.Nat.{two-pow-succ, div-mul-le_self, lt-div-mul-add}
+use Rattle.pol_data.proofs.Counts.{count_by-some}
 use Rattle.pol_ports.specs.declared.PortRange.{PortRange}
 use Rattle.pol_ports.specs.declared.PortPrefix.{PortPrefix}
 use Rattle.pol_ports.specs.PortRange.{holds}
@@ -50,16 +51,6 @@ count_two {X} p q r apart ps qs (x ∷ xs) =
       sum_by-cons (λ (y : X). cond (q y) 1 0) x xs,
       sum_by-cons (λ (y : X). cond (r y) 1 0) x xs,
     )
-
--- where some element passes there is one at least
-count_some : {X : Type 0} (p : X → Bool) (xs : List X) → list_any p xs ≡ true → 1 ≤ count_by p xs
-count_some p [] some = absurd (cc)
-count_some {X} p (x ∷ xs) some =
-    let cons = sum_by-cons (λ (y : X). cond (p y) 1 0) x xs in
-    elim (or_cases (p x) (list_any p xs) some) [
-      | inl here ↦ omega (arith, cons, ap {B = ℕ} (λ b. cond b 1 0) here)
-      | inr later ↦ omega (arith, cons, count_some p xs later)
-    ]
 
 within_is : (height first : ℕ) (q : PortPrefix) → is_within height first q ≡ true → (first ≤ q.bits) × (end_of q ≤ first + 2 ^ height)
 within_is height first q t =
@@ -142,7 +133,7 @@ module _ (range : PortRange) (other : List PortPrefix) (covers : CoversExactly r
       let q = found.1 in
       let has = and_parts (nat_le q.bits first) (nat_lt first (end_of q)) found.4 in
       let within = other_within height first found.0 q le h small part found.2 found.3 (leb-true q.bits first has.0) (ltb-true first (end_of q) has.1) in
-      count_some (is_within height first) other (list_any-from_Any (is_within height first) other (found.0, q, found.2, found.3, within))
+      count_by-some (is_within height first) other (list_any-from_Any (is_within height first) other (found.0, q, found.2, found.3, within))
 
   pub no_shorter : {height first : ℕ} {xs : List PortPrefix} → height ≤ 16 → first % 2 ^ height ≡ 0 → first + 2 ^ height ≤ 2 ^ 16
       → Parts range height first xs → length xs ≤ count_by (is_within height first) other

@@ -8,3 +8,4 @@ pub mod Members
 pub mod SplitLaws
 pub mod Containing
 pub mod Same
+pub mod Equality

@@ -5,39 +5,12 @@ use Rattle.std.proofs.lemmas.Bool.{cases_lt, cases_Bool, and_parts, leb-true}
 use Rattle.std.proofs.lemmas.List.Elements.{Contains-append_left, Contains-append_right, All-contains, filter_passes}
 use Rattle.std.proofs.lemmas.Nat.{pow_pos, pow_below}
 use Rattle.std.proofs.Math.Nat.{two-pow-succ}
+use Rattle.pol_data.proofs.Members.{Contains-here, Contains-later, Contains-filter}
 use Rattle.pol_ports.specs.declared.PortRange.{PortRange}
 use Rattle.pol_ports.specs.declared.PortPrefix.{PortPrefix}
 use Rattle.pol_ports.specs.PortPrefix.{end_of}
 use Rattle.pol_ports.specs.Split.{lies_in, is_part, prefixes_within, parts_within}
 use Rattle.pol_ports.proofs.Blocks.{block_at, block_at-bits, block_at-count, prefix_same, lower_half, upper_half, shorter_contains}
-
-pub Contains-here : {X : Type 0} (x : X) (xs : List X) → Contains (x ∷ xs) x
-Contains-here x xs = (0, omega arith, refl)
-
-pub Contains-later : {X : Type 0} (y : X) (xs : List X) (x : X) → Contains xs x → Contains (y ∷ xs) x
-Contains-later y xs x (k, below, at) = (suc k, omega arith, at)
-
-pub Contains-split : {X : Type 0} (y : X) (xs : List X) (x : X) → Contains (y ∷ xs) x → (y ≡ x) ⊎ Contains xs x
-Contains-split y xs x (zero, below, at) = inl at
-Contains-split y xs x (suc k, below, at) = inr (k, omega arith, at)
-
--- a filter keeps each element that passes
-pub Contains-filter : {X : Type 0} (test : X → Bool) (xs : List X) (x : X) → Contains xs x → test x ≡ true → Contains (filter test xs) x
-Contains-filter test [] x (k, below, at) passes = absurd (omega arith)
-Contains-filter {X} test (y ∷ xs) x has passes =
-    let P : List X → Type 0 = λ zs. Contains zs x in
-    elim (Contains-split y xs x has) [
-      | inl here ↦ (let kept : test y ≡ true = ap test here ∙ passes in
-          let Q : X → Type 0 = λ z. Contains (filter test (z ∷ xs)) x in
-          subst Q (sym here) (let R : Bool → Type 0 = λ b. Contains (cond b (x ∷ filter test xs) (filter test xs)) x in
-          subst R (sym passes) (Contains-here x (filter test xs))))
-      | inr later ↦ (let rest = Contains-filter test xs x later passes in
-          let R : Bool → Type 0 = λ b. Contains (cond b (y ∷ filter test xs) (filter test xs)) x in
-          elim (cases_Bool (test y)) [
-            | inl t ↦ subst R (sym t) (Contains-later y (filter test xs) x rest)
-            | inr f ↦ subst R (sym f) rest
-          ])
-    ]
 
 -- a prefix that has no more ports than a block has a length that says so
 len_from_count : (p : PortPrefix) (height : ℕ) → height ≤ 16 → 2 ^ (16 - p.len) ≤ 2 ^ height → 16 - height ≤ p.len
@@ -99,7 +72,7 @@ unfolding parts_within
 part_listed range p small part =
     let lies = (and_parts (lies_in range p) _ part).0 in
     let high = leb-true (end_of p) (range.last + 1) (and_parts (nat_le range.first p.bits) _ lies).1 in
-    Contains-filter (is_part range) (prefixes_within 16 0) p (within_listed 16 0 p (omega arith) refl (omega arith) (omega arith)) part
+    Contains-filter (is_part range) (prefixes_within 16 0) p part (within_listed 16 0 p (omega arith) refl (omega arith) (omega arith))
 
 pub listed_part : (range : PortRange) (p : PortPrefix) → Contains (parts_within range 16 0) p → is_part range p ≡ true
 unfolding parts_within

@@ -1,5 +1,5 @@
 -- What specifications say of port ranges.
-use Rattle.std.specs.Prelude.{ℕ, Bool, max, nat_le, ◌&&◌, ◌==◌}
+use Rattle.std.specs.Prelude.{ℕ, Bool, max, nat_le, ◌&&◌}
 use Rattle.std.proofs.Math.Nat.{le-max_left}
 use Rattle.pol_ports.specs.declared.PortRange.{PortRange}
 
@@ -11,11 +11,3 @@ holds range port = nat_le range.first port && nat_le port range.last
 -- (profile: an end port counts only where it is above the port).
 abbrev pub range_from : ℕ → ℕ → PortRange
 range_from first end = record { first = first; last = max first end; ordered = le-max_left first end }
-
--- every port
-abbrev pub all_ports : PortRange
-all_ports = range_from 0 65535
-
--- whether two ranges are the same
-abbrev pub same_range : PortRange → PortRange → Bool
-same_range a b = (a.first == b.first) && (a.last == b.last)

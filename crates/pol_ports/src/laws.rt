@@ -1,10 +1,10 @@
 //! Laws of the definitions that contracts cite: what order the types have, and that prefixes nest.
-ghost use Rattle.std.specs.Prelude.{◌≡◌, ℕ, ◌⊎◌, ◌↔◌, true};
+ghost use Rattle.std.specs.Prelude.{◌≡◌, ℕ, ◌⊎◌, ◌↔◌, true, IsTrue};
 ghost use Rattle.pol_ports.specs.Direction.{direction_cmp};
 ghost use Rattle.pol_ports.specs.PortPrefix.{prefix_holds, prefix_contains, prefix_cmp};
 ghost use Rattle.pol_ports.specs.declared.PortPrefix.{PortPrefix};
 
-use crate::{Direction, PortPrefix};
+use crate::{Direction, PortPrefix, PortRange, Proto};
 use std::cmp::Ordering;
 
 /// The order of directions: ingress comes first.
@@ -31,4 +31,12 @@ pub fn prefixes_nest()
 pub fn containing_is_of_ports()
     ensures { (p q : PortPrefix) → (prefix_contains p q ≡ true)
         ↔ ((port : ℕ) → prefix_holds q port ≡ true → prefix_holds p port ≡ true) }
+{}
+
+/// `==` is true exactly where both are one value, so each of these types may be the key of a table.
+pub fn equality()
+    ensures directions { (a b : Direction) → IsTrue (⟦<Direction as PartialEq>⟧.eq a b) ↔ (a ≡ b) }
+    ensures protos { (a b : Proto) → IsTrue (⟦<Proto as PartialEq>⟧.eq a b) ↔ (a ≡ b) }
+    ensures ranges { (a b : PortRange) → IsTrue (⟦<PortRange as PartialEq>⟧.eq a b) ↔ (a ≡ b) }
+    ensures prefixes { (a b : PortPrefix) → IsTrue (⟦<PortPrefix as PartialEq>⟧.eq a b) ↔ (a ≡ b) }
 {}

@@ -9,14 +9,12 @@ ghost use Rattle.std.specs.Prelude.{◌≡◌, ◌≤◌, ◌%◌, ◌^◌, ◌-
 
 mod cover;
 pub mod laws;
-#[cfg(test)]
-mod tests;
 
 pub use cover::split;
 
 /// The direction of traffic, as the endpoint that a policy selects sees it
 /// (Cilium, "Policy Rule Basics": ingress and egress sections).
-#[derive(Clone, Copy, PartialEq, Eq, PartialOrd, Ord, Debug)]
+#[derive(Clone, Copy, PartialEq, Eq, PartialOrd, Ord, Hash, Debug)]
 pub enum Direction {
     /// Traffic that comes in at the endpoint.
     Ingress,
@@ -25,7 +23,7 @@ pub enum Direction {
 }
 
 /// A protocol of the transport layer that has ports (Cilium, "Layer 4 Examples").
-#[derive(Clone, Copy, PartialEq, Eq, PartialOrd, Ord, Debug)]
+#[derive(Clone, Copy, PartialEq, Eq, PartialOrd, Ord, Hash, Debug)]
 pub enum Proto {
     /// The Transmission Control Protocol, RFC 9293.
     Tcp,
@@ -37,7 +35,7 @@ pub enum Proto {
 
 /// The ports from `first` to `last`, both included, as `port` and `endPort` of a policy give them
 /// (Cilium, "Layer 4 Examples", port ranges). It is never empty.
-#[derive(Clone, Copy, PartialEq, Eq, PartialOrd, Ord, Debug)]
+#[derive(Clone, Copy, PartialEq, Eq, PartialOrd, Ord, Hash, Debug)]
 pub struct PortRange {
     /// The least port of the range.
     pub first: u16,
@@ -49,7 +47,7 @@ pub struct PortRange {
 /// The ports whose first `len` bits are those of `bits`: a block of 2^(16 - `len`) ports that
 /// begins at `bits`. The prefix of length 0 has every port, one of length 16 a single port.
 /// Prefixes are ordered by `bits`, and then by `len`.
-#[derive(Clone, Copy, PartialEq, Eq, PartialOrd, Ord, Debug)]
+#[derive(Clone, Copy, PartialEq, Eq, PartialOrd, Ord, Hash, Debug)]
 pub struct PortPrefix {
     /// The least port of the block; its bits after the first `len` are clear.
     pub bits: u16,

@@ -1,5 +1,5 @@
--- What an entry covers (Cilium, Network Policy, "Layer 3 Examples" and "Layer 4 Examples"). Which peer
--- selects the remote depends on the identities, so these definitions take that test as an argument.
+-- What an entry covers (Cilium, Network Policy, "Layer 3 Examples" and "Layer 4 Examples"). Which peers
+-- take the remote depends on the identities, so these definitions take that test as an argument.
 use Rattle.std.specs.Prelude.{ℕ, Bool, true, false, ◌&&◌, ◌||◌, List, [], ◌∷◌, Option, None, Some}
 use Rattle.std.specs.List.{list_any}
 use Rattle.pol_ports.specs.Proto.{same_proto}
@@ -29,8 +29,8 @@ ports_cover proto port (spec ∷ specs) = list_any (port_covers proto port) (spe
 
 -- an entry without a peer member is for every remote, allocated or not
 abbrev pub peers_take : (Peer → Bool) → Peers → Bool
-peers_take selects Every = true
-peers_take selects (Listed peers) = list_any selects peers
+peers_take takes Every = true
+peers_take takes (Listed peers) = list_any takes peers
 
 abbrev pub has_peers : Peers → Bool
 has_peers Every = false
@@ -44,9 +44,9 @@ has_ports (spec ∷ specs) = true
 abbrev pub has_effect : Entry → Bool
 has_effect entry = has_peers entry.peers || has_ports entry.ports
 
--- whether the entry covers a packet from or to a remote that these peers select
-abbrev pub covers : (Peer → Bool) → Proto → ℕ → Entry → Bool
-covers selects proto port entry = has_effect entry && peers_take selects entry.peers && ports_cover proto port entry.ports
+-- whether the entry covers a packet from or to a remote, where this says which peers take the remote
+abbrev pub entry_covers : (Peer → Bool) → Proto → ℕ → Entry → Bool
+entry_covers takes proto port entry = has_effect entry && peers_take takes entry.peers && ports_cover proto port entry.ports
 
 -- the entries of a section
 abbrev pub section_of : Section → Rule → List Entry

@@ -1,9 +1,11 @@
 //! What a policy is refused for, once its document is read.
+ghost use Rattle.std.specs.Prelude.{◌≡◌, Ok};
 
 use crate::policy::Section;
+use pol_data::{Memory, TryCopy};
+use std::alloc::Global;
 
-/// The first fault of a policy's rules ('profile'): by rule, then the subject before the sections,
-/// then the entry, then the number.
+/// A fault of a policy's rules ('profile').
 #[derive(Clone, Copy, Debug, PartialEq, Eq)]
 pub struct RuleFault {
     /// 15 no-selector, 16 combining, 17 bad-selector, 18 bad-cidr, 19 except-outside, 20
@@ -13,4 +15,19 @@ pub struct RuleFault {
     pub rule: u32,
     /// The section and the entry's place in it, from 0; `None` for a fault of the rule's subject.
     pub at: Option<(Section, u32)>,
+}
+
+impl RuleFault {
+    /// The fault again. It takes no memory, and so has no error.
+    pub fn copy(&self, _alloc: Global) -> Result<RuleFault, Memory>
+        ensures { result ≡ Ok self.now }
+    {
+        Ok(*self)
+    }
+}
+
+impl TryCopy for RuleFault {
+    fn try_copy(&self, alloc: Global) -> Result<RuleFault, Memory> {
+        self.copy(alloc)
+    }
 }

@@ -6,13 +6,16 @@
 //! What an entry covers is defined in `specs/Covers`.
 #![tactic(auto)]
 
+mod covering;
 mod fault;
+mod holding;
+#[cfg(test)]
+mod holding_tests;
+pub mod laws;
 mod policy;
 mod policy_copy;
 mod raw;
 mod raw_copy;
-#[cfg(test)]
-mod tests;
 
 pub use fault::RuleFault;
 pub use policy::{

@@ -8,7 +8,7 @@ use pol_labels::Selector;
 use pol_ports::{PortRange, Proto};
 
 /// A group of identities with a name of its own (Cilium, Network Policy, "Entities based").
-#[derive(Clone, Copy, Debug, PartialEq, Eq)]
+#[derive(Clone, Copy, Debug, PartialEq, Eq, Hash)]
 pub enum Entity {
     /// Every remote, allocated or not.
     All,
@@ -36,7 +36,7 @@ pub enum Entity {
 pub type Prefixes = Items<Prefix>;
 
 /// One way to name the other side of a connection (Cilium, Network Policy, "Layer 3 Examples").
-#[derive(Debug, Drop)]
+#[derive(Debug, PartialEq, Eq, Hash, Drop)]
 pub enum Peer {
     /// The identities whose labels match.
     Labels(Selector),
@@ -50,7 +50,7 @@ pub enum Peer {
 pub type PeerList = Items<Peer>;
 
 /// The other sides that an entry speaks of.
-#[derive(Debug, Drop)]
+#[derive(Debug, PartialEq, Eq, Hash, Drop)]
 pub enum Peers {
     /// The entry has no peer member: every remote, allocated or not.
     Every,
@@ -59,7 +59,7 @@ pub enum Peers {
 }
 
 /// Ports that an entry speaks of (Cilium, Network Policy, "Layer 4 Examples").
-#[derive(Clone, Copy, Debug, PartialEq, Eq)]
+#[derive(Clone, Copy, Debug, PartialEq, Eq, Hash)]
 pub struct PortSpec {
     /// The protocol; `None` stands for ANY: TCP, UDP and SCTP.
     pub proto: Option<Proto>,
@@ -71,7 +71,7 @@ pub struct PortSpec {
 pub type PortSpecs = Items<PortSpec>;
 
 /// One entry of a section: peers, and ports.
-#[derive(Debug, Drop)]
+#[derive(Debug, PartialEq, Eq, Hash, Drop)]
 pub struct Entry {
     /// The other sides.
     pub peers: Peers,
@@ -101,7 +101,7 @@ pub struct Rule {
 pub type Rules = Items<Rule>;
 
 /// What names a policy: two policies with one key are one policy.
-#[derive(Debug, Drop)]
+#[derive(Debug, PartialEq, Eq, Hash, Drop)]
 pub struct PolicyKey {
     /// Whether it is a CiliumClusterwideNetworkPolicy.
     pub cluster_wide: bool,
@@ -132,7 +132,7 @@ pub struct Policy {
 }
 
 /// A section of a rule.
-#[derive(Clone, Copy, Debug, PartialEq, Eq)]
+#[derive(Clone, Copy, Debug, PartialEq, Eq, Hash)]
 pub enum Section {
     /// `ingress`.
     Ingress,
@@ -145,7 +145,7 @@ pub enum Section {
 }
 
 /// Where an entry stands.
-#[derive(Debug, Drop)]
+#[derive(Debug, PartialEq, Eq, Hash, Drop)]
 pub struct Place {
     /// The policy.
     pub key: PolicyKey,

@@ -1,9 +1,26 @@
 //! Copies of the parts of a policy, each equal to its source. The one error of each is want of memory.
-ghost use Rattle.std.specs.Prelude.{◌≡◌, IfOk};
+ghost use Rattle.std.specs.Prelude.{◌≡◌, IfOk, Ok};
 
-use crate::policy::{Entry, Peer, Peers, Place, Policy, PolicyKey, PortSpec, Rule};
+use crate::policy::{
+    Entity, Entry, Peer, Peers, Place, Policy, PolicyKey, PortSpec, Rule, Section,
+};
 use pol_data::{Items, Memory, TryCopy};
 use std::alloc::Global;
+
+impl Entity {
+    /// The entity again. It takes no memory, and so has no error.
+    pub fn copy(&self, _alloc: Global) -> Result<Entity, Memory>
+        ensures { result ≡ Ok self.now }
+    {
+        Ok(*self)
+    }
+}
+
+impl TryCopy for Entity {
+    fn try_copy(&self, alloc: Global) -> Result<Entity, Memory> {
+        self.copy(alloc)
+    }
+}
 
 impl Peer {
     /// A peer equal to this one. The one error is want of memory.
@@ -45,9 +62,18 @@ impl TryCopy for Peers {
     }
 }
 
-impl TryCopy for PortSpec {
-    fn try_copy(&self, _alloc: Global) -> Result<PortSpec, Memory> {
+impl PortSpec {
+    /// The ports again. It takes no memory, and so has no error.
+    pub fn copy(&self, _alloc: Global) -> Result<PortSpec, Memory>
+        ensures { result ≡ Ok self.now }
+    {
         Ok(*self)
+    }
+}
+
+impl TryCopy for PortSpec {
+    fn try_copy(&self, alloc: Global) -> Result<PortSpec, Memory> {
+        self.copy(alloc)
     }
 }
 
@@ -123,6 +149,21 @@ impl Policy {
 
 impl TryCopy for Policy {
     fn try_copy(&self, alloc: Global) -> Result<Policy, Memory> {
+        self.copy(alloc)
+    }
+}
+
+impl Section {
+    /// The section again. It takes no memory, and so has no error.
+    pub fn copy(&self, _alloc: Global) -> Result<Section, Memory>
+        ensures { result ≡ Ok self.now }
+    {
+        Ok(*self)
+    }
+}
+
+impl TryCopy for Section {
+    fn try_copy(&self, alloc: Global) -> Result<Section, Memory> {
         self.copy(alloc)
     }
 }

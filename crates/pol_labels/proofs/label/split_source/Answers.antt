@@ -1,5 +1,5 @@
 use Rattle.std.proofs.Common.{arith, refl}
-use Rattle.pol_labels.specs.Reading.{is_colon}
+use Rattle.pol_labels.specs.LabelText.{is_colon}
 use Rattle.pol_labels.proofs.Cuts.{list_any-none}
 use Rattle.pol_labels.proofs.label.split_source.Goals as goal
 

@@ -1,6 +1,6 @@
 use Rattle.std.proofs.Common.{◌≡◌, Some, sym, ◌∙◌, subst}
 use Rattle.pol_lpm.specs.Trie.{Numbers}
-use Rattle.pol_lpm.proofs.Places.{world_from_len}
+use Rattle.pol_addr.proofs.World.{world_from_len}
 use Rattle.pol_lpm.proofs.put.put.Goals as goal
 
 pub returns-then-len-eq0-clause-numbers : goal.returns-then-len-eq0-clause-numbers

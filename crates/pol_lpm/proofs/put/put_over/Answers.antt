@@ -3,7 +3,8 @@ use Rattle.std.proofs.lemmas.Option.{same_Some}
 use Rattle.std.proofs.lemmas.Bool.{both_ways}
 use Rattle.pol_addr.specs.Prefix.{covers}
 use Rattle.pol_lpm.specs.Trie.{FitsBelow}
-use Rattle.pol_lpm.proofs.Places.{strictly, fits_between}
+use Rattle.pol_addr.proofs.World.{strictly}
+use Rattle.pol_lpm.proofs.Places.{fits_between}
 use Rattle.pol_lpm.proofs.put.put_over.Goals as goal
 
 pub index-requires : goal.index-requires

@@ -4,9 +4,9 @@ use Rattle.pol_lpm.proofs.walk.longest_over.Given as goal
 
 abbrev pub invariant-loop-next : goal.invariant-loop-next
 invariant-loop-next l = record {
-  stands : StandsOver l.nodes l.target 33 l.at;
+  stands : StandsOver l.nodes l.target l.limit l.at;
   best : IsBest l.nodes l.target l.at l.best;
 }
 
 abbrev pub decreases-loop-next : goal.decreases-loop-next
-decreases-loop-next l = 33 - len_at l.nodes l.at
+decreases-loop-next l = l.limit - len_at l.nodes l.at

@@ -1,5 +1,5 @@
 -- Each of the two look-ups gives the same entry.
-use Rattle.pol_mapkey.specs.Reading.{read_map}
+use Rattle.pol_mapkey.specs.Entries.{read_map}
 use Rattle.pol_mapkey.proofs.Longest.{one_kind, longest_same}
 use Rattle.pol_mapkey.proofs.laws.reading_is_of_the_entries.Goals as goal
 

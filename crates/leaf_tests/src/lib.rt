@@ -1,0 +1,20 @@
+//! Tests of the libraries below the model, in one crate, so that each of those is proved once.
+//!
+//! Each call that may find no memory is made once with ample memory, and texts are read that the grammars were read
+//! from. What a contract says is not tested again.
+#![tactic(auto)]
+
+#[cfg(test)]
+mod addresses;
+#[cfg(test)]
+mod arena;
+#[cfg(test)]
+mod data;
+#[cfg(test)]
+mod labels;
+#[cfg(test)]
+mod policies;
+#[cfg(test)]
+mod ports;
+#[cfg(test)]
+mod prefix_table;

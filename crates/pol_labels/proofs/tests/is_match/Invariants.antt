@@ -1,4 +1,0 @@
-use Rattle.pol_labels.proofs.tests.is_match.Given as goal
-
-abbrev pub ghosts-is_match_over : goal.ghosts-is_match_over
-ghosts-is_match_over a = record { name = a.blank.name; parts = a.blank.parts }

@@ -1,0 +1,4 @@
+pub mod Distinct
+pub mod Equality
+pub mod NoPorts
+pub mod Sections
