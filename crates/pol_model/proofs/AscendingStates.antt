@@ -8,15 +8,17 @@ use Rattle.pol_model.specs.declared.request.Request.TheVariants.{AddEndpoint, Re
 use Rattle.pol_model.specs.declared.row.IdentityRow.{IdentityRow}
 use Rattle.pol_model.specs.State.{State}
 use Rattle.pol_model.specs.Ascending.{Ascends}
-use Rattle.pol_model.specs.Identities.{held_or_new, is_reserved, free_number, number_of_labels, labels_held, number_released, recounted, cluster_first, local_first}
-use Rattle.pol_model.specs.Prefixes.{policy_prefixes, number_of_prefix, prefix_held, prefixes_held, prefixes_released}
+use Rattle.pol_model.specs.Identities.{held_or_new, is_reserved, free_number, number_of_labels, labels_held, number_released, recounted}
+use Rattle.pol_model.specs.declared.limits.TheConstants.{CLUSTER_FIRST, LOCAL_FIRST}
+use Rattle.pol_rule.specs.Prefixes.{policy_prefixes}
+use Rattle.pol_model.specs.Prefixes.{number_of_prefix, prefix_held, prefixes_held, prefixes_released}
 use Rattle.pol_model.specs.Policies.{policy_at, prefixes_of}
 use Rattle.pol_model.specs.After.{start, after, after_all, changed, state_of}
 use Rattle.pol_model.proofs.Ascents.{one_before, filter_ascends, placed_ascends}
 use Rattle.pol_model.proofs.LeastFree.{least_free-free}
 
 -- the rows ascend by number
-abbrev RowsAscend : List IdentityRow → Type 0
+abbrev pub RowsAscend : List IdentityRow → Type 0
 RowsAscend rows = Ascends (map (λ row. row.number) rows)
 
 recounted_if : (b : Bool) (count : ℕ) (row : IdentityRow) → (cond b (record row { holders = count }) row).number ≡ row.number
@@ -30,38 +32,38 @@ recounted_numbers number count (row ∷ rows) =
     let others = recounted_numbers number count rows in
     rw (here, others) refl
 
-recounted_ascend : (number : ℕ) (count : ℕ → ℕ) (rows : List IdentityRow) → RowsAscend rows → RowsAscend (map (recounted number count) rows)
+pub recounted_ascend : (number : ℕ) (count : ℕ → ℕ) (rows : List IdentityRow) → RowsAscend rows → RowsAscend (map (recounted number count) rows)
 recounted_ascend number count rows ascend = rw (recounted_numbers number count rows) ascend
 
-held_ascend : (found : Option ℕ) (new : IdentityRow) (first : ℕ) (rows : List IdentityRow) → new.number ≡ free_number first rows → RowsAscend rows → RowsAscend (held_or_new found new rows)
+pub held_ascend : (found : Option ℕ) (new : IdentityRow) (first : ℕ) (rows : List IdentityRow) → new.number ≡ free_number first rows → RowsAscend rows → RowsAscend (held_or_new found new rows)
 held_ascend (Some number) new first rows free ascend = recounted_ascend number _ rows ascend
 held_ascend None new first rows free ascend =
     placed_ascends (λ row. row.number) new rows ascend (rw free (least_free-free first (map (λ row. row.number) rows) ascend))
 
-released_ascend : (number : Option ℕ) (rows : List IdentityRow) → RowsAscend rows → RowsAscend (number_released number rows)
+pub released_ascend : (number : Option ℕ) (rows : List IdentityRow) → RowsAscend rows → RowsAscend (number_released number rows)
 released_ascend None rows ascend = ascend
 released_ascend (Some number) rows ascend =
     filter_ascends (λ row. row.number) (λ row. nat_lt 0 row.holders) _ (recounted_ascend number _ rows ascend)
 
-labels_ascend : (labels : List Label) (rows : List IdentityRow) → RowsAscend rows → RowsAscend (labels_held labels rows)
-labels_ascend labels rows ascend = held_ascend (number_of_labels labels rows) _ cluster_first rows refl ascend
+pub labels_ascend : (labels : List Label) (rows : List IdentityRow) → RowsAscend rows → RowsAscend (labels_held labels rows)
+labels_ascend labels rows ascend = held_ascend (number_of_labels labels rows) _ CLUSTER_FIRST rows refl ascend
 
-prefixes_held_ascend : (prefixes : List Prefix) (rows : List IdentityRow) → RowsAscend rows → RowsAscend (prefixes_held prefixes rows)
+pub prefixes_held_ascend : (prefixes : List Prefix) (rows : List IdentityRow) → RowsAscend rows → RowsAscend (prefixes_held prefixes rows)
 prefixes_held_ascend [] rows ascend = ascend
 prefixes_held_ascend (prefix ∷ others) rows ascend =
-    prefixes_held_ascend others (prefix_held prefix rows) (held_ascend (number_of_prefix prefix rows) _ local_first rows refl ascend)
+    prefixes_held_ascend others (prefix_held prefix rows) (held_ascend (number_of_prefix prefix rows) _ LOCAL_FIRST rows refl ascend)
 
-prefixes_released_ascend : (prefixes : List Prefix) (rows : List IdentityRow) → RowsAscend rows → RowsAscend (prefixes_released prefixes rows)
+pub prefixes_released_ascend : (prefixes : List Prefix) (rows : List IdentityRow) → RowsAscend rows → RowsAscend (prefixes_released prefixes rows)
 prefixes_released_ascend [] rows ascend = ascend
 prefixes_released_ascend (prefix ∷ others) rows ascend =
     prefixes_released_ascend others _ (released_ascend (number_of_prefix prefix rows) rows ascend)
 
 -- the rows and the endpoints of the state ascend
-record BothAscend (s : State) : Type 0 where
-  rows : RowsAscend s.identities
-  slots : Ascends (map (λ endpoint. endpoint.slot) s.endpoints)
+pub record BothAscend (s : State) : Type 0 where
+  pub rows : RowsAscend s.identities
+  pub slots : Ascends (map (λ endpoint. endpoint.slot) s.endpoints)
 
-changed_ascend : (s : State) (request : Request) → BothAscend s → BothAscend (changed s request)
+pub changed_ascend : (s : State) (request : Request) → BothAscend s → BothAscend (changed s request)
 changed_ascend s (AddEndpoint name labels address) both = record {
   rows = labels_ascend labels s.identities both.rows;
   slots = placed_ascends (λ endpoint. endpoint.slot) _ s.endpoints both.slots (least_free-free 0 _ both.slots);
@@ -96,7 +98,7 @@ after_all_ascend s (request ∷ requests) both =
     let next = changed_ascend s request both in
     after_all_ascend (after s request) requests (record { rows = next.rows; slots = next.slots })
 
-reserved_ascend : Ascends (1 ∷ 2 ∷ 3 ∷ 4 ∷ 5 ∷ 6 ∷ 7 ∷ 8 ∷ [])
+pub reserved_ascend : Ascends (1 ∷ 2 ∷ 3 ∷ 4 ∷ 5 ∷ 6 ∷ 7 ∷ 8 ∷ [])
 reserved_ascend =
     let from_7 = one_before 7 8 [] (omega arith) (tt, tt) in
     let from_6 = one_before 6 7 (8 ∷ []) (omega arith) from_7 in

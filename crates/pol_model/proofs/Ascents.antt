@@ -1,8 +1,8 @@
 -- Lists whose elements' numbers ascend: what is kept, filtered or placed in them ascends again.
-use Rattle.std.proofs.Common.{zero, suc, ◌≡◌, ℕ, ◌+◌, ◌==◌, ◌<◌, Bool, true, false, ◌||◌, cond, List, [], ◌∷◌, ◌++◌, take, drop, map, filter, count_by, nat_lt, refl, ap, ◌∙◌, inl, inr, arith}
+use Rattle.std.proofs.Common.{zero, suc, ◌≡◌, ℕ, ◌+◌, ◌==◌, ◌<◌, Bool, true, false, cond, List, [], ◌∷◌, ◌++◌, take, drop, map, filter, count_by, nat_lt, refl, ap, ◌∙◌, inl, inr, arith}
 use Rattle.std.specs.List.{AllByRecursion, insert, list_any}
 use Rattle.std.proofs.lemmas.List.Sums.{sum_by-cons}
-use Rattle.std.proofs.lemmas.Bool.{cases_lt, lt-ltb, le-ltb, eqb-false, true≢false, false≢true}
+use Rattle.std.proofs.lemmas.Bool.{cases_lt, or_parts, lt-ltb, le-ltb, eqb-false, true≢false, false≢true}
 use Rattle.pol_model.specs.Ascending.{Ascends}
 use Rattle.pol_model.specs.Numbers.{placed_by}
 use Rattle.pol_model.proofs.LeastFree.{above_more}
@@ -10,14 +10,6 @@ use Rattle.pol_model.proofs.LeastFree.{above_more}
 -- one number more before the first
 pub one_before : (x y : ℕ) (ys : List ℕ) → x < y → Ascends (y ∷ ys) → Ascends (x ∷ y ∷ ys)
 one_before x y ys less ascends = ((less, above_more y x ys less ascends.0), ascends)
-
-or_none_left : (a b : Bool) → (a || b) ≡ false → a ≡ false
-or_none_left true b none = none
-or_none_left false b none = refl
-
-or_none_right : (a b : Bool) → (a || b) ≡ false → b ≡ false
-or_none_right true b none = absurd (true≢false none)
-or_none_right false b none = none
 
 module _ {X : Type 0} (number : X → ℕ) where
   -- each of these has a number above m
@@ -69,7 +61,7 @@ module _ {X : Type 0} (number : X → ℕ) where
       ∙ none_if (nat_lt (number y) (number x)) (lesser x ys) (le-ltb (number y) (number x) (omega (arith, above.0)))
       ∙ none_lesser x ys above.1
 
-  placed_later : (x y : X) (ys : List X) → number y < number x → placed_by number x (y ∷ ys) ≡ y ∷ placed_by number x ys
+  pub placed_later : (x y : X) (ys : List X) → number y < number x → placed_by number x (y ∷ ys) ≡ y ∷ placed_by number x ys
   placed_later x y ys less =
       ap (λ i. insert (y ∷ ys) i x)
       (lesser-cons x y ys ∙ one_if (nat_lt (number y) (number x)) (lesser x ys) (lt-ltb (number y) (number x) less))
@@ -80,8 +72,7 @@ module _ {X : Type 0} (number : X → ℕ) where
   pub placed_ascends : (x : X) (xs : List X) → Ascends (map number xs) → list_any (λ n. n == number x) (map number xs) ≡ false → Ascends (map number (placed_by number x xs))
   placed_ascends x [] ascends free = (tt, tt)
   placed_ascends x (y ∷ ys) ascends free =
-      let here = or_none_left (number y == number x) _ free in
-      let others = or_none_right (number y == number x) _ free in
+      let (here, others) = or_parts (number y == number x) _ free in
       elim (cases_lt (number y) (number x)) [
         | inl below ↦
             rw (placed_later x y ys below)

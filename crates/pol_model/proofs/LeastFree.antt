@@ -1,7 +1,8 @@
 -- The least free number of a list.
 use Rattle.std.proofs.Common.{◌≡◌, ℕ, ◌+◌, ◌==◌, ◌<◌, ◌≤◌, Bool, true, false, ◌||◌, cond, List, [], ◌∷◌, nat_lt, refl, ap, ◌∙◌, inl, inr, arith}
 use Rattle.std.specs.List.{AllByRecursion, list_any}
-use Rattle.std.proofs.lemmas.Bool.{cases_lt, eqb-true, eqb-false, eq-eqb, ne_eqb, ltb-true, ltb-false}
+use Rattle.std.proofs.lemmas.Bool.{cases_lt, or_right, eqb-true, eqb-false, eq-eqb, ne_eqb, ltb-true, ltb-false}
+use Rattle.pol_data.proofs.Every.{every-weaker}
 use Rattle.pol_model.specs.Ascending.{Ascends}
 use Rattle.pol_model.specs.Numbers.{least_free}
 
@@ -23,8 +24,7 @@ none_above n (x ∷ xs) all =
 
 -- what is above a number is above a lesser one
 pub above_more : (m n : ℕ) (xs : List ℕ) → n < m → AllByRecursion (λ y. m < y) xs → AllByRecursion (λ y. n < y) xs
-above_more m n [] less all = tt
-above_more m n (x ∷ xs) less all = (omega (arith, all.0), above_more m n xs less all.1)
+above_more m n xs less = every-weaker (λ y. m < y) (λ y. n < y) (λ y below. omega arith) xs
 
 -- where x isn't the number, it is in the list exactly where it is in the rest
 skip : (x n : ℕ) (xs : List ℕ) (b : Bool) → (x ≡ n → ⊥) → list_any (λ m. m == n) xs ≡ b → list_any (λ m. m == n) (x ∷ xs) ≡ b
@@ -44,10 +44,6 @@ pub least_free-free : (first : ℕ) (xs : List ℕ) → Ascends xs → list_any 
 least_free-free first [] ascends = refl
 least_free-free first (x ∷ xs) ascends =
     free_at (nat_lt x first) (x == first) first x xs refl refl ascends (least_free-free first xs ascends.1) (least_free-free (first + 1) xs ascends.1)
-
-or_right : (a b : Bool) → b ≡ true → (a || b) ≡ true
-or_right true b h = refl
-or_right false b h = h
 
 taken_at : (a b : Bool) (first x n : ℕ) (xs : List ℕ) → (x == first) ≡ b → first ≤ n → n < cond a (least_free first xs) (cond b (least_free (first + 1) xs) first) → (n < least_free first xs → list_any (λ m. m == n) xs ≡ true) → (first + 1 ≤ n → n < least_free (first + 1) xs → list_any (λ m. m == n) xs ≡ true) → list_any (λ m. m == n) (x ∷ xs) ≡ true
 taken_at true b first x n xs same from below here next = or_right (x == n) _ (here below)

@@ -1,4 +1,5 @@
 pub mod AscendingStates
 pub mod Ascents
 pub mod Histories
+pub mod LabelLists
 pub mod LeastFree

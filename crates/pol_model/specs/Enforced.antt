@@ -9,6 +9,7 @@ use Rattle.pol_rule.specs.declared.policy.Entry.{Entry}
 use Rattle.pol_rule.specs.declared.policy.Rule.{Rule}
 use Rattle.pol_rule.specs.declared.policy.Section.{Section}
 use Rattle.pol_rule.specs.declared.policy.Section.TheVariants as section
+use Rattle.pol_model.specs.declared.limits.TheConstants.{INIT_IDENTITY}
 use Rattle.pol_model.specs.declared.options.Mode.{Mode}
 use Rattle.pol_model.specs.declared.options.Mode.TheVariants.{Default, Always, Never}
 use Rattle.pol_model.specs.declared.row.Endpoint.{Endpoint}
@@ -38,12 +39,8 @@ rule_selects endpoint rule = matches rule.subject endpoint.labels
 unfoldable pub has_rule : (Rule → Bool) → Endpoint → Stamped → Bool
 has_rule passes endpoint stamped = list_any (λ rule. rule_selects endpoint rule && passes rule) stamped.policy.rules
 
--- an endpoint of this identity has no labels yet, and is enforced by default
-abbrev pub init_identity : ℕ
-init_identity = 5
-
--- the direction of the endpoint is enforced in this mode
+-- the direction of the endpoint is enforced in this mode; one that has no labels yet is enforced by default
 abbrev pub enforced : Mode → List Stamped → Endpoint → Direction → Bool
 enforced Always policies endpoint dir = true
 enforced Never policies endpoint dir = false
-enforced Default policies endpoint dir = (endpoint.identity == init_identity) || list_any (has_rule (rule_says dir) endpoint) policies
+enforced Default policies endpoint dir = (endpoint.identity == INIT_IDENTITY) || list_any (has_rule (rule_says dir) endpoint) policies

@@ -1,7 +1,7 @@
 -- Why a packet is allowed or denied: the verdict, and the places of the entries that cover it.
 use Rattle.std.specs.Prelude.{ℕ, ◌+◌, Bool, if◌then◌else◌, List, [], ◌∷◌, ◌++◌, Option, option_map}
 use Rattle.std.specs.List.{flat_map}
-use Rattle.pol_rule.specs.Covers.{section_of, covers}
+use Rattle.pol_rule.specs.Covers.{section_of, entry_covers}
 use Rattle.pol_rule.specs.declared.policy.Entry.{Entry}
 use Rattle.pol_rule.specs.declared.policy.Place.{Place}
 use Rattle.pol_rule.specs.declared.policy.PolicyKey.{PolicyKey}
@@ -13,7 +13,7 @@ use Rattle.pol_model.specs.declared.request.Query.{Query}
 use Rattle.pol_model.specs.declared.row.Endpoint.{Endpoint}
 use Rattle.pol_model.specs.declared.row.Stamped.{Stamped}
 use Rattle.pol_model.specs.State.{State}
-use Rattle.pol_model.specs.Selects.{selects, known_number}
+use Rattle.pol_model.specs.Selects.{selects_number}
 use Rattle.pol_model.specs.Enforced.{allow_section, deny_section, rule_selects}
 use Rattle.pol_model.specs.Endpoints.{endpoint_of}
 use Rattle.pol_model.specs.Remote.{remote_number, verdict_for}
@@ -41,7 +41,7 @@ covering_places policies endpoint section passes =
 
 -- the entry covers the query's packet
 abbrev pub covers_query : State → Query → Entry → Bool
-covers_query s query = covers (selects (known_number s.identities (remote_number s query.remote))) query.proto query.port
+covers_query s query = entry_covers (selects_number s.identities (remote_number s query.remote)) query.proto query.port
 
 abbrev pub explain_for : Options → State → Query → Endpoint → Trace
 explain_for options s query endpoint = record {

@@ -1,60 +1,38 @@
 -- Security identities: which numbers there are, and how they are held and released (Cilium, Terminology,
 -- "Identity" and "Special Identities"). Which free number is taken, the labels and the one holder of a reserved
 -- identity, the release at the last holder, and the last local number are 'profile'.
-use Rattle.std.specs.Prelude.{ℕ, ◌+◌, ◌-◌, ◌==◌, ◌^◌, ◌&&◌, not, nat_lt, nat_le, min, Bool, if◌then◌else◌, List, [], ◌∷◌, codes, map, filter, find, Option, None, Some, option_map}
-use Rattle.pol_addr.specs.declared.network.Prefix.{Prefix}
-use Rattle.pol_addr.specs.Prefix.{world}
+use Rattle.std.specs.Prelude.{ℕ, ◌+◌, ◌-◌, ◌==◌, ◌&&◌, not, nat_lt, nat_le, Bool, if◌then◌else◌, List, [], ◌∷◌, codes, map, filter, find, Option, None, Some, option_map}
 use Rattle.pol_labels.specs.declared.label.Label.{Label}
 use Rattle.pol_labels.specs.Same.{same_labels}
+use Rattle.pol_model.specs.declared.limits.TheConstants.{CLUSTER_FIRST, LOCAL_FIRST, RESERVED_LAST}
 use Rattle.pol_model.specs.declared.row.IdentityRow.{IdentityRow}
 use Rattle.pol_model.specs.Numbers.{least_free, placed_by}
+use Rattle.pol_model.specs.Worlds.{reserved_label, prefix_of_reserved}
 
--- the first number of the cluster's identities, and the last
-abbrev pub cluster_first : ℕ
-cluster_first = 256
-
-abbrev pub cluster_last : ℕ
-cluster_last = 65535
-
--- the first number of the prefixes' identities, and the last
-abbrev pub local_first : ℕ
-local_first = 16777217
-
-abbrev pub local_last : ℕ
-local_last = 16842751
-
--- numbers 1 to 8 are allocated from the start and for ever
+-- the reserved numbers are allocated from the start and for ever
 abbrev pub is_reserved : ℕ → Bool
-is_reserved number = nat_le 1 number && nat_le number 8
+is_reserved number = nat_le 1 number && nat_le number RESERVED_LAST
 
 -- whether the number is one that prefixes take
 abbrev pub is_local : ℕ → Bool
-is_local number = nat_le local_first number
+is_local number = nat_le LOCAL_FIRST number
 
--- the label `reserved:NAME`
-abbrev pub reserved_label : List ℕ → Label
-reserved_label name = record { source = codes "reserved"; key = name; value = [] }
+abbrev pub reserved_row : ℕ → List ℕ → IdentityRow
+reserved_row number name =
+    record { number = number; labels = reserved_label name ∷ []; prefix = prefix_of_reserved number; holders = 1 }
 
-abbrev pub reserved_row : ℕ → List ℕ → Option Prefix → IdentityRow
-reserved_row number name prefix =
-    record { number = number; labels = reserved_label name ∷ []; prefix = prefix; holders = 1 }
-
--- the identities before the first request; only that of the world has a prefix
+-- the identities before the first request
 abbrev pub reserved_identities : List IdentityRow
 reserved_identities =
-    reserved_row 1 (codes "host") None
-    ∷ reserved_row 2 (codes "world") (Some world)
-    ∷ reserved_row 3 (codes "unmanaged") None
-    ∷ reserved_row 4 (codes "health") None
-    ∷ reserved_row 5 (codes "init") None
-    ∷ reserved_row 6 (codes "remote-node") None
-    ∷ reserved_row 7 (codes "kube-apiserver") None
-    ∷ reserved_row 8 (codes "ingress") None
+    reserved_row 1 (codes "host")
+    ∷ reserved_row 2 (codes "world")
+    ∷ reserved_row 3 (codes "unmanaged")
+    ∷ reserved_row 4 (codes "health")
+    ∷ reserved_row 5 (codes "init")
+    ∷ reserved_row 6 (codes "remote-node")
+    ∷ reserved_row 7 (codes "kube-apiserver")
+    ∷ reserved_row 8 (codes "ingress")
     ∷ []
-
--- a count that stands still at the end of its 64 bits
-abbrev pub one_more : ℕ → ℕ
-one_more count = min (count + 1) (2 ^ 64 - 1)
 
 -- the row, or the row with this count where its number is this one and isn't reserved
 abbrev pub recounted : ℕ → (ℕ → ℕ) → IdentityRow → IdentityRow
@@ -63,7 +41,7 @@ recounted number count row =
 
 -- one holder more of a number that has a row
 abbrev pub with_holder : ℕ → List IdentityRow → List IdentityRow
-with_holder number rows = map (recounted number one_more) rows
+with_holder number rows = map (recounted number (λ count. count + 1)) rows
 
 -- one holder less of a number; a row without a holder goes
 abbrev pub released : ℕ → List IdentityRow → List IdentityRow
@@ -93,13 +71,13 @@ or_free None free = free
 
 -- the number that a label set takes: that of an equal set, else the least free one of the cluster's
 abbrev pub number_for : List Label → List IdentityRow → ℕ
-number_for labels rows = or_free (number_of_labels labels rows) (free_number cluster_first rows)
+number_for labels rows = or_free (number_of_labels labels rows) (free_number CLUSTER_FIRST rows)
 
 -- the rows once the label set is held once more
 abbrev pub labels_held : List Label → List IdentityRow → List IdentityRow
 labels_held labels rows =
     held_or_new (number_of_labels labels rows)
-    (record { number = free_number cluster_first rows; labels = labels; prefix = None; holders = 1 }) rows
+    (record { number = free_number CLUSTER_FIRST rows; labels = labels; prefix = None; holders = 1 }) rows
 
 -- the rows once the number is released, where there is one
 abbrev pub number_released : Option ℕ → List IdentityRow → List IdentityRow

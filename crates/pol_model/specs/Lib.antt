@@ -1,5 +1,6 @@
 pub mod State
 pub mod Numbers
+pub mod Worlds
 pub mod Identities
 pub mod Prefixes
 pub mod Policies
@@ -14,4 +15,5 @@ pub mod Explain
 pub mod Remote
 pub mod PolicyMap
 pub mod Committed
+pub mod Commits
 pub mod Sizes

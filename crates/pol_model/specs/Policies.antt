@@ -2,10 +2,11 @@
 use Rattle.std.specs.Prelude.{Bool, not, List, [], ◌∷◌, find, filter, if◌then◌else◌, Option, None, Some}
 use Rattle.pol_addr.specs.declared.network.Prefix.{Prefix}
 use Rattle.pol_rule.specs.Keys.{same_key}
+use Rattle.pol_rule.specs.Prefixes.{policy_prefixes}
 use Rattle.pol_rule.specs.declared.policy.PolicyKey.{PolicyKey}
 use Rattle.pol_model.specs.declared.row.IdentityRow.{IdentityRow}
 use Rattle.pol_model.specs.declared.row.Stamped.{Stamped}
-use Rattle.pol_model.specs.Prefixes.{policy_prefixes, prefixes_held, prefixes_released}
+use Rattle.pol_model.specs.Prefixes.{prefixes_held, prefixes_released}
 
 abbrev pub is_of_key : PolicyKey → Stamped → Bool
 is_of_key key stamped = same_key stamped.policy.key key

@@ -11,35 +11,29 @@ use Rattle.pol_mapkey.specs.declared.MapKey.{MapKey}
 use Rattle.pol_mapkey.specs.declared.Kind.{Kind}
 use Rattle.pol_mapkey.specs.declared.Kind.TheVariants.{Allow, Deny}
 use Rattle.pol_mapkey.specs.MapKey.{every_key, port_key, key_cmp, strictly_covers}
-use Rattle.pol_mapkey.specs.Reading.{Entry as MapEntry, is_deny}
+use Rattle.pol_mapkey.specs.Entries.{Entry as MapEntry, is_deny}
 use Rattle.pol_rule.specs.Covers.{section_of, has_effect}
-use Rattle.pol_rule.specs.declared.policy.Entity.TheVariants as entity
 use Rattle.pol_rule.specs.declared.policy.Entry.{Entry}
 use Rattle.pol_rule.specs.declared.policy.Peer.{Peer}
-use Rattle.pol_rule.specs.declared.policy.Peer.TheVariants as peer
 use Rattle.pol_rule.specs.declared.policy.Peers.{Peers}
 use Rattle.pol_rule.specs.declared.policy.Peers.TheVariants.{Every, Listed}
 use Rattle.pol_rule.specs.declared.policy.PortSpec.{PortSpec}
 use Rattle.pol_rule.specs.declared.policy.Rule.{Rule}
+use Rattle.pol_model.specs.declared.limits.TheConstants.{EVERY_IDENTITY, HOST_IDENTITY}
 use Rattle.pol_model.specs.declared.options.Options.{Options}
 use Rattle.pol_model.specs.declared.row.Endpoint.{Endpoint}
 use Rattle.pol_model.specs.declared.row.Stamped.{Stamped}
 use Rattle.pol_model.specs.State.{State}
 use Rattle.pol_model.specs.Enforced.{allow_section, deny_section, rule_selects, enforced}
-use Rattle.pol_model.specs.Selects.{set_at}
-use Rattle.pol_model.specs.Verdict.{is_never, is_ingress, host_identity}
-
--- the number that stands for every identity
-abbrev pub every_identity : ℕ
-every_identity = 0
+use Rattle.pol_model.specs.Selects.{is_all, set_at}
+use Rattle.pol_model.specs.Verdict.{is_never, is_ingress}
 
 -- the numbers that a peer gives entries for, where it selects the numbers that `set` says
 abbrev pub peer_numbers : (Peer → List ℕ) → Peer → List ℕ
-peer_numbers set (peer.Entity entity.All) = every_identity ∷ []
-peer_numbers set other = set other
+peer_numbers set p = if is_all p then EVERY_IDENTITY ∷ [] else set p
 
 abbrev pub peers_numbers : (Peer → List ℕ) → Peers → List ℕ
-peers_numbers set Every = every_identity ∷ []
+peers_numbers set Every = EVERY_IDENTITY ∷ []
 peers_numbers set (Listed peers) = flat_map (peer_numbers set) peers
 
 -- the protocols of a port; none stands for ANY
@@ -66,35 +60,37 @@ entry_entries set dir kind entry =
 abbrev pub allow_every : Direction → ℕ → MapEntry
 allow_every dir id = (every_key dir id, Allow)
 
+-- What a map is made of: whether nothing is enforced, which directions are, whether the local host may
+-- always come in, and the entries of each direction that allow and that deny.
+pub record MapParts : Type 0 where
+  pub never : Bool
+  pub enforced : Direction → Bool
+  pub localhost : Bool
+  pub allows : Direction → List Entry
+  pub denies : Direction → List Entry
+
 -- a direction that isn't enforced allows every identity
-abbrev pub unenforced_entries : State → Endpoint → Direction → List MapEntry
-unenforced_entries s endpoint dir = if enforced s.mode s.policies endpoint dir then [] else (allow_every dir every_identity ∷ [])
+abbrev pub unenforced_entries : MapParts → Direction → List MapEntry
+unenforced_entries parts dir = if parts.enforced dir then [] else (allow_every dir EVERY_IDENTITY ∷ [])
 
-abbrev pub localhost_entries : Options → Direction → List MapEntry
-localhost_entries options dir =
-    if is_ingress dir && options.localhost then allow_every dir host_identity ∷ [] else []
+abbrev pub localhost_entries : MapParts → Direction → List MapEntry
+localhost_entries parts dir =
+    if is_ingress dir && parts.localhost then allow_every dir HOST_IDENTITY ∷ [] else []
 
--- the rules of all policies that select the endpoint, in order
-abbrev pub selecting_rules : List Stamped → Endpoint → List Rule
-selecting_rules policies endpoint = filter (rule_selects endpoint) (flat_map (λ stamped. stamped.policy.rules) policies)
+abbrev pub direction_entries : (Peer → List ℕ) → MapParts → Direction → List MapEntry
+direction_entries set parts dir =
+    flat_map (entry_entries set dir Allow) (parts.allows dir)
+    ++ flat_map (entry_entries set dir Deny) (parts.denies dir)
+    ++ unenforced_entries parts dir
+    ++ localhost_entries parts dir
 
--- what the rules that select the endpoint put into the map in a direction
-abbrev pub entries_of_rules : (Peer → List ℕ) → List Stamped → Endpoint → Direction → List MapEntry
-entries_of_rules set policies endpoint dir =
-    flat_map (λ rule. flat_map (entry_entries set dir Allow) (section_of (allow_section dir) rule)
-    ++ flat_map (entry_entries set dir Deny) (section_of (deny_section dir) rule)) (selecting_rules policies endpoint)
-
-abbrev pub direction_entries : Options → (Peer → List ℕ) → State → Endpoint → Direction → List MapEntry
-direction_entries options set s endpoint dir =
-    entries_of_rules set s.policies endpoint dir ++ unenforced_entries s endpoint dir ++ localhost_entries options dir
-
--- All that is put into the endpoint's map, where a peer selects the numbers that `set` says. In mode
--- `never` it is one allow for every identity in each direction.
-abbrev pub raw_entries : Options → (Peer → List ℕ) → State → Endpoint → List MapEntry
-raw_entries options set s endpoint =
-    if is_never s.mode
-    then allow_every Ingress every_identity ∷ allow_every Egress every_identity ∷ []
-    else direction_entries options set s endpoint Ingress ++ direction_entries options set s endpoint Egress
+-- All that is put into a map, where a peer selects the numbers that `set` says. In mode `never` it is one
+-- allow for every identity in each direction.
+abbrev pub raw_entries : (Peer → List ℕ) → MapParts → List MapEntry
+raw_entries set parts =
+    if parts.never
+    then allow_every Ingress EVERY_IDENTITY ∷ allow_every Egress EVERY_IDENTITY ∷ []
+    else direction_entries set parts Ingress ++ direction_entries set parts Egress
 
 -- of two kinds of one key the deny
 abbrev pub stronger : Kind → Kind → Kind
@@ -120,10 +116,24 @@ is_under_deny entries entry = list_any (λ other. is_deny other.1 && strictly_co
 abbrev pub canonical : List MapEntry → List MapEntry
 canonical raw = filter (λ entry. not (is_under_deny raw entry)) (merged raw)
 
+-- the rules of all policies that select the endpoint, in order
+abbrev pub selecting_rules : List Stamped → Endpoint → List Rule
+selecting_rules policies endpoint = filter (rule_selects endpoint) (flat_map (λ stamped. stamped.policy.rules) policies)
+
+-- what the map of an endpoint in a state is made of
+abbrev pub map_parts : Options → State → Endpoint → MapParts
+map_parts options s endpoint = record {
+  never = is_never s.mode;
+  enforced = enforced s.mode s.policies endpoint;
+  localhost = options.localhost;
+  allows = λ dir. flat_map (section_of (allow_section dir)) (selecting_rules s.policies endpoint);
+  denies = λ dir. flat_map (section_of (deny_section dir)) (selecting_rules s.policies endpoint);
+}
+
 -- the canonical map of an endpoint in a state
-abbrev pub map_of : Options → State → Endpoint → List MapEntry
-map_of options s endpoint = canonical (raw_entries options (set_at s.identities) s endpoint)
+abbrev pub policy_map : Options → State → Endpoint → List MapEntry
+policy_map options s endpoint = canonical (raw_entries (set_at s.identities) (map_parts options s endpoint))
 
 -- how many entries it has
 abbrev pub map_size : Options → State → Endpoint → ℕ
-map_size options s endpoint = length (map_of options s endpoint)
+map_size options s endpoint = length (policy_map options s endpoint)

@@ -1,32 +1,29 @@
 -- Which identities a peer selects (Cilium, Network Policy, "Endpoints based", "CIDR based" and "Entities based").
-use Rattle.std.specs.Prelude.{ℕ, ◌==◌, ◌&&◌, ◌||◌, not, nat_le, Bool, true, false, List, codes, map, filter, find, Option, None, Some}
+use Rattle.std.specs.Prelude.{ℕ, ◌==◌, ◌&&◌, ◌||◌, not, nat_le, Bool, true, false, List, codes, map, filter}
 use Rattle.std.specs.List.{list_any}
 use Rattle.std.specs.Option.{option_map_or}
 use Rattle.pol_addr.specs.declared.network.Prefix.{Prefix}
 use Rattle.pol_addr.specs.Prefix.{covers}
 use Rattle.pol_labels.specs.declared.label.Label.{Label}
-use Rattle.pol_labels.specs.Match.{matches}
-use Rattle.pol_labels.specs.Same.{same_label}
+use Rattle.pol_labels.specs.Match.{matches, carries}
 use Rattle.pol_rule.specs.declared.policy.Entity.{Entity}
 use Rattle.pol_rule.specs.declared.policy.Entity.TheVariants as entity
 use Rattle.pol_rule.specs.declared.policy.Peer.{Peer}
 use Rattle.pol_rule.specs.declared.policy.Peer.TheVariants as peer
+use Rattle.pol_model.specs.declared.limits.TheConstants.{RESERVED_LAST, WORLD_IDENTITY}
 use Rattle.pol_model.specs.declared.row.IdentityRow.{IdentityRow}
-use Rattle.pol_model.specs.Identities.{reserved_label}
+use Rattle.pol_model.specs.Worlds.{reserved_label}
 
--- What is known of the other side of a connection: its labels, if it has any; which prefixes it lies
--- in; and whether it is one of the cluster's own reserved identities.
+-- What is known of the other side of a connection: its labels; which prefixes it lies in; and whether it is
+-- one of the cluster's own reserved identities.
 pub record Known : Type 0 where
-  pub labels : Option (List Label)
+  pub labels : List Label
   pub lies_in : Prefix → Bool
   pub is_core : Bool
 
-abbrev pub carries : List Label → Label → Bool
-carries labels label = list_any (same_label label) labels
-
 -- whether the other side has the label `reserved:NAME`
 abbrev pub is_named : Known → List ℕ → Bool
-is_named known name = option_map_or (λ labels. carries labels (reserved_label name)) known.labels false
+is_named known name = carries known.labels (reserved_label name)
 
 -- `k8s:io.cilium.k8s.policy.cluster=default` ('profile')
 abbrev pub cluster_label : Label
@@ -42,41 +39,38 @@ entity_selects known entity.Ingress = is_named known (codes "ingress")
 entity_selects known entity.Init = is_named known (codes "init")
 entity_selects known entity.Health = is_named known (codes "health")
 entity_selects known entity.Unmanaged = is_named known (codes "unmanaged")
-entity_selects known entity.Cluster =
-    known.is_core || option_map_or (λ labels. carries labels cluster_label) known.labels false
+entity_selects known entity.Cluster = known.is_core || carries known.labels cluster_label
 
 -- whether the peer selects the other side
 abbrev pub selects : Known → Peer → Bool
-selects known (peer.Labels selector) = option_map_or (matches selector) known.labels false
+selects known (peer.Labels selector) = matches selector known.labels
 selects known (peer.Cidr prefix except) = known.lies_in prefix && not (list_any known.lies_in except)
 selects known (peer.Entity entity) = entity_selects known entity
 
--- 1 and 3 to 8, the members of `cluster` by number ('profile')
+-- the reserved numbers but the world's, the members of `cluster` by number ('profile')
 abbrev pub is_core_number : ℕ → Bool
-is_core_number number = (number == 1) || (nat_le 3 number && nat_le number 8)
+is_core_number number = nat_le 1 number && nat_le number RESERVED_LAST && not (number == WORLD_IDENTITY)
 
 abbrev pub known_row : IdentityRow → Known
 known_row row = record {
-  labels = Some row.labels;
+  labels = row.labels;
   lies_in = λ prefix. option_map_or (covers prefix) row.prefix false;
   is_core = is_core_number row.number;
 }
 
--- a number without a row is selected by `all` alone
-abbrev pub unallocated : Known
-unallocated = record { labels = None; lies_in = λ prefix. false; is_core = false }
+-- whether the peer selects the row
+abbrev pub selects_row : Peer → IdentityRow → Bool
+selects_row p row = selects (known_row row) p
 
-abbrev pub row_of : ℕ → List IdentityRow → Option IdentityRow
-row_of number rows = find (λ row. row.number == number) rows
-
-abbrev pub known_of : Option IdentityRow → Known
-known_of None = unallocated
-known_of (Some row) = known_row row
-
--- what is known of an identity number, allocated or not
-abbrev pub known_number : List IdentityRow → ℕ → Known
-known_number rows number = known_of (row_of number rows)
-
--- the allocated numbers that the peer selects, ascending
+-- the allocated numbers that the peer selects, ascending where the rows do
 abbrev pub set_at : List IdentityRow → Peer → List ℕ
-set_at rows peer = map (λ row. row.number) (filter (λ row. selects (known_row row) peer) rows)
+set_at rows p = map (λ row. row.number) (filter (selects_row p) rows)
+
+-- the entity `all` selects every number, allocated or not
+abbrev pub is_all : Peer → Bool
+is_all (peer.Entity entity.All) = true
+is_all _ = false
+
+-- whether the peer selects the number; one without a row is selected by `all` alone
+abbrev pub selects_number : List IdentityRow → ℕ → Peer → Bool
+selects_number rows number p = is_all p || list_any (λ row. (row.number == number) && selects_row p row) rows

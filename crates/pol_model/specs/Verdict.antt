@@ -7,31 +7,34 @@ use Rattle.pol_ports.specs.declared.Direction.TheVariants.{Ingress, Egress}
 use Rattle.pol_ports.specs.declared.Proto.{Proto}
 use Rattle.pol_mapkey.specs.declared.Word.{Word}
 use Rattle.pol_mapkey.specs.declared.Word.TheVariants.{Allowed, DeniedByRule, DeniedByDefault}
-use Rattle.pol_rule.specs.Covers.{section_of, covers}
+use Rattle.pol_rule.specs.Covers.{section_of, entry_covers}
+use Rattle.pol_rule.specs.declared.policy.Peer.{Peer}
 use Rattle.pol_rule.specs.declared.policy.Rule.{Rule}
 use Rattle.pol_rule.specs.declared.policy.Section.{Section}
+use Rattle.pol_model.specs.declared.limits.TheConstants.{HOST_IDENTITY}
 use Rattle.pol_model.specs.declared.options.Mode.{Mode}
 use Rattle.pol_model.specs.declared.options.Mode.TheVariants.{Default, Always, Never}
 use Rattle.pol_model.specs.declared.options.Options.{Options}
 use Rattle.pol_model.specs.declared.row.Endpoint.{Endpoint}
+use Rattle.pol_model.specs.declared.row.IdentityRow.{IdentityRow}
 use Rattle.pol_model.specs.declared.row.Stamped.{Stamped}
 use Rattle.pol_model.specs.State.{State}
-use Rattle.pol_model.specs.Selects.{Known, selects, known_number}
+use Rattle.pol_model.specs.Selects.{selects_number}
 use Rattle.pol_model.specs.Enforced.{allow_section, deny_section, has_rule, enforced}
 
--- the other side: what is known of it, and whether it is the local host
+-- the other side of a packet: which peers take it, and whether it is the local host
 pub record Side : Type 0 where
-  pub known : Known
+  pub takes : Peer → Bool
   pub is_host : Bool
 
 -- some entry of that section of the rule covers the packet
-unfoldable pub rule_covers : Section → Known → Proto → ℕ → Rule → Bool
-rule_covers section known proto port rule = list_any (covers (selects known) proto port) (section_of section rule)
+unfoldable pub rule_covers : Section → (Peer → Bool) → Proto → ℕ → Rule → Bool
+rule_covers section takes proto port rule = list_any (entry_covers takes proto port) (section_of section rule)
 
 -- some entry of that section of a rule that selects the endpoint covers the packet
-abbrev pub some_covers : List Stamped → Endpoint → Section → Known → Proto → ℕ → Bool
-some_covers policies endpoint section known proto port =
-    list_any (has_rule (rule_covers section known proto port) endpoint) policies
+abbrev pub some_covers : List Stamped → Endpoint → Section → (Peer → Bool) → Proto → ℕ → Bool
+some_covers policies endpoint section takes proto port =
+    list_any (has_rule (rule_covers section takes proto port) endpoint) policies
 
 abbrev pub is_never : Mode → Bool
 is_never Default = false
@@ -47,17 +50,14 @@ is_ingress Egress = false
 abbrev pub verdict_on : Options → State → Endpoint → Direction → Side → Proto → ℕ → Word
 verdict_on options s endpoint dir side proto port =
     if is_never s.mode then Allowed
-    else (if some_covers s.policies endpoint (deny_section dir) side.known proto port then DeniedByRule
-    else (if some_covers s.policies endpoint (allow_section dir) side.known proto port || not (enforced s.mode s.policies endpoint dir) || (is_ingress dir && side.is_host && options.localhost) then Allowed
+    else (if some_covers s.policies endpoint (deny_section dir) side.takes proto port then DeniedByRule
+    else (if some_covers s.policies endpoint (allow_section dir) side.takes proto port || not (enforced s.mode s.policies endpoint dir) || (is_ingress dir && side.is_host && options.localhost) then Allowed
     else DeniedByDefault))
 
--- the number of the local host
-abbrev pub host_identity : ℕ
-host_identity = 1
-
-abbrev pub numbered_side : State → ℕ → Side
-numbered_side s number = record { known = known_number s.identities number; is_host = number == host_identity }
+-- an identity number, allocated or not
+abbrev pub numbered_side : List IdentityRow → ℕ → Side
+numbered_side rows number = record { takes = selects_number rows number; is_host = number == HOST_IDENTITY }
 
 -- the verdict on a packet from or to an identity number
 abbrev pub verdict_of : Options → State → Endpoint → Direction → ℕ → Proto → ℕ → Word
-verdict_of options s endpoint dir number proto port = verdict_on options s endpoint dir (numbered_side s number) proto port
+verdict_of options s endpoint dir number proto port = verdict_on options s endpoint dir (numbered_side s.identities number) proto port

@@ -18,7 +18,7 @@ pub enum Fault {
     DuplicateIdentityName,
     /// 34: no named identity of that name is there.
     UnknownIdentityName,
-    /// 35: a live endpoint has that address, as far as addresses are kept.
+    /// 35: a live endpoint has that address.
     AddressTaken,
     /// 36: no policy has that key.
     UnknownPolicy,

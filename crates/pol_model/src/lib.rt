@@ -9,14 +9,28 @@
 
 mod answer;
 pub mod laws;
+mod limits;
 mod options;
+mod peers;
 mod request;
+mod reserved;
 mod row;
+mod row_copy;
+#[cfg(test)]
+mod row_tests;
+mod sections;
 mod size;
 #[cfg(test)]
 mod tests;
 
 pub use answer::{CommitError, Committed, Fault, FullList, FullSlot, Places, Refused, Trace};
+pub use limits::{
+    CLUSTER_FIRST, CLUSTER_IDENTITIES, CLUSTER_LAST, ENDPOINTS_MAX, EVERY_IDENTITY, HOST_IDENTITY,
+    INIT_IDENTITY, LOCAL_FIRST, LOCAL_IDENTITIES, LOCAL_LAST, RESERVED_LAST, WORLD_IDENTITY,
+};
 pub use options::{Mode, Options};
+pub use peers::selects_every_number;
 pub use request::{Query, Remote, Request};
+pub use reserved::{has_reserved, is_init, reserved_rows};
 pub use row::{Endpoint, IdentityRow, NamedIdentity, Stamped};
+pub use sections::{allow_section, deny_section, rule_says};

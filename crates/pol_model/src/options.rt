@@ -21,7 +21,4 @@ pub struct Options {
     pub localhost: bool,
     /// How many entries a published map has at most; `None`: as many as it wants ('profile').
     pub map_max: Option<u32>,
-    /// Whether endpoints are told apart by their addresses. It is false as long as no form of the
-    /// script that is read keeps an address, and goes when one does.
-    pub addresses: bool,
 }
