@@ -1,0 +1,4 @@
+pub mod AnyLemmas
+pub mod Canon
+pub mod Raw
+pub mod MapLaw
