@@ -1,2 +1,8 @@
 pub mod Views
+pub mod Steps
+pub mod Turns
+pub mod Looking
+pub mod FirstFaults
+pub mod Visits
 pub mod Lists
+pub mod Names

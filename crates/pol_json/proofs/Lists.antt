@@ -1,9 +1,6 @@
 -- Reading a list one item after the other, as a loop does.
 use Rattle.std.proofs.Common.{◌≡◌, ℕ, ◌+◌, ◌<◌, Bool, false, List, [], ◌∷◌, ◌++◌, length, get_or, drop, map, Option, Some, None, option_map, refl, sym, ap, ◌∙◌, append_assoc, add-one, drop-cons}
-use Rattle.serde_json.specs.Data.{Data, Members, member}
-use Rattle.pol_json.specs.Document.{each, read_pair, read_pairs}
-use Rattle.pol_json.specs.Members.{is_null}
-use Rattle.pol_rule.specs.declared.raw.RawPair.{RawPair}
+use Rattle.pol_json.specs.Forms.{each}
 
 -- a list that goes on behind one more item
 pub pushed_rest : {A : Type 0} (found : List A) (x : A) (rest : Option (List A))
@@ -21,12 +18,3 @@ each_more view read found values i value item total within is read-is so_far =
     let one : each read (map view (drop i values)) ≡ option_map (λ ys. item ∷ ys) next =
     rw (drop-cons values i value within, ← is, read-is, add-one) refl in
     pushed_rest found item next ∙ ap (option_map (λ ys. found ++ ys)) (sym one) ∙ so_far
-
--- one more pair is found where the next member reads as it
-pub pairs_more : (found : List RawPair) (name text : List ℕ) (d : Data) (others : Members) (r : Bool) (pair : RawPair) (total : Option (List RawPair))
-    → option_map (λ ys. found ++ ys) (read_pairs (member name d others)) ≡ total
-    → r ≡ is_null d → r ≡ false → text ≡ name → read_pair text d ≡ Some pair
-    → option_map (λ ys. (found ++ pair ∷ []) ++ ys) (read_pairs others) ≡ total
-pairs_more found name text d others r pair total so_far null here same read =
-    let one : read_pairs (member name d others) ≡ option_map (λ ys. pair ∷ ys) (read_pairs others) = rw (← null, here, ← same, read) refl in
-    pushed_rest found pair (read_pairs others) ∙ ap (option_map (λ ys. found ++ ys)) (sym one) ∙ so_far

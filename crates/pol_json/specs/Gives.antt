@@ -1,7 +1,6 @@
 -- What a reader answers, beside what reading is defined to give. Want of memory is always allowed.
 use Rattle.std.specs.Prelude.{◌≡◌, Option, None, Some, Result, Ok, Err}
 use Rattle.pol_json.specs.declared.fault.DocFault.{DocFault}
-use Rattle.pol_json.specs.declared.fault.DocFault.TheVariants.{NotBuilt}
 use Rattle.pol_json.specs.declared.fault.DocError.{DocError}
 use Rattle.pol_json.specs.declared.fault.DocError.TheVariants as error
 
@@ -32,6 +31,16 @@ abbrev pub ReadsForm : {X Y E F : Type 0} → (E → Option F) → F → (X → 
 ReadsForm fault_of unread view (Ok value) form = form ≡ Some (view value)
 ReadsForm fault_of unread view (Err error) form = IsUnread unread (fault_of error) form
 
--- the same of a document's form
-abbrev pub Reads : {X Y : Type 0} → (X → Y) → Result X DocError → Option Y → Type 0
-Reads view result form = ReadsForm doc_fault_of NotBuilt view result form
+-- ---- faults alone
+
+-- the answer is that there is no fault, or this first one
+abbrev pub Finds : {Y : Type 0} → Option DocFault → Result Y DocError → Type 0
+Finds found (Ok _) = found ≡ None
+Finds found (Err error.Memory) = Unit {0}
+Finds found (Err (error.Fault fault)) = found ≡ Some fault
+
+-- an answer is another, with more in front of the path of its fault
+abbrev pub Leads : {X Y : Type 0} → (DocFault → DocFault) → Result X DocError → Result Y DocError → Type 0
+Leads led (Ok _) result = Finds None result
+Leads led (Err error.Memory) result = result ≡ Err error.Memory
+Leads led (Err (error.Fault fault)) result = Finds (Some (led fault)) result

@@ -1,4 +1,10 @@
 pub mod Members
 pub mod Texts
+pub mod Forms
 pub mod Gives
+pub mod Table
+pub mod Places
+pub mod Path
+pub mod Build
 pub mod Document
+pub mod Look

@@ -1,7 +1,7 @@
 -- The members of a JSON object. A member whose value is null counts as absent (Kubernetes, "API Conventions").
-use Rattle.std.specs.Prelude.{ℕ, ◌+◌, ◌==◌, ◌&&◌, not, Bool, true, false, if◌then◌else◌, List, [], ◌∷◌, length, Option, None, Some, is_some, option_and_then}
+use Rattle.std.specs.Prelude.{ℕ, ◌+◌, ◌==◌, ◌&&◌, Bool, false, if◌then◌else◌, List, [], ◌∷◌, length, Option, None, Some, is_some, option_and_then, bytes_eq}
 use Rattle.std.specs.List.{list_all}
-use Rattle.serde_json.specs.Data.{Data, null, boolean, number, string, array, object, Items, no_items, item, Members, no_members, member}
+use Rattle.serde_json.specs.Data.{Data, Items, no_items, item, Members, no_members, member}
 use Rattle.serde_json.specs.Find.{get, as_null, as_object, as_array, as_str}
 
 abbrev pub is_null : Data → Bool
@@ -40,3 +40,7 @@ items_list (item d others) = d ∷ items_list others
 -- the items of a member that is a list
 abbrev pub list_at : List ℕ → Data → Option (List Data)
 list_at name d = option_and_then (λ ds. Some (items_list ds)) (option_and_then as_array (present name d))
+
+abbrev pub is_text : List ℕ → Option (List ℕ) → Bool
+is_text wanted None = false
+is_text wanted (Some text) = bytes_eq wanted text

@@ -1,5 +1,5 @@
 -- The forms of names and keys.
-use Rattle.std.specs.Prelude.{ℕ, ◌==◌, ◌&&◌, ◌||◌, not, nat_le, Bool, List, [], ◌∷◌, length, codes}
+use Rattle.std.specs.Prelude.{ℕ, ◌==◌, ◌&&◌, ◌||◌, nat_le, Bool, List, length, codes}
 use Rattle.std.specs.List.{list_all, list_any, starts_with}
 use Rattle.std.specs.Prelude.{nat_eq}
 use Rattle.std.specs.Str.{bytes_eq}

@@ -10,8 +10,6 @@ use thiserror::Error;
 /// The first fault of a policy document ('profile').
 #[derive(Debug, Drop)]
 pub enum DocFault {
-    /// 5: the document is of a form that isn't read yet. It goes when every form is.
-    NotBuilt,
     /// 10: the value is no policy: no object, another `apiVersion`, or another `kind`.
     NotPolicy,
     /// 11: `metadata` is no object with a non-empty text `name`.

@@ -1,20 +1,28 @@
-//! Policy documents: from a JSON value to a policy as it was written.
+//! Policy documents: from a JSON value to a policy as it was written, or the document's first fault.
 //!
-//! `fault` has what a document is refused for, and `document` the reading. What a document reads as is
-//! defined in `specs/Document`, over the words of `specs/Members`.
+//! `table` says what stands where in a document, `cause` what is wrong at one place, and `walk` finds the
+//! first place where something is; `path` writes the way to it. `part`, `selector`, `entry` and `rule`
+//! build the policy of a document without faults, and `document` joins them. What a document reads as is
+//! defined in `specs/Document`, over `specs/Table`, `Places`, `Path` and `Build`.
 #![tactic(auto)]
 
+mod cause;
 mod document;
+mod entry;
 mod fault;
+pub mod laws;
 mod members;
-mod read;
+mod part;
+mod path;
 mod rule;
 mod selector;
+mod table;
 mod texts;
+mod walk;
 
-pub use document::{is_text_at, read_policy};
+pub use document::read_policy;
 pub use fault::{DocError, DocFault};
-pub use members::{has_exactly, list_at, present, some_items_at, text_at};
+pub use members::{has_exactly, is_text_at, list_at, present, some_items_at, text_at};
 pub use texts::{NAMESPACE_KEY, is_dns_name, is_key, is_name, is_of_namespace, is_value};
 
 #[cfg(test)]

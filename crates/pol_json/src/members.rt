@@ -1,9 +1,9 @@
 //! The members of a JSON object.
 ghost use Rattle.std.specs.Prelude.{◌≡◌, ◌==◌, map, is_some, option_map, option_and_then};
-ghost use Rattle.pol_json.specs.Document.{some_items};
+ghost use Rattle.pol_json.specs.Forms.{some_items};
 ghost use Rattle.std.specs.List.{list_all};
 ghost use Rattle.serde_json.specs.View.{view, members_view};
-ghost use Rattle.pol_json.specs.Members.{present, members_present, text_at, has_exactly, list_at};
+ghost use Rattle.pol_json.specs.Members.{is_text, present, members_present, text_at, has_exactly, list_at};
 
 use serde_json::{Map, Value};
 
@@ -21,6 +21,16 @@ pub fn text_at<'v>(value: &'v Value, name: &str) -> Option<&'v str>
     ensures { option_map (λ text. text.now) result ≡ text_at name.now (view value.now) }
 {
     present(value, name)?.as_str()
+}
+
+/// Whether a member is there and is this text.
+pub fn is_text_at(value: &Value, name: &str, wanted: &str) -> bool
+    ensures { result ≡ is_text wanted.now (text_at name.now (view value.now)) }
+{
+    match text_at(value, name) {
+        None => false,
+        Some(text) => wanted == text,
+    }
 }
 
 /// The items of a member that is there and is a list.

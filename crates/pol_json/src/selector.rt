@@ -1,66 +1,59 @@
-//! Selectors (Kubernetes, "LabelSelector"): so far no member, or `matchLabels` alone.
-ghost use Rattle.std.specs.Prelude.{◌≡◌};
+//! Building selectors (Kubernetes, "LabelSelector").
+ghost use Rattle.std.specs.Prelude.{◌≡◌, IfOk};
 ghost use Rattle.serde_json.specs.View.{view, members_view};
-ghost use Rattle.pol_json.specs.Document.{read_pair, read_pairs, selector_of, read_selector};
-ghost use Rattle.pol_json.specs.Gives.{Reads};
+ghost use Rattle.pol_json.specs.Build.{pairs_of, labels_of, expression_of, selector_of};
 
-use crate::fault::DocError;
-use crate::members::has_exactly;
-use crate::read::{ReadFrom, not_built, required};
-use crate::texts::{is_key, is_of_namespace};
-use pol_data::{Items, Text};
-use pol_rule::{RawPair, RawSelector};
+use crate::members::present;
+use crate::part::{Part, items_at, member_text};
+use pol_data::{Items, Memory, Text};
+use pol_rule::{RawExpression, RawPair, RawPairs, RawSelector};
 use serde_json::{Map, Value};
 use std::alloc::Global;
 
-/// A member of `matchLabels`: a key that doesn't speak of namespaces, and a text.
-fn read_pair(alloc: Global, name: &str, value: &Value) -> Result<RawPair, DocError>
-    ensures { Reads (λ pair. pair) result (read_pair name.now (view value.now)) }
-{
-    if !is_key(name) || is_of_namespace(name) {
-        return Err(not_built());
-    }
-    let text = value.as_str().ok_or(not_built())?;
-    Ok(RawPair {
-        key: Text::from_str(alloc, name)?,
-        value: Text::from_str(alloc, text)?,
-    })
-}
-
-/// The members of `matchLabels` that aren't null, in the byte order of their names.
-fn read_pairs(alloc: Global, members: &Map<String, Value>) -> Result<Vec<RawPair>, DocError>
-    ensures { Reads (λ pairs. pairs.items) result (read_pairs (members_view members.now.entries)) }
+/// The members that aren't null, in the byte order of their names.
+fn build_pairs(alloc: Global, members: &Map<String, Value>) -> Result<Vec<RawPair>, Memory>
+    ensures { IfOk result (λ pairs. pairs.items ≡ pairs_of (members_view members.now.entries)) }
 {
     let mut pairs = Vec::new(alloc);
     for (name, value) in members {
         if !value.is_null() {
-            pairs.push(read_pair(alloc, name.as_str(), value)?)?;
+            pairs.push(RawPair {
+                key: Text::from_str(alloc, name.as_str())?,
+                value: Text::build(alloc, value)?,
+            })?;
         }
     }
     Ok(pairs)
 }
 
-fn selector_of(alloc: Global, pairs: Vec<RawPair>) -> RawSelector
-    ensures { result ≡ selector_of pairs.items }
+fn build_labels(alloc: Global, value: &Value) -> Result<RawPairs, Memory>
+    ensures { IfOk result (λ pairs. pairs ≡ labels_of (view value.now)) }
 {
-    RawSelector {
-        labels: Items::from_vec(pairs),
-        expressions: Items::from_vec(Vec::new(alloc)),
+    match present(value, "matchLabels").and_then(Value::as_object) {
+        None => Ok(Items::from_vec(Vec::new(alloc))),
+        Some(members) => Ok(Items::from_vec(build_pairs(alloc, members)?)),
     }
 }
 
-impl ReadFrom for RawSelector {
-    ghost read = { read_selector };
+impl Part for RawExpression {
+    ghost gives = { expression_of };
 
-    fn read_from(alloc: Global, value: &Value) -> Result<RawSelector, DocError> {
-        if has_exactly(value, &[]) {
-            return Ok(selector_of(alloc, Vec::new(alloc)));
-        }
-        if !has_exactly(value, &["matchLabels"]) {
-            return Err(not_built());
-        }
-        let labels = required(value, "matchLabels")?;
-        let members = labels.as_object().ok_or(not_built())?;
-        Ok(selector_of(alloc, read_pairs(alloc, members)?))
+    fn build(alloc: Global, value: &Value) -> Result<RawExpression, Memory> {
+        Ok(RawExpression {
+            key: member_text(alloc, value, "key")?,
+            operator: member_text(alloc, value, "operator")?,
+            values: items_at(alloc, value, "values")?,
+        })
+    }
+}
+
+impl Part for RawSelector {
+    ghost gives = { selector_of };
+
+    fn build(alloc: Global, value: &Value) -> Result<RawSelector, Memory> {
+        Ok(RawSelector {
+            labels: build_labels(alloc, value)?,
+            expressions: items_at(alloc, value, "matchExpressions")?,
+        })
     }
 }

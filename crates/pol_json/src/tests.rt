@@ -1,85 +1,204 @@
-//! Documents that are read, documents that aren't, and the forms of names.
+//! Documents that are read, and the first faults of others.
 use crate::{
     DocError, DocFault, has_exactly, is_dns_name, is_key, is_name, is_of_namespace, is_text_at,
     is_value, list_at, present, read_policy, some_items_at, text_at,
 };
-use pol_rule::RawPolicy;
+use pol_data::Texts;
+use pol_rule::{RawEntry, RawPolicy, RawPort, RawSelector};
 use serde_json::Value;
 use std::alloc::Global;
 use std::test::Fail;
-
-/// The policy of Cilium's Star Wars demo, with members that are null.
-const RULE: &str = r#"{"apiVersion":"cilium.io/v2","kind":"CiliumNetworkPolicy","specs":null,
-    "metadata":{"name":"rule1","namespace":null},
-    "spec":{"endpointSelector":{"matchLabels":{"org":"empire","class":"deathstar","tier":null}},
-    "ingress":[{"fromEndpoints":[{"matchLabels":{"org":"empire"}},{}]}],"egress":null}}"#;
 
 fn policy(alloc: Global, document: &str) -> Result<RawPolicy, Fail> {
     let value = Value::from_str(alloc, document)?;
     Ok(read_policy(alloc, &value)?)
 }
 
+/// A policy with every member that is read, members that are null, and what is ignored.
+const WHOLE: &str =
+    r#"{"apiVersion":"cilium.io/v2","kind":"CiliumNetworkPolicy","status":{"a":[null]},
+    "metadata":{"name":"rule1","namespace":"prod","labels":{"a":1}},
+    "spec":{"endpointSelector":{"matchLabels":{"org":"empire","class":"deathstar","tier":null},
+      "matchExpressions":[{"key":"env","operator":"In","values":["a","b"]},{"key":"x","operator":"Exists"}]},
+     "description":"d","labels":[null,{"a":{}}],
+     "ingress":[{"fromEndpoints":[{"matchLabels":{"org":"empire"}},{}]},{}],
+     "egressDeny":[{"toCIDR":["10.0.0.0/8"],"toCIDRSet":[{"cidr":"10.1.0.0/16","except":["10.1.2.0/24"]}],
+      "toEntities":["world"],"toPorts":[{"ports":[{"port":"80","endPort":90,"protocol":"TCP"},{"port":"53"}]}]}],
+     "egress":null}}"#;
+
+fn is_list(texts: &Texts, wanted: &[&str]) -> bool {
+    texts.len() == wanted.len()
+        && texts
+            .as_slice()
+            .iter()
+            .zip(wanted)
+            .all(|(text, wanted)| text.as_str() == *wanted)
+}
+
+fn is_subject(subject: &RawSelector) -> bool {
+    let [class, org] = subject.labels.as_slice() else {
+        return false;
+    };
+    let [first, second] = subject.expressions.as_slice() else {
+        return false;
+    };
+    class.key.as_str() == "class"
+        && class.value.as_str() == "deathstar"
+        && org.key.as_str() == "org"
+        && first.key.as_str() == "env"
+        && first.operator.as_str() == "In"
+        && is_list(&first.values, &["a", "b"])
+        && second.values.is_empty()
+}
+
+fn is_port(port: &RawPort, text: &str, protocol: &str, end_port: Option<u64>) -> bool {
+    port.port.as_str() == text && port.protocol.as_str() == protocol && port.end_port == end_port
+}
+
+fn is_denied(entry: &RawEntry) -> bool {
+    let (Some(cidrs), Some(sets), Some(entities)) = (
+        &entry.cidrs,
+        &entry.cidr_sets,
+        &entry.entities,
+    ) else {
+        return false;
+    };
+    let [set] = sets.as_slice() else {
+        return false;
+    };
+    let [item] = entry.ports.as_slice() else {
+        return false;
+    };
+    let [range, single] = item.ports.as_slice() else {
+        return false;
+    };
+    entry.endpoints.is_none()
+        && is_list(cidrs, &["10.0.0.0/8"])
+        && set.cidr.as_str() == "10.1.0.0/16"
+        && is_list(&set.except, &["10.1.2.0/24"])
+        && is_list(entities, &["world"])
+        && is_port(range, "80", "TCP", Some(90))
+        && is_port(single, "53", "", None)
+}
+
 #[test]
 fn a_policy_is_read_as_it_was_written(rt: HostRuntime) -> Result<(), Fail> {
-    let policy = policy(rt.alloc(), RULE)?;
+    let policy = policy(rt.alloc(), WHOLE)?;
     assert!(rt; !policy.key.cluster_wide);
-    assert!(rt; policy.key.namespace.as_str() == "default");
+    assert!(rt; policy.key.namespace.as_str() == "prod");
     assert!(rt; policy.key.name.as_str() == "rule1");
     let [rule] = policy.rules.as_slice() else {
         return Err(Fail::from("not one rule"));
     };
-    let Some(subject) = &rule.subject else {
-        return Err(Fail::from("no subject"));
-    };
-    let [class, org] = subject.labels.as_slice() else {
-        return Err(Fail::from("not two labels"));
-    };
-    assert!(rt; class.key.as_str() == "class");
-    assert!(rt; class.value.as_str() == "deathstar");
-    assert!(rt; org.key.as_str() == "org");
-    assert!(rt; org.value.as_str() == "empire");
-    assert!(rt; subject.expressions.is_empty());
+    assert!(rt; rule.subject.as_ref().is_some_and(is_subject));
+    assert!(rt; rule.ingress.len() == 2);
     assert!(rt; rule.ingress_deny.is_empty());
     assert!(rt; rule.egress.is_empty());
-    assert!(rt; rule.egress_deny.is_empty());
-    let [entry] = rule.ingress.as_slice() else {
+    let [denied] = rule.egress_deny.as_slice() else {
         return Err(Fail::from("not one entry"));
     };
-    assert!(rt; entry.cidrs.is_none());
-    assert!(rt; entry.ports.is_empty());
-    let Some(endpoints) = &entry.endpoints else {
-        return Err(Fail::from("no endpoints"));
-    };
-    let [one, all] = endpoints.as_slice() else {
-        return Err(Fail::from("not two selectors"));
-    };
-    assert_eq!(rt; one.labels.len(), 1);
-    assert!(rt; all.labels.is_empty());
+    assert!(rt; is_denied(denied));
     Ok(())
 }
 
-/// Values that are no policy of the form that is read.
-const NOT_BUILT: [&str; 9] = [
-    "null",
-    "[]",
-    r#"{"apiVersion":"cilium.io/v2","kind":"CiliumNetworkPolicy","metadata":{"name":"p"}}"#,
-    r#"{"apiVersion":"cilium.io/v1","kind":"CiliumNetworkPolicy","metadata":{"name":"p"},"spec":{"endpointSelector":{},"ingress":[{"fromEndpoints":[{}]}]}}"#,
-    r#"{"apiVersion":"cilium.io/v2","kind":"CiliumNetworkPolicy","metadata":{"name":"P"},"spec":{"endpointSelector":{},"ingress":[{"fromEndpoints":[{}]}]}}"#,
-    r#"{"apiVersion":"cilium.io/v2","kind":"CiliumNetworkPolicy","metadata":{"name":"p"},"spec":{"endpointSelector":{},"ingress":[]}}"#,
-    r#"{"apiVersion":"cilium.io/v2","kind":"CiliumNetworkPolicy","metadata":{"name":"p"},"spec":{"endpointSelector":{},"ingress":[{"fromEndpoints":[]}]}}"#,
-    r#"{"apiVersion":"cilium.io/v2","kind":"CiliumNetworkPolicy","metadata":{"name":"p"},"spec":{"endpointSelector":{},"ingress":[{"fromEndpoints":[null]}]}}"#,
-    r#"{"apiVersion":"cilium.io/v2","kind":"CiliumNetworkPolicy","metadata":{"name":"p"},"spec":{"endpointSelector":{"matchLabels":{"io.kubernetes.pod.namespace":"a"}},"ingress":[{"fromEndpoints":[{}]}]}}"#,
+#[test]
+fn keys_are_by_kind(rt: HostRuntime) -> Result<(), Fail> {
+    let wide = policy(
+        rt.alloc(),
+        r#"{"apiVersion":"cilium.io/v2","kind":"CiliumClusterwideNetworkPolicy",
+            "metadata":{"name":"p","namespace":"prod"},"spec":{},"specs":[{},{}]}"#,
+    )?;
+    assert!(rt; wide.key.cluster_wide);
+    assert!(rt; wide.key.namespace.is_empty());
+    assert!(rt; wide.rules.len() == 3);
+    let plain = policy(
+        rt.alloc(),
+        r#"{"apiVersion":"cilium.io/v2","kind":"CiliumNetworkPolicy","metadata":{"name":"p"},"specs":[{}]}"#,
+    )?;
+    assert!(rt; plain.key.namespace.as_str() == "default");
+    assert!(rt; plain.rules.len() == 1);
+    Ok(())
+}
+
+/// Whether it is the fault of this number, with this detail.
+fn is_fault(fault: &DocFault, number: u8, detail: &str) -> bool {
+    match fault {
+        DocFault::NotPolicy => number == 10,
+        DocFault::NoName => number == 11,
+        DocFault::NoSpec => number == 12,
+        DocFault::UnknownMember(path) => number == 13 && path.as_str() == detail,
+        DocFault::Unsupported(name) => number == 14 && name.as_str() == detail,
+        DocFault::WrongShape(path) => number == 25 && path.as_str() == detail,
+    }
+}
+
+/// Documents after `{"apiVersion":"cilium.io/v2","kind":"CiliumNetworkPolicy",`, with their first faults.
+const FAULTY: [(&str, u8, &str); 14] = [
+    (r#""metadata":{"name":""}}"#, 11, ""),
+    (r#""metadata":{"name":"p"},"specs":[]}"#, 12, ""),
+    (r#""metadata":{"name":"p"},"specs":{}}"#, 25, "specs"),
+    (r#""metadata":{"name":"P"},"spec":{}}"#, 25, "metadata.name"),
+    (r#""metadata":{"name":"p"},"spec":{},"é":1}"#, 13, "??"),
+    (
+        r#""metadata":{"name":"p"},"spec":{"nodeSelector":{},"zzz":1}}"#,
+        14,
+        "nodeSelector",
+    ),
+    (
+        r#""metadata":{"name":"p"},"spec":{"ingress":[{},{"fromEndpoints":[{},null]}]}}"#,
+        25,
+        "spec.ingress[1].fromEndpoints[1]",
+    ),
+    (
+        r#""metadata":{"name":"p"},"spec":{"endpointSelector":{"matchExpressions":[{"a":1,"key":"k"}]}}}"#,
+        25,
+        "spec.endpointSelector.matchExpressions[0].operator",
+    ),
+    (
+        r#""metadata":{"name":"p"},"specs":[{"egress":[{"toCIDRSet":[{"cidrGroupSelector":{}}]}]}]}"#,
+        14,
+        "cidrGroupSelector",
+    ),
+    (
+        r#""metadata":{"name":"p"},"spec":{"egress":[{"toCIDR":["::1"]}]}}"#,
+        14,
+        "ipv6",
+    ),
+    (
+        r#""metadata":{"name":"p"},"spec":{"egress":[{"toPorts":[{"ports":[{"port":"http"}]}]}]}}"#,
+        14,
+        "named-port",
+    ),
+    (
+        r#""metadata":{"name":"p"},"spec":{"egress":[{"toPorts":[{"ports":[{"port":"8","protocol":"icmpv6"}]}]}]}}"#,
+        14,
+        "icmp",
+    ),
+    (
+        r#""metadata":{"name":"p"},"spec":{"egress":[{"toPorts":[{"ports":[{"port":"8","endPort":1.5}]}]}]}}"#,
+        25,
+        "spec.egress[0].toPorts[0].ports[0].endPort",
+    ),
+    (
+        r#""metadata":{"name":"p"},"spec":{"endpointSelector":{"matchLabels":{"":7}}}}"#,
+        25,
+        "spec.endpointSelector.matchLabels.",
+    ),
 ];
 
 #[test]
-fn other_documents_are_not_built(rt: HostRuntime) -> Result<(), Fail> {
-    for document in NOT_BUILT {
-        let value = Value::from_str(rt.alloc(), document)?;
-        let read = read_policy(rt.alloc(), &value);
-        assert!(rt;
-            matches!(read, Err(DocError::Fault(DocFault::NotBuilt))),
-            "{document}"
-        );
+fn the_first_fault_is_told(rt: HostRuntime) -> Result<(), Fail> {
+    for (rest, number, detail) in FAULTY {
+        let document = format!(in rt.alloc();
+            "{{\"apiVersion\":\"cilium.io/v2\",\"kind\":\"CiliumNetworkPolicy\",{rest}"
+        )?;
+        let value = Value::from_str(rt.alloc(), document.as_str())?;
+        match read_policy(rt.alloc(), &value) {
+            Err(DocError::Fault(fault)) => {
+                assert!(rt; is_fault(&fault, number, detail), "{rest}");
+            }
+            _ => return Err(Fail::from("no fault")),
+        }
     }
     Ok(())
 }

@@ -1,0 +1,159 @@
+//! What is wrong at a place of a policy document, without what it holds.
+#![tactic(auto, using(crate::proofs::Steps::one_step))]
+
+ghost use Rattle.std.specs.Prelude.{◌≡◌, Some, ◌==◌};
+ghost use Rattle.std.specs.List.{list_any};
+ghost use Rattle.std.specs.Str.{str_eq_ignore_ascii_case};
+ghost use Rattle.serde_json.specs.View.{view};
+ghost use Rattle.pol_json.specs.Gives.{Finds};
+ghost use Rattle.pol_json.specs.Path.{fault_here, step_text};
+ghost use Rattle.pol_json.specs.Places.{named, left_out, lacks, wrong_shape, is_icmp, text_cause, object_cause, content_cause};
+ghost use Rattle.pol_json.specs.Texts.{is_letter};
+
+use crate::fault::{DocError, DocFault};
+use crate::members::present;
+use crate::path::member_step;
+use crate::table::{Content, Kind, TextForm};
+use crate::texts::is_dns_name;
+use pol_data::Text;
+use serde_json::Value;
+use std::alloc::Global;
+
+/// An unknown name, seen from its object.
+pub(crate) fn unknown_name(alloc: Global, name: &str) -> Result<(), DocError>
+    ensures { Finds (Some (DocFault.UnknownMember (step_text (named name.now)))) result }
+{
+    let path = Text::from_string(member_step(alloc, name)?);
+    Err(DocError::Fault(DocFault::UnknownMember(path)))
+}
+
+/// A name, or a word for a text, that this profile leaves out.
+pub(crate) fn left_out(alloc: Global, name: &str) -> Result<(), DocError>
+    ensures { Finds (fault_here (Some (left_out name.now))) result }
+{
+    let name = Text::from_str(alloc, name)?;
+    Err(DocError::Fault(DocFault::Unsupported(name)))
+}
+
+/// A value of another shape.
+pub(crate) fn wrong_shape(alloc: Global) -> Result<(), DocError>
+    ensures { Finds (fault_here (Some wrong_shape)) result }
+{
+    let path = Text::from_string(String::new(alloc));
+    Err(DocError::Fault(DocFault::WrongShape(path)))
+}
+
+fn lacks(alloc: Global, name: &str) -> Result<(), DocError>
+    ensures { Finds (fault_here (Some (lacks name.now))) result }
+{
+    let path = Text::from_string(member_step(alloc, name)?);
+    Err(DocError::Fault(DocFault::WrongShape(path)))
+}
+
+fn is_letter(byte: u8) -> bool
+    ensures { result ≡ is_letter byte }
+{
+    matches!(byte, b'a'..=b'z' | b'A'..=b'Z')
+}
+
+fn has_letter(text: &str) -> bool
+    ensures { result ≡ list_any is_letter text.now }
+{
+    text.as_bytes().iter().any(|byte| is_letter(*byte))
+}
+
+fn has_colon(text: &str) -> bool
+    ensures { result ≡ list_any (λ b. b == 58) text.now }
+{
+    text.as_bytes().iter().any(|byte| *byte == b':')
+}
+
+/// Whether the text is this word without ASCII case.
+fn is_word(text: &str, word: &str) -> bool
+    ensures { result ≡ str_eq_ignore_ascii_case text.now word.now }
+{
+    text.eq_ignore_ascii_case(word)
+}
+
+fn is_icmp(text: &str) -> bool
+    ensures { result ≡ is_icmp text.now }
+{
+    is_word(text, "ICMP") || is_word(text, "ICMPv6")
+}
+
+fn check_text(alloc: Global, form: TextForm, text: &str) -> Result<(), DocError>
+    ensures { Finds (fault_here (text_cause form text.now)) result }
+{
+    match form {
+        TextForm::Name if !is_dns_name(text) => wrong_shape(alloc),
+        TextForm::Cidr if has_colon(text) => left_out(alloc, "ipv6"),
+        TextForm::Port if has_letter(text) => left_out(alloc, "named-port"),
+        TextForm::Protocol if is_icmp(text) => left_out(alloc, "icmp"),
+        _ => Ok(()),
+    }
+}
+
+/// Names of a CIDR set item that are found before the lack of its `cidr`.
+fn check_cidr_set(alloc: Global, value: &Value) -> Result<(), DocError>
+    ensures { Finds (fault_here (object_cause Kind.CidrSet (view value.now))) result }
+{
+    if present(value, "cidrGroupRef").is_some() {
+        left_out(alloc, "cidrGroupRef")
+    } else if present(value, "cidrGroupSelector").is_some() {
+        left_out(alloc, "cidrGroupSelector")
+    } else if present(value, "cidr").is_none() {
+        lacks(alloc, "cidr")
+    } else {
+        Ok(())
+    }
+}
+
+fn check_expression(alloc: Global, value: &Value) -> Result<(), DocError>
+    ensures { Finds (fault_here (object_cause Kind.Expression (view value.now))) result }
+{
+    if present(value, "key").is_none() {
+        lacks(alloc, "key")
+    } else if present(value, "operator").is_none() {
+        lacks(alloc, "operator")
+    } else {
+        Ok(())
+    }
+}
+
+fn check_port(alloc: Global, value: &Value) -> Result<(), DocError>
+    ensures { Finds (fault_here (object_cause Kind.Port (view value.now))) result }
+{
+    if present(value, "port").is_none() {
+        lacks(alloc, "port")
+    } else {
+        Ok(())
+    }
+}
+
+fn check_object(alloc: Global, kind: Kind, value: &Value) -> Result<(), DocError>
+    ensures { Finds (fault_here (object_cause kind (view value.now))) result }
+{
+    match kind {
+        Kind::CidrSet => check_cidr_set(alloc, value),
+        Kind::Expression => check_expression(alloc, value),
+        Kind::Port => check_port(alloc, value),
+        _ => Ok(()),
+    }
+}
+
+/// What is wrong with a value itself, where this should stand.
+pub(crate) fn check(alloc: Global, content: Content, value: &Value) -> Result<(), DocError>
+    ensures { Finds (fault_here (content_cause content (view value.now))) result }
+{
+    match content {
+        Content::Ignored => Ok(()),
+        Content::Text(form) => match value.as_str() {
+            None => wrong_shape(alloc),
+            Some(text) => check_text(alloc, form, text),
+        },
+        Content::Number if value.as_u64().is_none() => wrong_shape(alloc),
+        Content::Number => Ok(()),
+        Content::Object(_) if !value.is_object() => wrong_shape(alloc),
+        Content::Object(kind) => check_object(alloc, kind, value),
+    }
+}

@@ -1,0 +1,9 @@
+pub mod Keys
+pub mod Selectors
+pub mod Ports
+pub mod Peers
+pub mod Faults
+pub mod Sanitized
+pub mod Answers
+pub mod Order
+pub mod Whole
