@@ -1,4 +1,4 @@
-pub mod Answered
+pub mod Turns
+pub mod Json
 pub mod Cuts
 pub mod ScriptLaws
-pub mod AnswerLaws

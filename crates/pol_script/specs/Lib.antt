@@ -1,6 +1,8 @@
-pub mod Policy
+pub mod Steps
 pub mod Gives
+pub mod Forms
+pub mod Table
+pub mod Members
+pub mod Commands
 pub mod Reading
 pub mod Lines
-pub mod Faults
-pub mod Text

@@ -1,10 +1,8 @@
-//! Laws of the lines of a script and of the text of answers, over the definitions alone.
+//! Laws of the lines of a script, over the definitions alone.
 //! Each function does nothing: its contract is the law.
-ghost use Rattle.std.specs.Prelude.{◌≡◌, ◌≢◌, ℕ, List, [], ◌∷◌, ◌++◌, map, IsTrue};
+ghost use Rattle.std.specs.Prelude.{◌≡◌, ◌≢◌, ℕ, List, [], ◌∷◌, ◌++◌, IsTrue};
 ghost use Rattle.std.specs.List.{flat_map, list_all};
 ghost use Rattle.pol_script.specs.Lines.{newline, lines_of, ended, is_one_line};
-ghost use Rattle.pol_script.specs.Text.{answer_words, text_of, texts_of, has_plain_names};
-ghost use Rattle.pol_script.specs.declared.answer.Answer.{Answer};
 
 /// What the lines of a script are: lines that were ended by a newline each are read again, a last piece
 /// without a newline is read as if it had one, no line holds a newline, and the lines of a script that
@@ -15,12 +13,4 @@ pub fn script_lines()
     ensures empty { lines_of [] ≡ [] }
     ensures apart { (bytes : List ℕ) → IsTrue (list_all is_one_line (lines_of bytes)) }
     ensures whole { (bytes : List ℕ) → flat_map ended (lines_of (ended bytes)) ≡ ended bytes }
-{}
-
-/// What the text of an answer is: one line, ended by its newline, where no name that is printed as it is
-/// holds a newline. So the lines of the answers' texts are the answers again.
-pub fn answer_lines()
-    ensures line { (answer : Answer) → text_of answer ≡ ended (answer_words answer) }
-    ensures one_line { (answer : Answer) → IsTrue (has_plain_names answer) → IsTrue (is_one_line (answer_words answer)) }
-    ensures again { (answers : List Answer) → IsTrue (list_all has_plain_names answers) → lines_of (texts_of answers) ≡ map answer_words answers }
 {}

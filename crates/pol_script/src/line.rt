@@ -1,23 +1,24 @@
 //! Lines: from a line's bytes to a command.
-ghost use Rattle.std.specs.Prelude.{◌≡◌};
+ghost use Rattle.std.specs.Prelude.{◌≡◌, ok_or};
 ghost use Rattle.serde_json.specs.View.{view};
-ghost use Rattle.pol_json.specs.Gives.{Gives, ReadsForm};
+ghost use Rattle.pol_json.specs.Gives.{Gives};
 ghost use Rattle.pol_script.specs.Gives.{Reads, line_fault_of};
-ghost use Rattle.pol_script.specs.Reading.{json_of, is_op, read_built_command, read_object, reading_of};
+ghost use Rattle.pol_script.specs.Reading.{json_of, op_of, read_object, read_op, reading_of};
 ghost use Rattle.pol_script.specs.declared.line_fault.LineFault.TheVariants.{Json as NoJson};
 
-use crate::apply::read_apply;
-use crate::endpoint::read_endpoint;
-use crate::read::not_built;
-use crate::verdict::{read_sync, read_verdict};
+use crate::apply::{read_apply, read_delete};
+use crate::endpoint::{read_endpoint, read_identity, read_remove_endpoint, read_remove_identity};
+use crate::op::{Op, op_named};
+use crate::others::{read_mode, read_phase, read_sync};
+use crate::query::read_query;
 use crate::{Command, LineError, LineFault};
-use pol_json::is_text_at;
+use pol_json::text_at;
 use serde_json::Value;
 use std::alloc::Global;
 
 /// The JSON value of a line (RFC 8259).
 fn json_of(alloc: Global, line: &[u8]) -> Result<Value, LineError>
-    ensures { ReadsForm line_fault_of NoJson view result (json_of line.now) }
+    ensures { Reads view result (ok_or (json_of line.now) NoJson) }
 {
     match Value::from_slice(alloc, line) {
         Ok(value) => Ok(value),
@@ -31,46 +32,59 @@ fn json_of(alloc: Global, line: &[u8]) -> Result<Value, LineError>
     }
 }
 
-fn is_op(value: &Value, op: &str) -> bool
-    ensures { result ≡ is_op op.now (view value.now) }
+/// The operation of an object.
+fn op_of(value: &Value) -> Result<Op, LineError>
+    ensures { Reads (λ op. op) result (op_of (view value.now)) }
 {
-    is_text_at(value, "op", op)
+    let Some(text) = text_at(value, "op") else {
+        return Err(LineError::Fault(LineFault::NoOp));
+    };
+    match op_named(text) {
+        Some(op) => Ok(op),
+        None => Err(LineError::Fault(LineFault::NoOp)),
+    }
 }
 
-/// The command of an object, by its member `op`.
-fn read_built_command(alloc: Global, value: &Value) -> Result<Command, LineError>
-    ensures { Reads (λ command. command) result (read_built_command (view value.now)) }
+/// The command of an object with this operation.
+fn read_op(alloc: Global, value: &Value, op: Op) -> Result<Command, LineError>
+    ensures { Reads (λ command. command) result (read_op op (view value.now)) }
 {
-    if is_op(value, "endpoint") {
-        read_endpoint(alloc, value)
-    } else if is_op(value, "apply") {
-        read_apply(alloc, value)
-    } else if is_op(value, "sync") {
-        read_sync(value)
-    } else if is_op(value, "verdict") {
-        read_verdict(alloc, value)
-    } else {
-        Err(not_built())
+    match op {
+        Op::Endpoint => read_endpoint(alloc, value),
+        Op::RemoveEndpoint => read_remove_endpoint(alloc, value),
+        Op::Identity => read_identity(alloc, value),
+        Op::RemoveIdentity => read_remove_identity(alloc, value),
+        Op::Apply => read_apply(alloc, value),
+        Op::Delete => read_delete(alloc, value),
+        Op::Mode => read_mode(alloc, value),
+        Op::Verdict => read_query(alloc, value, false),
+        Op::Trace => read_query(alloc, value, true),
+        Op::Sync => read_sync(alloc, value),
+        Op::Phase => read_phase(alloc, value),
     }
 }
 
 fn read_object(alloc: Global, value: &Value) -> Result<Command, LineError>
-    ensures { Gives line_fault_of result (read_object (view value.now)) }
+    ensures { Reads (λ command. command) result (read_object (view value.now)) }
 {
-    if !value.is_object() {
-        return Err(LineError::Fault(LineFault::Json));
-    }
-    read_built_command(alloc, value)
+    let op = op_of(value)?;
+    read_op(alloc, value, op)
 }
 
 /// The command of a line of the script, without its newline (profile).
 ///
-/// `Fault` comes exactly where the line has a fault, with the first one: `Json` where the line is no JSON
-/// value or its value is no object, and so far `NotBuilt` where the object isn't of a form that is read.
+/// `Fault` comes exactly where the line has a fault, with the first one, in this order: `Json` where the
+/// line is no JSON value or its value is no object; `NoOp` where `op` isn't an operation; `BadField` for
+/// the first member of the operation that is absent though it has to be there, or of the wrong form;
+/// `UnknownField` for the first member, in byte order, that the operation doesn't have; and then what the
+/// members hold: `BadLabel`, `DuplicateLabelKey` and `BadAddress`, or `Doc` and `Rule` for a policy.
 /// A member whose value is null counts as absent. `Memory` is want of memory.
 pub fn read_line(alloc: Global, line: &[u8]) -> Result<Command, LineError>
     ensures exact { Gives line_fault_of result (reading_of line.now) }
 {
     let value = json_of(alloc, line)?;
+    if !value.is_object() {
+        return Err(LineError::Fault(LineFault::Json));
+    }
     read_object(alloc, &value)
 }

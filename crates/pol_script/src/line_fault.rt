@@ -1,11 +1,14 @@
 //! What a line of the script is refused for.
 
 ghost use Rattle.std.specs.Prelude.{◌≡◌};
+ghost use Rattle.pol_script.specs.Gives.{of_document, of_label, of_labels, of_rules};
 ghost use Rattle.pol_script.specs.declared.line_fault.LineError.TheVariants.{Memory as WantOfMemory};
 
 use pol_data::{Memory, Text};
-use pol_json::DocFault;
+use pol_json::{DocError, DocFault};
+use pol_labels::{LabelError, SetError};
 use pol_rule::RuleFault;
+use pol_sanitize::SanitizeError;
 use std::alloc::AllocFailed;
 use thiserror::Error;
 
@@ -20,8 +23,6 @@ pub enum LineFault {
     BadField(Text),
     /// 4: the operation has no member of this name.
     UnknownField(Text),
-    /// 5: the line is of a form that isn't read yet. It goes when every form is.
-    NotBuilt,
     /// 10 to 14 and 25: the policy document has a fault.
     Doc(DocFault),
     /// 15 to 24: a rule of the policy has a fault.
@@ -58,5 +59,49 @@ impl<T: Drop> From<AllocFailed<T>> for LineError {
 
     fn from(_memory: AllocFailed<T>) -> LineError {
         LineError::Memory
+    }
+}
+
+impl From<DocError> for LineError {
+    ghost from_gives = { λ inner error. error ≡ of_document inner };
+
+    fn from(error: DocError) -> LineError {
+        match error {
+            DocError::Fault(fault) => LineError::Fault(LineFault::Doc(fault)),
+            DocError::Memory => LineError::Memory,
+        }
+    }
+}
+
+impl From<SanitizeError> for LineError {
+    ghost from_gives = { λ inner error. error ≡ of_rules inner };
+
+    fn from(error: SanitizeError) -> LineError {
+        match error {
+            SanitizeError::Fault(fault) => LineError::Fault(LineFault::Rule(fault)),
+            SanitizeError::Memory => LineError::Memory,
+        }
+    }
+}
+
+impl From<LabelError> for LineError {
+    ghost from_gives = { λ inner error. error ≡ of_label inner };
+
+    fn from(error: LabelError) -> LineError {
+        match error {
+            LabelError::Bad => LineError::Fault(LineFault::BadLabel),
+            LabelError::Memory => LineError::Memory,
+        }
+    }
+}
+
+impl From<SetError> for LineError {
+    ghost from_gives = { λ inner error. error ≡ of_labels inner };
+
+    fn from(error: SetError) -> LineError {
+        match error {
+            SetError::DuplicateKey => LineError::Fault(LineFault::DuplicateLabelKey),
+            SetError::Memory => LineError::Memory,
+        }
     }
 }

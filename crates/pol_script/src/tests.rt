@@ -1,12 +1,10 @@
 //! Lines that are read and lines that are refused, with values from Cilium's Star Wars demo.
-use crate::{
-    Answer, Command, LineError, LineFault, answer_text, count_lines, laws, read_line, read_script,
-};
+use crate::{Command, LineError, LineFault, count_lines, laws, read_line, read_script};
 use pol_data::Memory;
-use pol_labels::{LabelSet, Selector};
-use pol_model::{Query, Remote, Request};
+use pol_labels::LabelSet;
+use pol_model::{Mode, Query, Remote, Request};
 use pol_ports::{Direction, Proto};
-use pol_rule::{Entry, Peer, Peers, Policy, Rule};
+use pol_rule::PolicyKey;
 use std::alloc::Global;
 use std::test::Fail;
 
@@ -22,55 +20,14 @@ fn push_labels(out: &mut String, labels: &LabelSet) -> Result<(), Memory> {
     Ok(())
 }
 
-fn push_selector(out: &mut String, selector: &Selector) -> Result<(), Memory> {
-    for requirement in selector.as_slice() {
-        let source = requirement.source.as_str();
-        let key = requirement.key.as_str();
-        write!(out, " {source}:{key}")?;
-        for value in requirement.values.as_slice() {
-            write!(out, "={}", value.as_str())?;
+fn push_remote(out: &mut String, remote: Remote) -> Result<(), Memory> {
+    match remote {
+        Remote::Identity(number) => write!(out, " {number}"),
+        Remote::Address(address) => {
+            let bits = address.bits();
+            write!(out, " at {bits}")
         }
     }
-    Ok(())
-}
-
-fn push_peer(out: &mut String, peer: &Peer) -> Result<(), Memory> {
-    match peer {
-        Peer::Labels(selector) => push_selector(out, selector),
-        _ => out.push_str(" other"),
-    }
-}
-
-fn push_entry(out: &mut String, entry: &Entry) -> Result<(), Memory> {
-    out.push_str(" from")?;
-    match &entry.peers {
-        Peers::Every => out.push_str(" every"),
-        Peers::Listed(peers) => {
-            for peer in peers.as_slice() {
-                push_peer(out, peer)?;
-            }
-            Ok(())
-        }
-    }
-}
-
-fn push_rule(out: &mut String, rule: &Rule) -> Result<(), Memory> {
-    out.push_str(" for")?;
-    push_selector(out, &rule.subject)?;
-    for entry in rule.ingress.as_slice() {
-        push_entry(out, entry)?;
-    }
-    Ok(())
-}
-
-fn push_policy(out: &mut String, policy: &Policy) -> Result<(), Memory> {
-    let namespace = policy.key.namespace.as_str();
-    let name = policy.key.name.as_str();
-    write!(out, "policy {namespace}/{name}")?;
-    for rule in policy.rules.as_slice() {
-        push_rule(out, rule)?;
-    }
-    Ok(())
 }
 
 fn push_query(out: &mut String, query: &Query) -> Result<(), Memory> {
@@ -84,22 +41,52 @@ fn push_query(out: &mut String, query: &Query) -> Result<(), Memory> {
         Proto::Udp => "UDP",
         Proto::Sctp => "SCTP",
     };
-    let identity = match query.remote {
-        Remote::Identity(number) => number,
-        Remote::Address(_) => 0,
-    };
     let port = query.port;
-    write!(out, "verdict {endpoint} {dir} {identity} {proto} {port}")
+    write!(out, " {endpoint} {dir}")?;
+    push_remote(out, query.remote)?;
+    write!(out, " {proto} {port}")
+}
+
+fn push_mode(out: &mut String, mode: Mode) -> Result<(), Memory> {
+    match mode {
+        Mode::Default => out.push_str("mode default"),
+        Mode::Always => out.push_str("mode always"),
+        Mode::Never => out.push_str("mode never"),
+    }
+}
+
+fn push_key(out: &mut String, key: &PolicyKey) -> Result<(), Memory> {
+    let namespace = key.namespace.as_str();
+    let name = key.name.as_str();
+    write!(out, "{namespace}/{name}")
 }
 
 fn push_request(out: &mut String, request: &Request) -> Result<(), Memory> {
     match request {
-        Request::AddEndpoint { name, labels, .. } => {
+        Request::AddEndpoint {
+            name,
+            labels,
+            address,
+        } => {
             write!(out, "endpoint {}", name.as_str())?;
+            push_labels(out, labels)?;
+            push_remote(out, Remote::Address(*address))
+        }
+        Request::RemoveEndpoint { name } => write!(out, "remove-endpoint {}", name.as_str()),
+        Request::AddIdentity { name, labels } => {
+            write!(out, "identity {}", name.as_str())?;
             push_labels(out, labels)
         }
-        Request::Apply(policy) => push_policy(out, policy),
-        _ => out.push_str("other"),
+        Request::RemoveIdentity { name } => write!(out, "remove-identity {}", name.as_str()),
+        Request::Apply(policy) => {
+            write!(out, "apply {} ", policy.rules.len())?;
+            push_key(out, &policy.key)
+        }
+        Request::Remove(key) => {
+            out.push_str("delete ")?;
+            push_key(out, key)
+        }
+        Request::SetMode(mode) => push_mode(out, *mode),
     }
 }
 
@@ -110,84 +97,100 @@ fn push_command(out: &mut String, command: &Command) -> Result<(), Memory> {
             push_request(out, request)
         }
         Command::Look { session, query } => {
-            write!(out, "{} ", *session)?;
+            write!(out, "{} verdict", *session)?;
+            push_query(out, query)
+        }
+        Command::Trace { session, query } => {
+            write!(out, "{} trace", *session)?;
             push_query(out, query)
         }
         Command::Sync { session } => write!(out, "{} sync", *session),
-        _ => out.push_str("other"),
+        Command::Phase => out.push_str("phase"),
     }
 }
 
-/// What a line says: its command, or the answer to its fault.
-fn said(alloc: Global, line: &[u8]) -> Result<Vec<u8>, Memory> {
-    match read_line(alloc, line) {
-        Ok(command) => {
-            let mut out = String::new(alloc);
-            push_command(&mut out, &command)?;
-            Ok(out.into_bytes())
-        }
-        Err(LineError::Fault(fault)) => answer_text(alloc, &Answer::BadLine(fault)),
-        Err(LineError::Memory) => Err(Memory),
+fn push_fault(out: &mut String, fault: &LineFault) -> Result<(), Memory> {
+    match fault {
+        LineFault::Json => out.push_str("no json"),
+        LineFault::NoOp => out.push_str("no op"),
+        LineFault::BadField(member) => write!(out, "bad {}", member.as_str()),
+        LineFault::UnknownField(member) => write!(out, "unknown {}", member.as_str()),
+        LineFault::Doc(_) => out.push_str("document"),
+        LineFault::Rule(fault) => write!(out, "rule {}", fault.number),
+        LineFault::BadLabel => out.push_str("bad label"),
+        LineFault::DuplicateLabelKey => out.push_str("duplicate label key"),
+        LineFault::BadAddress => out.push_str("bad address"),
     }
+}
+
+/// What a line says: its command, or its fault.
+fn said(alloc: Global, line: &[u8]) -> Result<Vec<u8>, Memory> {
+    let mut out = String::new(alloc);
+    match read_line(alloc, line) {
+        Ok(command) => push_command(&mut out, &command)?,
+        Err(LineError::Fault(fault)) => push_fault(&mut out, &fault)?,
+        Err(LineError::Memory) => return Err(Memory),
+    }
+    Ok(out.into_bytes())
 }
 
 // ---- lines
 
-/// Lines that are read, each with what it says.
-const READ: [(&str, &str); 6] = [
+/// Lines, each with what it says.
+const SAID: [(&str, &str); 16] = [
     (
-        r#"{"op":"endpoint","name":"deathstar","labels":["k8s:class=deathstar","k8s:org=empire","k8s:io.kubernetes.pod.namespace=default"],"address":"10.0.0.1"}"#,
-        "1 endpoint deathstar k8s:class=deathstar k8s:io.kubernetes.pod.namespace=default k8s:org=empire",
+        r#"{"op":"endpoint","name":"deathstar","labels":["k8s:org=empire","class=deathstar"],"address":"10.0.0.1"}"#,
+        "1 endpoint deathstar k8s:org=empire unspec:class=deathstar at 167772161",
     ),
     (
-        r#"{"op":"apply","policy":{"apiVersion":"cilium.io/v2","kind":"CiliumNetworkPolicy","metadata":{"name":"rule1"},"spec":{"endpointSelector":{"matchLabels":{"org":"empire","class":"deathstar"}},"ingress":[{"fromEndpoints":[{"matchLabels":{"org":"empire"}}]}]}}}"#,
-        "1 policy default/rule1 for :class=deathstar :org=empire k8s:io.kubernetes.pod.namespace=default from :org=empire k8s:io.kubernetes.pod.namespace=default",
+        r#"{"op":"remove-endpoint","name":"a/b","session":8}"#,
+        "8 remove-endpoint a/b",
     ),
-    (r#"{"op":"sync"}"#, "1 sync"),
-    (r#"{"op":"sync","session":null}"#, "1 sync"),
     (
-        r#"{"op":"verdict","endpoint":"deathstar","direction":"ingress","identity":257,"protocol":"TCP","port":80}"#,
-        "1 verdict deathstar ingress 257 TCP 80",
+        r#"{"op":"identity","name":"i","labels":[],"session":null}"#,
+        "1 identity i",
     ),
+    (
+        r#"{"op":"remove-identity","name":"i","session":2}"#,
+        "2 remove-identity i",
+    ),
+    (
+        r#"{"op":"apply","policy":{"apiVersion":"cilium.io/v2","kind":"CiliumNetworkPolicy","metadata":{"name":"p"},"spec":{"endpointSelector":{},"ingress":[{}]}}}"#,
+        "1 apply 1 default/p",
+    ),
+    (
+        r#"{"op":"delete","kind":"CiliumNetworkPolicy","namespace":"n","name":"p"}"#,
+        "1 delete n/p",
+    ),
+    (
+        r#"{"op":"delete","kind":"CiliumClusterwideNetworkPolicy","namespace":"n","name":"p"}"#,
+        "1 delete /p",
+    ),
+    (r#"{"op":"mode","enable":"always"}"#, "1 mode always"),
     (
         r#"{"op":"verdict","endpoint":"a","direction":"ingress","identity":4294967295,"protocol":"sctp","port":65535}"#,
         "1 verdict a ingress 4294967295 SCTP 65535",
+    ),
+    (
+        r#"{"op":"trace","endpoint":"a","direction":"egress","address":"0.0.1.2","protocol":"Udp","port":0,"session":3}"#,
+        "3 trace a egress at 258 UDP 0",
+    ),
+    (r#"{"op":"sync"}"#, "1 sync"),
+    (r#"{"op":"phase"}"#, "phase"),
+    (r#"{"op":"sync","session":9}"#, "bad session"),
+    (r#"{"op":"phase","session":1}"#, "unknown session"),
+    (r#"{"op":"apply","policy":[]}"#, "document"),
+    (
+        r#"{"op":"apply","policy":{"apiVersion":"cilium.io/v2","kind":"CiliumNetworkPolicy","metadata":{"name":"p"},"spec":{}}}"#,
+        "rule 15",
     ),
 ];
 
 #[test]
 fn lines_say_what_they_ask(rt: HostRuntime) -> Result<(), Fail> {
-    for (line, wanted) in READ {
+    for (line, wanted) in SAID {
         let text = said(rt.alloc(), line.as_bytes())?;
         assert_eq!(rt; text.as_slice(), wanted.as_bytes(), "{line}");
-    }
-    Ok(())
-}
-
-/// Objects of forms that aren't read.
-const NOT_BUILT: [&str; 11] = [
-    "{}",
-    r#"{"op":null}"#,
-    r#"{"op":"fly"}"#,
-    r#"{"op":"mode","enable":"always"}"#,
-    r#"{"op":"sync","session":9}"#,
-    r#"{"op":"sync","prot":1}"#,
-    r#"{"op":"verdict","endpoint":"a","direction":"ingress","identity":4294967296,"protocol":"TCP","port":80}"#,
-    r#"{"op":"verdict","endpoint":"a","direction":"ingress","identity":2,"protocol":"TCP","port":65536}"#,
-    r#"{"op":"endpoint","name":"a","labels":["k8s:a"],"address":"10.0.0.1"}"#,
-    r#"{"op":"endpoint","name":"a","labels":["k8s:a=b","k8s:a=c"],"address":"10.0.0.1"}"#,
-    r#"{"op":"apply","policy":{"apiVersion":"cilium.io/v2","kind":"CiliumNetworkPolicy","metadata":{"name":"p"},"spec":{"endpointSelector":{},"ingress":[{"icmps":[]}]}}}"#,
-];
-
-#[test]
-fn objects_of_other_forms_are_not_built(rt: HostRuntime) -> Result<(), Fail> {
-    for line in NOT_BUILT {
-        let text = said(rt.alloc(), line.as_bytes())?;
-        assert_eq!(rt;
-            text.as_slice(),
-            b"refused 5 not-built\n".as_slice(),
-            "{line}"
-        );
     }
     Ok(())
 }
@@ -199,11 +202,11 @@ const NO_OBJECT: [&[u8]; 6] = [b"", b"[]", b"null", b"7", b"{\"op\":\"sync\"", b
 fn lines_that_are_no_object_are_no_json(rt: HostRuntime) -> Result<(), Fail> {
     for line in NO_OBJECT {
         let text = said(rt.alloc(), line)?;
-        assert_eq!(rt; text.as_slice(), b"refused 1 json\n".as_slice());
+        assert_eq!(rt; text.as_slice(), b"no json".as_slice());
     }
     let brackets = vec![in rt.alloc(); b'['; 200]?;
     let text = said(rt.alloc(), brackets.as_slice())?;
-    assert_eq!(rt; text.as_slice(), b"refused 1 json\n".as_slice());
+    assert_eq!(rt; text.as_slice(), b"no json".as_slice());
     Ok(())
 }
 

@@ -1,0 +1,4 @@
+pub mod AnswerLaws
+pub mod Cutting
+pub mod Rebuild
+pub mod Rebuilt
