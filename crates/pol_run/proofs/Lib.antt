@@ -2,7 +2,7 @@ pub mod SerialRuns
 pub mod Lists
 pub mod Numbering
 pub mod States
-pub mod Places
+pub mod Indices
 pub mod Moments
 pub mod Walk
 pub mod RightLines
@@ -10,5 +10,16 @@ pub mod SerialLaw
 pub mod SerialAnswers
 pub mod Counting
 pub mod Lives
-pub mod InShort
 pub mod Caps
+pub mod ByIndex
+pub mod ByIndexCommits
+pub mod Seen
+pub mod ShortRows
+pub mod InShort
+pub mod ShortNumbers
+pub mod ShortFloors
+pub mod FromShort
+pub mod OutputsInShort
+pub mod Examples
+pub mod WrongTexts
+pub mod RightExamples

@@ -1,6 +1,7 @@
 -- What holds of every element of a list, and the least and the greatest of numbers.
-use Rattle.std.proofs.Common.{◌≡◌, ℕ, zero, suc, ◌≤◌, ◌<◌, Bool, true, false, cond, IsTrue, List, [], ◌∷◌, ◌++◌, length, map, filter, flat_map, Contains, get_or, refl, sym, subst, arith}
+use Rattle.std.proofs.Common.{◌≡◌, ℕ, suc, ◌≤◌, Bool, true, false, cond, IsTrue, List, [], ◌∷◌, ◌++◌, length, map, filter, flat_map, Contains, refl, sym, subst, arith}
 use Rattle.std.specs.List.{AllByRecursion}
+use Rattle.std.proofs.lemmas.List.Elements.{All-contains, All-from_recursion}
 use Rattle.pol_run.specs.Moments.{least, greatest}
 
 module _ {X : Type 0} (P : X → Type 0) where
@@ -8,14 +9,9 @@ module _ {X : Type 0} (P : X → Type 0) where
   every_append [] ys front back = back
   every_append (x ∷ xs) ys front back = (front.0, every_append xs ys front.1 back)
 
-  every_at : (xs : List X) (k : ℕ) (x : X) → k < length xs → get_or xs k x ≡ x → AllByRecursion P xs → P x
-  every_at [] k x short same every = absurd (omega arith)
-  every_at (y ∷ ys) zero x short same every = subst P same every.0
-  every_at (y ∷ ys) (suc k) x short same every = every_at ys k x (omega arith) same every.1
-
   -- what holds of every element holds of one that the list contains
   pub every_contained : (xs : List X) (x : X) → AllByRecursion P xs → Contains xs x → P x
-  every_contained xs x every found = every_at xs found.0 x found.1 found.2 every
+  every_contained xs x every found = All-contains P xs x (All-from_recursion P xs every) found
 
   every_chosen : (passes : Bool) (x : X) (xs : List X) → (IsTrue passes → P x) → AllByRecursion P xs
       → AllByRecursion P (cond passes (x ∷ xs) xs)
@@ -50,7 +46,7 @@ filter_none p [] never = omega arith
 filter_none p (x ∷ xs) never =
     subst (λ (ys : List _). length ys ≤ 0) (sym (none_chosen (p x) x (filter p xs) never.0)) (filter_none p xs never.1)
 
-length_chosen : {X : Type 0} (passes : Bool) (x : X) (xs : List X) (n : ℕ) → length xs ≤ n → length (cond passes (x ∷ xs) xs) ≤ suc n
+pub length_chosen : {X : Type 0} (passes : Bool) (x : X) (xs : List X) (n : ℕ) → length xs ≤ n → length (cond passes (x ∷ xs) xs) ≤ suc n
 length_chosen true x xs n short = omega arith
 length_chosen false x xs n short = omega arith
 

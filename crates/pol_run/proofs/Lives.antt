@@ -91,7 +91,7 @@ live_before_all s [] name e old found = found
 live_before_all s (request ∷ requests) name e old found =
     live_before s request name e old (live_before_all (after s request) requests name e (omega arith) found)
 
-added_within : (options : Options) (requests : List Request) (name : List ℕ) (e : Endpoint)
+pub added_within : (options : Options) (requests : List Request) (name : List ℕ) (e : Endpoint)
     → endpoint_of name (state_of options requests).endpoints ≡ Some e → e.added ≤ length requests
 added_within options requests name e found =
     let young : e.added ≤ (state_of options requests).revision =

@@ -1,41 +1,33 @@
 -- The revision of the lines before a line is a moment of it, where the lines stand in order.
-use Rattle.std.proofs.Common.{◌≡◌, ℕ, ◌-◌, ◌≤◌, ◌<◌, ◌⊎◌, inl, inr, Bool, true, false, ◌&&◌, ◌||◌, nat_lt, IsTrue, List, [], ◌∷◌, ◌++◌, length, map, filter, Ok, refl, ap, sym, subst, arith, length-append}
+use Rattle.std.proofs.Common.{◌≡◌, ℕ, ◌-◌, ◌≤◌, ◌<◌, ◌⊎◌, inl, inr, nat_lt, IsTrue, List, [], ◌∷◌, ◌++◌, length, map, filter, Ok, ap, sym, subst, arith, length-append}
 use Rattle.std.specs.List.{AllByRecursion, cons_option}
-use Rattle.std.proofs.lemmas.Bool.{ltb-true}
+use Rattle.std.proofs.lemmas.Bool.{ltb-true, and_parts, or_cases}
 use Rattle.std.proofs.lemmas.List.Elements.{filter_map-append}
-use Rattle.pol_script.specs.declared.answer.Answer.{Answer}
-use Rattle.pol_script.specs.declared.answer.Answer.TheVariants as answer
+use Rattle.pol_answer.specs.declared.answer.Answer.{Answer}
+use Rattle.pol_answer.specs.declared.answer.Answer.TheVariants as answer
 use Rattle.pol_script.specs.declared.command.Command.TheVariants as command
 use Rattle.pol_model.specs.declared.request.Request.{Request}
 use Rattle.pol_run.specs.Spots.{Reading, Spot, earlier_in_session, stands_before, shares, session_of}
 use Rattle.pol_run.specs.History.{Commit, commit_at, commit_read, commit_as, commits_of}
 use Rattle.pol_run.specs.Moments.{IsMoment, floor, cap, later_commits, revisions_in, commits_before, revisions_before}
 use Rattle.pol_run.proofs.Lists.{every_weaker, every_append, every_filtered, every_mapped, every_flat, filter_front, greatest_bound, least_bound}
-use Rattle.pol_run.proofs.Places.{IsFrom, IsBehind}
+use Rattle.pol_run.proofs.Indices.{IsFrom, IsBehind}
 
 -- ---- what standing before means
 
-and_first : (a b : Bool) → (a && b) ≡ true → a ≡ true
-and_first true b both = refl
-and_first false b both = both
+earlier_index : (a b : Spot) → IsTrue (earlier_in_session a b) → a.index < b.index
+earlier_index a b earlier =
+    ltb-true a.index b.index (and_parts (nat_lt a.index b.index) (shares (session_of a.reading) (session_of b.reading)) earlier).0
 
-or_cases : (a b : Bool) → (a || b) ≡ true → (a ≡ true) ⊎ (b ≡ true)
-or_cases true b some = inl refl
-or_cases false b some = inr some
-
-earlier_place : (a b : Spot) → IsTrue (earlier_in_session a b) → a.place < b.place
-earlier_place a b earlier =
-    ltb-true a.place b.place (and_first (nat_lt a.place b.place) (shares (session_of a.reading) (session_of b.reading)) earlier)
-
--- a line that stands before another has an earlier place or an earlier phase
-pub before_cases : (a b : Spot) → IsTrue (stands_before a b) → (a.place < b.place) ⊎ (a.phase < b.phase)
+-- a line that stands before another has an earlier index or an earlier phase
+pub before_cases : (a b : Spot) → IsTrue (stands_before a b) → (a.index < b.index) ⊎ (a.phase < b.phase)
 before_cases a b before =
     elim (or_cases (earlier_in_session a b) (nat_lt a.phase b.phase) before)
-    [ inl h ↦ inl (earlier_place a b h) | inr h ↦ inr (ltb-true a.phase b.phase h) ]
+    [ inl h ↦ inl (earlier_index a b h) | inr h ↦ inr (ltb-true a.phase b.phase h) ]
 
 -- no line from this one on stands before it
-pub not_before : (a b : Spot) → IsFrom b.place b.phase a → IsTrue (stands_before a b) → ⊥
-not_before a b from before = elim (before_cases a b before) [ inl h ↦ omega (arith, from.place) | inr h ↦ omega (arith, from.phase) ]
+pub not_before : (a b : Spot) → IsFrom b.index b.phase a → IsTrue (stands_before a b) → ⊥
+not_before a b from before = elim (before_cases a b before) [ inl h ↦ omega (arith, from.index) | inr h ↦ omega (arith, from.phase) ]
 
 -- ---- the commits of lines
 
@@ -61,7 +53,7 @@ commits_append front back = filter_map-append commit_at front back
 
 -- the line stands before this one, and printed no later revision
 pub record IsEarlier (revision : ℕ) (spot other : Spot) : Type 0 where
-  pub place : other.place < spot.place
+  pub index : other.index < spot.index
   pub phase : other.phase ≤ spot.phase
   pub printed : AllByRecursion (λ k. k ≤ revision) (revisions_in other.answer)
 
@@ -70,14 +62,14 @@ pub record IsEarlier (revision : ℕ) (spot other : Spot) : Type 0 where
 pub record IsBetween (revision : ℕ) (spot : Spot) (front back : List Spot) : Type 0 where
   pub counted : length (commits_of front) ≡ revision
   pub earlier : AllByRecursion (IsEarlier revision spot) front
-  pub from : AllByRecursion (IsFrom spot.place spot.phase) back
-  pub behind : AllByRecursion (IsBehind revision spot.place spot.phase) (commits_of back)
+  pub from : AllByRecursion (IsFrom spot.index spot.phase) back
+  pub behind : AllByRecursion (IsBehind revision spot.index spot.phase) (commits_of back)
 
 module _ (revision : ℕ) (spot : Spot) (front back : List Spot) (between : IsBetween revision spot front back) where
   phases_bound : commits_before (front ++ back) spot ≤ revision
   phases_bound =
       let never : AllByRecursion (λ c. IsTrue (nat_lt c.spot.phase spot.phase) → ⊥) (commits_of back) =
-      every_weaker (IsBehind revision spot.place spot.phase) (λ c. IsTrue (nat_lt c.spot.phase spot.phase) → ⊥)
+      every_weaker (IsBehind revision spot.index spot.phase) (λ c. IsTrue (nat_lt c.spot.phase spot.phase) → ⊥)
       (λ c behind earlier.
       let h : c.spot.phase < spot.phase = ltb-true c.spot.phase spot.phase earlier in omega (arith, behind.spot.phase))
       (commits_of back) between.behind in
@@ -92,9 +84,9 @@ module _ (revision : ℕ) (spot : Spot) (front back : List Spot) (between : IsBe
       let each : AllByRecursion here (front ++ back) =
       every_append here front back
       (every_weaker (IsEarlier revision spot) here (λ other h passes. h.printed) front between.earlier)
-      (every_weaker (IsFrom spot.place spot.phase) here
+      (every_weaker (IsFrom spot.index spot.phase) here
       (λ other h passes.
-      let early : other.place < spot.place = earlier_place other spot passes in absurd (omega (arith, h.place)))
+      let early : other.index < spot.index = earlier_index other spot passes in absurd (omega (arith, h.index)))
       back between.from) in
       every_flat (λ k. k ≤ revision) (λ (other : Spot). revisions_in other.answer) (filter (λ other. earlier_in_session other spot) (front ++ back))
       (every_filtered small (λ other. earlier_in_session other spot) (front ++ back) each)
@@ -106,7 +98,7 @@ module _ (revision : ℕ) (spot : Spot) (front back : List Spot) (between : IsBe
 
   earlier_no_cap : (c : Commit) → IsEarlier revision spot c.spot → IsTrue (stands_before spot c.spot) → ⊥
   earlier_no_cap c earlier before =
-      elim (before_cases spot c.spot before) [ inl h ↦ omega (arith, earlier.place) | inr h ↦ omega (arith, earlier.phase) ]
+      elim (before_cases spot c.spot before) [ inl h ↦ omega (arith, earlier.index) | inr h ↦ omega (arith, earlier.phase) ]
 
   capped : AllByRecursion (λ c. IsTrue (stands_before spot c.spot) → revision ≤ c.number - 1) (commits_of (front ++ back))
   capped =
@@ -115,7 +107,7 @@ module _ (revision : ℕ) (spot : Spot) (front back : List Spot) (between : IsBe
       (every_append late (commits_of front) (commits_of back)
       (every_weaker (λ c. IsEarlier revision spot c.spot) late (λ c h before. absurd (earlier_no_cap c h before))
       (commits_of front) (every_commit (IsEarlier revision spot) front between.earlier))
-      (every_weaker (IsBehind revision spot.place spot.phase) late (λ c h before. omega (arith, h.number))
+      (every_weaker (IsBehind revision spot.index spot.phase) late (λ c h before. omega (arith, h.number))
       (commits_of back) between.behind))
 
   -- the cap of the line is at least the revision

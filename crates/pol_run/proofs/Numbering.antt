@@ -46,7 +46,7 @@ none_numbered n k (c ∷ cs) early counted =
     let apart : (c.number == k) ≡ false = ne_eqb c.number k (omega (arith, counted.0)) in
     simp apart (none_numbered (n + 1) k cs (omega arith) counted.1)
 
--- the commit at place m carries n + m + 1
+-- the commit at index m carries n + m + 1
 one_numbered : (n m : ℕ) (cs : List Commit) → IsCountedFrom n cs → requests_numbered (suc (n + m)) cs ≡ take 1 (drop m (requests_in cs))
 one_numbered n zero [] counted = refl
 one_numbered n (suc m) [] counted = refl

@@ -5,6 +5,7 @@ use Rattle.pol_mapkey.specs.declared.Word.{Word}
 use Rattle.pol_model.specs.State.{State}
 use Rattle.pol_model.specs.After.{after}
 use Rattle.pol_model.specs.Committed.{identity_given}
+use Rattle.pol_model.specs.Commits.{IsRefusedIn}
 use Rattle.pol_model.specs.Endpoints.{endpoint_of}
 use Rattle.pol_model.specs.Explain.{explain_of}
 use Rattle.pol_model.specs.Fault.{fault_of}
@@ -18,8 +19,8 @@ use Rattle.pol_model.specs.declared.options.Options.{Options}
 use Rattle.pol_model.specs.declared.request.Query.{Query}
 use Rattle.pol_model.specs.declared.request.Request.{Request}
 use Rattle.pol_model.specs.declared.row.Endpoint.{Endpoint}
-use Rattle.pol_script.specs.declared.answer.Answer.{Answer}
-use Rattle.pol_script.specs.declared.answer.Answer.TheVariants as answer
+use Rattle.pol_answer.specs.declared.answer.Answer.{Answer}
+use Rattle.pol_answer.specs.declared.answer.Answer.TheVariants as answer
 use Rattle.pol_script.specs.declared.command.Command.TheVariants as command
 use Rattle.pol_run.specs.Spots.{Reading, Spot, stands_before}
 use Rattle.pol_run.specs.History.{state_at}
@@ -27,7 +28,7 @@ use Rattle.pol_run.specs.Moments.{IsMoment, revisions_in}
 use Rattle.pol_run.specs.Endpoints.{IsLive, IsVerdictFor, VerdictAnswers, SyncAnswers, fits_limit}
 use Rattle.pol_run.specs.RightAnswer.{RightAnswer, IsRightCommit, IsRightRefusal, IsRightVerdict, IsRightNotYet, IsRightNoEndpoint, IsRightTrace, IsRightSync, IsTooLarge}
 use Rattle.pol_run.specs.Serial.{state_then, state_with}
-use Rattle.pol_run.specs.SerialLines.{Seen, Shown, MapFits, SerialAnswer, IsNextCommit, IsRefusalNow, IsVerdictNow, IsNotYetNow, IsNoEndpointNow, IsTraceNow, IsSyncNow}
+use Rattle.pol_run.specs.SerialLines.{Seen, Shown, MapFits, SerialAnswer, IsNextCommit, IsVerdictNow, IsNotYetNow, IsNoEndpointNow, IsTraceNow, IsSyncNow}
 use Rattle.pol_run.proofs.Lists.{every_contained}
 use Rattle.pol_run.proofs.States.{IsAddedBy, every_found}
 use Rattle.pol_run.proofs.Walk.{IsPast}
@@ -37,11 +38,11 @@ use Rattle.pol_run.proofs.Walk.{IsPast}
 pub record IsHere (options : Options) (spots : List Spot) (s : State) (seen : Seen) (spot : Spot) : Type 0 where
   pub moment : IsMoment spots spot s.revision
   pub now : state_at options spots s.revision ≡ s
-  pub then : state_at options spots (state_then options s spot.reading).revision ≡ state_then options s spot.reading
+  pub then : state_at options spots (state_then s spot.reading).revision ≡ state_then s spot.reading
   pub young : AllByRecursion (IsAddedBy s.revision) s.endpoints
   pub synced : seen.synced ≤ s.revision
   pub past : (other : Spot) → Contains spots other → IsTrue (stands_before other spot)
-      → IsPast options spots s spot.place spot.phase seen other
+      → IsPast options spots s spot.index spot.phase seen other
 
 -- ---- what earlier lines showed
 
@@ -65,18 +66,18 @@ fits_or_not false fits too_large = absurd (cc)
 module _ (options : Options) (spots : List Spot) (s : State) where
   right_commit : (request : Request) (revision : ℕ) (printed : Option ℕ)
       → state_at options spots s.revision ≡ s → state_at options spots (s.revision + 1) ≡ after s request
-      → IsNextCommit options s request revision printed → IsRightCommit options spots request revision printed
+      → IsNextCommit s request revision printed → IsRightCommit options spots request revision printed
   right_commit request revision printed now next serial =
       let before : revision - 1 ≡ s.revision = omega (arith, serial.next) in
       record {
-        no_fault = subst (λ (r : ℕ). fault_of options (state_at options spots r) request ≡ None) (sym before)
-            (subst (λ (t : State). fault_of options t request ≡ None) (sym now) serial.no_fault);
+        no_fault = subst (λ (r : ℕ). fault_of (state_at options spots r) request ≡ None) (sym before)
+            (subst (λ (t : State). fault_of t request ≡ None) (sym now) serial.no_fault);
         identity = subst (λ (r : ℕ). printed ≡ identity_given (state_at options spots r) request) (sym serial.next)
             (subst (λ (t : State). printed ≡ identity_given t request) (sym next) serial.identity);
       }
 
-  committed_then : (request : Request) → fault_of options s request ≡ None
-      → state_at options spots (state_with s request (fault_of options s request)).revision ≡ state_with s request (fault_of options s request)
+  committed_then : (request : Request) → fault_of s request ≡ None
+      → state_at options spots (state_with s request (fault_of s request)).revision ≡ state_with s request (fault_of s request)
       → state_at options spots (s.revision + 1) ≡ after s request
   committed_then request none then =
       subst (λ (f : Option Fault). state_at options spots (state_with s request f).revision ≡ state_with s request f) none then
@@ -97,11 +98,11 @@ module _ (options : Options) (spots : List Spot) (s : State) where
 
 module _ (options : Options) (spots : List Spot) (s : State) (seen : Seen) (spot : Spot) (here : IsHere options spots s seen spot) where
   right_refusal : (request : Request) (refused : Refused)
-      → IsRefusalNow options s request refused → IsRightRefusal options spots spot request refused
+      → IsRefusedIn s request refused → IsRightRefusal options spots spot request refused
   right_refusal request refused serial = record {
-    moment = subst (λ (r : ℕ). IsMoment spots spot r) (sym serial.now) here.moment;
-    fault = subst (λ (r : ℕ). fault_of options (state_at options spots r) request ≡ Some refused.fault) (sym serial.now)
-        (subst (λ (t : State). fault_of options t request ≡ Some refused.fault) (sym here.now) serial.fault);
+    moment = subst (λ (r : ℕ). IsMoment spots spot r) (sym serial.revision) here.moment;
+    fault = subst (λ (r : ℕ). fault_of (state_at options spots r) request ≡ Some refused.fault) (sym serial.revision)
+        (subst (λ (t : State). fault_of t request ≡ Some refused.fault) (sym here.now) serial.fault);
   }
 
   added_by : (name : List ℕ) (endpoint : Endpoint) → endpoint_of name s.endpoints ≡ Some endpoint → endpoint.added ≤ s.revision
@@ -109,7 +110,7 @@ module _ (options : Options) (spots : List Spot) (s : State) (seen : Seen) (spot
       every_found (IsAddedBy s.revision) (λ (x : Endpoint). bytes_eq x.name name) s.endpoints endpoint here.young live
 
   -- no line before has shown a map that is newer than the present revision
-  verdict_bound : (other : Spot) (name : List ℕ) (added revision : ℕ) → IsPast options spots s spot.place spot.phase seen other
+  verdict_bound : (other : Spot) (name : List ℕ) (added revision : ℕ) → IsPast options spots s spot.index spot.phase seen other
       → IsVerdictFor options spots other name added revision → revision ≤ s.revision
   verdict_bound other name added revision past verdict =
       printed_verdict options spots other.reading other.answer name added revision s.revision verdict.verdict past.printed
@@ -199,7 +200,7 @@ module _ (options : Options) (spots : List Spot) (s : State) (seen : Seen) (spot
   right_kind phase (Ok (command.Commit session request)) (answer.Committed revision identity) same turn serial =
       right_commit options spots s request revision identity here.now
       (committed_then options spots s request serial.no_fault
-      (subst (λ (r : Reading). state_at options spots (state_then options s r).revision ≡ state_then options s r) same here.then))
+      (subst (λ (r : Reading). state_at options spots (state_then s r).revision ≡ state_then s r) same here.then))
       serial
   right_kind phase (Ok (command.Commit session request)) (answer.Refused refused) same turn serial = right_refusal request refused serial
   right_kind phase (Ok (command.Sync session)) (answer.Synced revision full) same turn serial = right_sync revision full serial

@@ -16,7 +16,7 @@ use Rattle.pol_model.specs.declared.request.Request.{Request}
 use Rattle.pol_model.specs.declared.row.Endpoint.{Endpoint}
 use Rattle.pol_script.specs.Lines.{lines_of}
 use Rattle.pol_script.specs.Reading.{reading_of}
-use Rattle.pol_script.specs.Text.{texts_of}
+use Rattle.pol_answer.specs.Text.{texts_of}
 use Rattle.pol_script.specs.declared.command.Command.TheVariants as command
 use Rattle.pol_run.specs.Spots.{Reading, phase_after}
 use Rattle.pol_run.specs.Endpoints.{fits_limit}
@@ -35,10 +35,10 @@ all_maps_fit options s [] free = tt
 all_maps_fit options s (endpoint ∷ endpoints) free = (map_fits options s endpoint free, all_maps_fit options s endpoints free)
 
 commit_line : (options : Options) (s : State) (phase : ℕ) (seen : Seen) (session : ℕ) (request : Request) (fault : Option Fault)
-    → fault_of options s request ≡ fault
+    → fault_of s request ≡ fault
     → SerialAnswer options s phase seen (Ok (command.Commit session request)) (answer_to_commit s (state_with s request fault) request fault)
 commit_line options s phase seen session request None is = record { no_fault = is; next = refl; identity = refl }
-commit_line options s phase seen session request (Some fault) is = record { now = refl; fault = is }
+commit_line options s phase seen session request (Some fault) is = record { revision = refl; fault = is }
 
 look_line : (options : Options) (s : State) (phase : ℕ) (seen : Seen) (session : ℕ) (query : Query) (found : Option Endpoint)
     → options.map_max ≡ None → endpoint_of query.endpoint s.endpoints ≡ found
@@ -64,7 +64,7 @@ answered_line : (options : Options) (s : State) (phase : ℕ) (seen : Seen) (rea
     → options.map_max ≡ None → SerialAnswer options s phase seen reading (answer_in options s phase reading)
 answered_line options s phase seen (Err fault) free = refl
 answered_line options s phase seen (Ok (command.Commit session request)) free =
-    commit_line options s phase seen session request (fault_of options s request) refl
+    commit_line options s phase seen session request (fault_of s request) refl
 answered_line options s phase seen (Ok (command.Look session query)) free =
     look_line options s phase seen session query (endpoint_of query.endpoint s.endpoints) free refl
 answered_line options s phase seen (Ok (command.Trace session query)) free =
@@ -79,7 +79,7 @@ answered_lines options s phase seen [] free = tt
 answered_lines options s phase seen (reading ∷ readings) free =
     let more = seen_after s seen reading (answer_in options s phase reading) in (
       answered_line options s phase seen reading free,
-      answered_lines options (state_then options s reading) (phase_after phase reading) more readings free,
+      answered_lines options (state_then s reading) (phase_after phase reading) more readings free,
     )
 
 -- the answers are given in input order
@@ -91,7 +91,7 @@ answers_length : (options : Options) (s : State) (phase : ℕ) (readings : List 
     → length (answers_from options s phase readings) ≡ length readings
 answers_length options s phase [] = refl
 answers_length options s phase (reading ∷ readings) =
-    ap (λ (n : ℕ). suc n) (answers_length options (state_then options s reading) (phase_after phase reading) readings)
+    ap (λ (n : ℕ). suc n) (answers_length options (state_then s reading) (phase_after phase reading) readings)
 
 -- so they are a run, with its text and its status
 pub serial_answers_run : (options : Options) (script : List ℕ) → options.map_max ≡ None

@@ -4,7 +4,7 @@ use Rattle.std.specs.List.{AllByRecursion}
 use Rattle.pol_model.specs.State.{State}
 use Rattle.pol_model.specs.After.{start}
 use Rattle.pol_model.specs.declared.options.Options.{Options}
-use Rattle.pol_script.specs.declared.answer.Answer.{Answer}
+use Rattle.pol_answer.specs.declared.answer.Answer.{Answer}
 use Rattle.pol_run.specs.Spots.{Reading, Spot, phase_after, spots_from, spots_of, stands_before}
 use Rattle.pol_run.specs.History.{Commit, commits_of, state_at}
 use Rattle.pol_run.specs.Moments.{IsMoment}
@@ -15,7 +15,7 @@ use Rattle.pol_run.specs.SerialLines.{Seen, nothing_seen, seen_after, IsSerialFr
 use Rattle.pol_run.proofs.Lists.{every_weaker, every_append, every_contained}
 use Rattle.pol_run.proofs.Numbering.{IsCountedFrom, requests_in, counted_within, counted_differ}
 use Rattle.pol_run.proofs.States.{IsAddedBy, added_by_now}
-use Rattle.pol_run.proofs.Places.{spot_at, IsFrom, IsAfter, IsInOrder, serial_counted, serial_behind, serial_in_order, from_place}
+use Rattle.pol_run.proofs.Indices.{spot_at, IsFrom, IsAfter, IsInOrder, serial_counted, serial_behind, serial_in_order, from_index}
 use Rattle.pol_run.proofs.Moments.{IsEarlier, IsBetween, before_cases, not_before, moment_between}
 use Rattle.pol_run.proofs.Walk.{IsPast, IsWalked, walked_count, walked_state, walk_on}
 use Rattle.pol_run.proofs.RightLines.{IsHere, right_answer}
@@ -25,12 +25,12 @@ use Rattle.pol_run.proofs.RightLines.{IsHere, right_answer}
 before_itself : (a b : Commit) → a ≡ b → IsTrue (stands_before a.spot b.spot) → ⊥
 before_itself a b same before =
     elim (before_cases a.spot b.spot before) [
-      | inl h ↦ omega (arith, h, ap (λ (c : Commit). c.spot.place) same)
+      | inl h ↦ omega (arith, h, ap (λ (c : Commit). c.spot.index) same)
       | inr h ↦ omega (arith, h, ap (λ (c : Commit). c.spot.phase) same)
     ]
 
 after_not_before : (a b : Commit) → IsAfter b a → IsTrue (stands_before a.spot b.spot) → ⊥
-after_not_before a b later before = not_before a.spot b.spot (record { place = omega (arith, later.place); phase = later.phase }) before
+after_not_before a b later before = not_before a.spot b.spot (record { index = omega (arith, later.index); phase = later.phase }) before
 
 ascending_at : (cs : List Commit) (i j : ℕ) (a b : Commit) → IsInOrder cs → i < length cs → j < length cs → get_or cs i a ≡ a → get_or cs j b ≡ b
     → IsTrue (stands_before a.spot b.spot) → a.number < b.number
@@ -56,40 +56,40 @@ numbered_from_order cs counted ordered = record {
 
 -- ---- a line between those before it and those behind it
 
-module _ (options : Options) (spots : List Spot) (s : State) (phase : ℕ) (seen : Seen) (place : ℕ) (front : List Spot)
-    (line : Reading × Answer) (lines : List (Reading × Answer)) (walked : IsWalked options spots s place phase seen front) where
+module _ (options : Options) (spots : List Spot) (s : State) (phase : ℕ) (seen : Seen) (index : ℕ) (front : List Spot)
+    (line : Reading × Answer) (lines : List (Reading × Answer)) (walked : IsWalked options spots s index phase seen front) where
   between_here : IsSerialFrom options s phase seen (line ∷ lines)
-      → IsBetween s.revision (spot_at place phase line.0 line.1) front (spots_from place phase (line ∷ lines))
+      → IsBetween s.revision (spot_at index phase line.0 line.1) front (spots_from index phase (line ∷ lines))
   between_here serial = record {
-    counted = walked_count options spots s place phase seen front walked;
-    earlier = every_weaker (IsPast options spots s place phase seen) (IsEarlier s.revision (spot_at place phase line.0 line.1))
-        (λ other past. record { place = past.place; phase = past.phase; printed = past.printed }) front walked.past;
-    from = from_place place phase (line ∷ lines);
-    behind = serial_behind options s place phase seen (line ∷ lines) serial;
+    counted = walked_count options spots s index phase seen front walked;
+    earlier = every_weaker (IsPast options spots s index phase seen) (IsEarlier s.revision (spot_at index phase line.0 line.1))
+        (λ other past. record { index = past.index; phase = past.phase; printed = past.printed }) front walked.past;
+    from = from_index index phase (line ∷ lines);
+    behind = serial_behind options s index phase seen (line ∷ lines) serial;
   }
 
-  past_if_before : spots ≡ front ++ spots_from place phase (line ∷ lines) → (other : Spot) → Contains spots other
-      → IsTrue (stands_before other (spot_at place phase line.0 line.1)) → IsPast options spots s place phase seen other
+  past_if_before : spots ≡ front ++ spots_from index phase (line ∷ lines) → (other : Spot) → Contains spots other
+      → IsTrue (stands_before other (spot_at index phase line.0 line.1)) → IsPast options spots s index phase seen other
   past_if_before split other listed =
-      let spot = spot_at place phase line.0 line.1 in
-      let back = spots_from place phase (line ∷ lines) in
-      let past = λ (x : Spot). IsTrue (stands_before x spot) → IsPast options spots s place phase seen x in
+      let spot = spot_at index phase line.0 line.1 in
+      let back = spots_from index phase (line ∷ lines) in
+      let past = λ (x : Spot). IsTrue (stands_before x spot) → IsPast options spots s index phase seen x in
       every_contained past spots other
       (subst (λ (xs : List Spot). AllByRecursion past xs) (sym split)
       (every_append past front back
-      (every_weaker (IsPast options spots s place phase seen) past (λ x h before. h) front walked.past)
-      (every_weaker (IsFrom place phase) past (λ x h before. absurd (not_before x spot h before)) back
-      (from_place place phase (line ∷ lines)))))
+      (every_weaker (IsPast options spots s index phase seen) past (λ x h before. h) front walked.past)
+      (every_weaker (IsFrom index phase) past (λ x h before. absurd (not_before x spot h before)) back
+      (from_index index phase (line ∷ lines)))))
       listed
 
-  here_walked : spots ≡ front ++ spots_from place phase (line ∷ lines) → state_at options spots s.revision ≡ s
-      → state_at options spots (state_then options s line.0).revision ≡ state_then options s line.0
-      → IsSerialFrom options s phase seen (line ∷ lines) → IsHere options spots s seen (spot_at place phase line.0 line.1)
+  here_walked : spots ≡ front ++ spots_from index phase (line ∷ lines) → state_at options spots s.revision ≡ s
+      → state_at options spots (state_then s line.0).revision ≡ state_then s line.0
+      → IsSerialFrom options s phase seen (line ∷ lines) → IsHere options spots s seen (spot_at index phase line.0 line.1)
   here_walked split now then serial =
-      let spot = spot_at place phase line.0 line.1 in
+      let spot = spot_at index phase line.0 line.1 in
       record {
         moment = subst (λ (xs : List Spot). IsMoment xs spot s.revision) (sym split)
-            (moment_between s.revision spot front (spots_from place phase (line ∷ lines)) (between_here serial));
+            (moment_between s.revision spot front (spots_from index phase (line ∷ lines)) (between_here serial));
         now = now;
         then = then;
         young = subst (λ (t : State). AllByRecursion (IsAddedBy t.revision) t.endpoints) (sym walked.reached)
@@ -99,24 +99,24 @@ module _ (options : Options) (spots : List Spot) (s : State) (phase : ℕ) (seen
       }
 
 -- each line from here on is answered right
-right_from : (options : Options) (spots : List Spot) (s : State) (phase : ℕ) (seen : Seen) (place : ℕ) (front : List Spot)
-    (lines : List (Reading × Answer)) → spots ≡ front ++ spots_from place phase lines → IsCountedFrom 0 (commits_of spots)
-    → IsWalked options spots s place phase seen front → IsSerialFrom options s phase seen lines
-    → AllByRecursion (λ spot. RightAnswer options spots spot spot.reading spot.answer) (spots_from place phase lines)
-right_from options spots s phase seen place front [] split counted walked serial = tt
-right_from options spots s phase seen place front (line ∷ lines) split counted walked serial =
-    let spot = spot_at place phase line.0 line.1 in
+right_from : (options : Options) (spots : List Spot) (s : State) (phase : ℕ) (seen : Seen) (index : ℕ) (front : List Spot)
+    (lines : List (Reading × Answer)) → spots ≡ front ++ spots_from index phase lines → IsCountedFrom 0 (commits_of spots)
+    → IsWalked options spots s index phase seen front → IsSerialFrom options s phase seen lines
+    → AllByRecursion (λ spot. RightAnswer options spots spot spot.reading spot.answer) (spots_from index phase lines)
+right_from options spots s phase seen index front [] split counted walked serial = tt
+right_from options spots s phase seen index front (line ∷ lines) split counted walked serial =
+    let spot = spot_at index phase line.0 line.1 in
     let later = phase_after phase line.0 in
-    let next = state_then options s line.0 in
+    let next = state_then s line.0 in
     let more = seen_after s seen line.0 line.1 in
-    let others = spots_from (place + 1) later lines in
-    let now = walked_state options spots s place phase seen front (spot ∷ others) split counted walked in
+    let others = spots_from (index + 1) later lines in
+    let now = walked_state options spots s index phase seen front (spot ∷ others) split counted walked in
     let walked_on = walk_on options spots s seen spot serial.0 front now walked in
     let split_on : spots ≡ (front ++ spot ∷ []) ++ others = split ∙ sym (append_assoc front (spot ∷ []) others) in
-    let then = walked_state options spots next (place + 1) later more (front ++ spot ∷ []) others split_on counted walked_on in (
+    let then = walked_state options spots next (index + 1) later more (front ++ spot ∷ []) others split_on counted walked_on in (
       right_answer options spots s seen spot
-          (here_walked options spots s phase seen place front line lines walked split now then serial) serial.0,
-      right_from options spots next later more (place + 1) (front ++ spot ∷ []) lines split_on counted walked_on serial.1,
+          (here_walked options spots s phase seen index front line lines walked split now then serial) serial.0,
+      right_from options spots next later more (index + 1) (front ++ spot ∷ []) lines split_on counted walked_on serial.1,
     )
 
 none_walked : (options : Options) (spots : List Spot) → IsWalked options spots (start options) 0 1 nothing_seen []

@@ -11,8 +11,8 @@ use Rattle.pol_model.specs.declared.answer.FullSlot.{FullSlot}
 use Rattle.pol_model.specs.declared.options.Options.{Options}
 use Rattle.pol_model.specs.declared.request.Request.{Request}
 use Rattle.pol_model.specs.declared.row.Endpoint.{Endpoint}
-use Rattle.pol_script.specs.declared.answer.Answer.{Answer}
-use Rattle.pol_script.specs.declared.answer.Answer.TheVariants as answer
+use Rattle.pol_answer.specs.declared.answer.Answer.{Answer}
+use Rattle.pol_answer.specs.declared.answer.Answer.TheVariants as answer
 use Rattle.pol_script.specs.declared.command.Command.TheVariants as command
 use Rattle.pol_run.specs.Spots.{Reading, Spot, phase_after}
 use Rattle.pol_run.specs.History.{Commit, commits_of, state_at}
@@ -23,7 +23,7 @@ use Rattle.pol_run.specs.SerialLines.{Seen, Shown, SerialAnswer, seen_after, sho
 use Rattle.pol_run.proofs.Lists.{every_weaker, every_append}
 use Rattle.pol_run.proofs.Numbering.{IsCountedFrom, requests_in, history_front}
 use Rattle.pol_run.proofs.States.{after_append, revision_of_state}
-use Rattle.pol_run.proofs.Places.{spot_at, line_cases, phase_later}
+use Rattle.pol_run.proofs.Indices.{spot_at, line_cases, phase_later}
 use Rattle.pol_run.proofs.Moments.{commits_append}
 
 -- ---- what one answer prints and shows
@@ -31,7 +31,7 @@ use Rattle.pol_run.proofs.Moments.{commits_append}
 module _ (options : Options) (s : State) (phase : ℕ) (seen : Seen) where
   -- it prints no revision later than that of the state which it leaves
   printed_now : (reading : Reading) (answer : Answer) → SerialAnswer options s phase seen reading answer
-      → AllByRecursion (λ k. k ≤ (state_then options s reading).revision) (revisions_in answer)
+      → AllByRecursion (λ k. k ≤ (state_then s reading).revision) (revisions_in answer)
   printed_now (Err fault) (answer.BadLine told) serial = tt
   printed_now (Ok command.Phase) (answer.Phase number) serial = tt
   printed_now (Ok (command.Commit session request)) (answer.Committed revision identity) serial =
@@ -39,7 +39,7 @@ module _ (options : Options) (s : State) (phase : ℕ) (seen : Seen) where
       (sym serial.no_fault) ((omega (arith, serial.next)), tt)
   printed_now (Ok (command.Commit session request)) (answer.Refused refused) serial =
       subst (λ (f : Option Fault). AllByRecursion (λ k. k ≤ (state_with s request f).revision) (refused.revision ∷ []))
-      (sym serial.fault) ((omega (arith, serial.now)), tt)
+      (sym serial.fault) ((omega (arith, serial.revision)), tt)
   printed_now (Ok (command.Sync session)) (answer.Synced revision full) serial =
       subst (λ (rows : List FullSlot). AllByRecursion (λ k. k ≤ s.revision) (revision ∷ map (λ row. row.revision) rows))
       (sym serial.no_rows) ((omega (arith, serial.now)), tt)
@@ -75,17 +75,17 @@ module _ (options : Options) (s : State) (phase : ℕ) (seen : Seen) where
   shown_kept reading (answer.Verdict revision word) shown listed = Contains-append_right (shown_by s reading) seen.shown shown listed
   shown_kept reading other shown listed = listed
 
-  revision_grows : (place : ℕ) (reading : Reading) (answer : Answer) → SerialAnswer options s phase seen reading answer
-      → s.revision ≤ (state_then options s reading).revision
-  revision_grows place reading answer serial =
-      line_cases options s phase seen place reading answer (λ c next. s.revision ≤ next.revision)
+  revision_grows : (index : ℕ) (reading : Reading) (answer : Answer) → SerialAnswer options s phase seen reading answer
+      → s.revision ≤ (state_then s reading).revision
+  revision_grows index reading answer serial =
+      line_cases options s phase seen index reading answer (λ c next. s.revision ≤ next.revision)
       (omega arith) (λ request revision printed right. omega arith) serial
 
   -- the state is that after the line's commit, if it makes one
-  commits_next : (place : ℕ) (reading : Reading) (answer : Answer) → SerialAnswer options s phase seen reading answer
-      → state_then options s reading ≡ after_all s (requests_in (commits_of (spot_at place phase reading answer ∷ [])))
-  commits_next place reading answer serial =
-      line_cases options s phase seen place reading answer (λ c next. next ≡ after_all s (requests_in (cons_option c [])))
+  commits_next : (index : ℕ) (reading : Reading) (answer : Answer) → SerialAnswer options s phase seen reading answer
+      → state_then s reading ≡ after_all s (requests_in (commits_of (spot_at index phase reading answer ∷ [])))
+  commits_next index reading answer serial =
+      line_cases options s phase seen index reading answer (λ c next. next ≡ after_all s (requests_in (cons_option c [])))
       refl (λ request revision printed right. refl) serial
 
 shown_found : (asked : List ℕ) (found : Option Endpoint) (others : List Shown) (name : List ℕ) (added : ℕ) (endpoint : Endpoint)
@@ -113,9 +113,9 @@ verdict_shown options spots s phase seen reading other name added revision now s
 
 -- ---- the lines so far
 
--- A line before this place and in no later phase: what it printed and showed.
+-- A line before this index and in no later phase: what it printed and showed.
 pub record IsPast (options : Options) (spots : List Spot) (s : State) (here now : ℕ) (seen : Seen) (other : Spot) : Type 0 where
-  pub place : other.place < here
+  pub index : other.index < here
   pub phase : other.phase ≤ now
   pub printed : AllByRecursion (λ k. k ≤ s.revision) (revisions_in other.answer)
   pub verdicts : (name : List ℕ) (added revision : ℕ) → IsVerdictFor options spots other name added revision
@@ -154,24 +154,24 @@ module _ (options : Options) (spots : List Spot) (s : State) (here now : ℕ) (s
 module _ (options : Options) (spots : List Spot) (s : State) (seen : Seen) (spot : Spot)
     (serial : SerialAnswer options s spot.phase seen spot.reading spot.answer) where
   next_reached : (front : List Spot) → s ≡ state_of options (requests_in (commits_of front))
-      → state_then options s spot.reading ≡ state_of options (requests_in (commits_of (front ++ spot ∷ [])))
+      → state_then s spot.reading ≡ state_of options (requests_in (commits_of (front ++ spot ∷ [])))
   next_reached front reached =
       let more = requests_in (commits_of (spot ∷ [])) in
-      commits_next options s spot.phase seen spot.place spot.reading spot.answer serial
+      commits_next options s spot.phase seen spot.index spot.reading spot.answer serial
       ∙ ap (λ (x : State). after_all x more) reached
       ∙ sym (after_append (start options) (requests_in (commits_of front)) more)
       ∙ ap (λ (requests : List Request). state_of options requests) (sym (map-append (λ c. c.request) (commits_of front) (commits_of (spot ∷ []))))
       ∙ ap (λ (cs : List Commit). state_of options (requests_in cs)) (sym (commits_append front (spot ∷ [])))
 
-  past_later : (other : Spot) → seen.synced ≤ s.revision → IsPast options spots s spot.place spot.phase seen other
-      → IsPast options spots (state_then options s spot.reading) (spot.place + 1) (phase_after spot.phase spot.reading)
+  past_later : (other : Spot) → seen.synced ≤ s.revision → IsPast options spots s spot.index spot.phase seen other
+      → IsPast options spots (state_then s spot.reading) (spot.index + 1) (phase_after spot.phase spot.reading)
       (seen_after s seen spot.reading spot.answer) other
   past_later other bound past =
-      let grows = revision_grows options s spot.phase seen spot.place spot.reading spot.answer serial in
+      let grows = revision_grows options s spot.phase seen spot.index spot.reading spot.answer serial in
       record {
-        place = omega (arith, past.place);
+        index = omega (arith, past.index);
         phase = omega (arith, past.phase, phase_later spot.phase spot.reading);
-        printed = every_weaker (λ k. k ≤ s.revision) (λ k. k ≤ (state_then options s spot.reading).revision)
+        printed = every_weaker (λ k. k ≤ s.revision) (λ k. k ≤ (state_then s spot.reading).revision)
             (λ k (h : k ≤ s.revision). omega (arith, grows)) (revisions_in other.answer) past.printed;
         verdicts = λ name added revision verdict.
             shown_kept options s spot.phase seen spot.reading spot.answer (record { name = name; added = added }) (past.verdicts name added revision verdict);
@@ -180,10 +180,10 @@ module _ (options : Options) (spots : List Spot) (s : State) (seen : Seen) (spot
       }
 
   past_here : state_at options spots s.revision ≡ s
-      → IsPast options spots (state_then options s spot.reading) (spot.place + 1) (phase_after spot.phase spot.reading)
+      → IsPast options spots (state_then s spot.reading) (spot.index + 1) (phase_after spot.phase spot.reading)
       (seen_after s seen spot.reading spot.answer) spot
   past_here now = record {
-    place = omega arith;
+    index = omega arith;
     phase = phase_later spot.phase spot.reading;
     printed = printed_now options s spot.phase seen spot.reading spot.answer serial;
     verdicts = λ name added revision verdict.
@@ -191,11 +191,11 @@ module _ (options : Options) (spots : List Spot) (s : State) (seen : Seen) (spot
     syncs = λ name added revision sync. sync_seen options s spot.phase seen spot.reading spot.answer name added revision sync.sync;
   }
 
-  pub walk_on : (front : List Spot) → state_at options spots s.revision ≡ s → IsWalked options spots s spot.place spot.phase seen front
-      → IsWalked options spots (state_then options s spot.reading) (spot.place + 1) (phase_after spot.phase spot.reading)
+  pub walk_on : (front : List Spot) → state_at options spots s.revision ≡ s → IsWalked options spots s spot.index spot.phase seen front
+      → IsWalked options spots (state_then s spot.reading) (spot.index + 1) (phase_after spot.phase spot.reading)
       (seen_after s seen spot.reading spot.answer) (front ++ spot ∷ [])
   walk_on front now walked =
-      let next = state_then options s spot.reading in
+      let next = state_then s spot.reading in
       let later = phase_after spot.phase spot.reading in
       let more = seen_after s seen spot.reading spot.answer in
       record {
@@ -203,10 +203,10 @@ module _ (options : Options) (spots : List Spot) (s : State) (seen : Seen) (spot
         synced = omega (
           arith,
           synced_reached options s spot.phase seen spot.reading spot.answer walked.synced serial,
-          revision_grows options s spot.phase seen spot.place spot.reading spot.answer serial,
+          revision_grows options s spot.phase seen spot.index spot.reading spot.answer serial,
         );
-        past = every_append (IsPast options spots next (spot.place + 1) later more) front (spot ∷ [])
-            (every_weaker (IsPast options spots s spot.place spot.phase seen) (IsPast options spots next (spot.place + 1) later more)
+        past = every_append (IsPast options spots next (spot.index + 1) later more) front (spot ∷ [])
+            (every_weaker (IsPast options spots s spot.index spot.phase seen) (IsPast options spots next (spot.index + 1) later more)
             (λ other past. past_later other walked.synced past) front walked.past)
             (past_here now, tt);
       }

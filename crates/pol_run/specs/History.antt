@@ -6,8 +6,8 @@ use Rattle.pol_model.specs.State.{State}
 use Rattle.pol_model.specs.After.{state_of}
 use Rattle.pol_model.specs.declared.options.Options.{Options}
 use Rattle.pol_model.specs.declared.request.Request.{Request}
-use Rattle.pol_script.specs.declared.answer.Answer.{Answer}
-use Rattle.pol_script.specs.declared.answer.Answer.TheVariants as answer
+use Rattle.pol_answer.specs.declared.answer.Answer.{Answer}
+use Rattle.pol_answer.specs.declared.answer.Answer.TheVariants as answer
 use Rattle.pol_script.specs.declared.command.Command.TheVariants as command
 use Rattle.pol_run.specs.Spots.{Spot, Reading}
 use Rattle.std.specs.Prelude.{Ok}

@@ -6,4 +6,12 @@ pub mod RightAnswer
 pub mod Run
 pub mod Serial
 pub mod SerialLines
+pub mod ByIndex
 pub mod InShort
+pub mod ExampleLines
+pub mod WrongCommits
+pub mod WrongVerdicts
+pub mod WrongMoments
+pub mod WrongRows
+pub mod WrongAnswers
+pub mod RightRuns

@@ -1,8 +1,8 @@
 -- Between which revisions a line may be answered.
 use Rattle.std.specs.Prelude.{ℕ, ◌-◌, ◌<◌, ◌≤◌, nat_lt, min, max, List, [], ◌∷◌, length, map, filter}
 use Rattle.std.specs.List.{AllByRecursion, flat_map}
-use Rattle.pol_script.specs.declared.answer.Answer.{Answer}
-use Rattle.pol_script.specs.declared.answer.Answer.TheVariants as answer
+use Rattle.pol_answer.specs.declared.answer.Answer.{Answer}
+use Rattle.pol_answer.specs.declared.answer.Answer.TheVariants as answer
 use Rattle.pol_run.specs.Spots.{Spot, earlier_in_session, stands_before}
 use Rattle.pol_run.specs.History.{Commit, commits_of}
 

@@ -16,8 +16,8 @@ use Rattle.pol_model.specs.Endpoints.{endpoint_of}
 use Rattle.pol_model.specs.Explain.{explain_of}
 use Rattle.pol_model.specs.Fault.{fault_of}
 use Rattle.pol_model.specs.Remote.{verdict_for}
-use Rattle.pol_script.specs.declared.answer.Answer.{Answer}
-use Rattle.pol_script.specs.declared.answer.Answer.TheVariants as answer
+use Rattle.pol_answer.specs.declared.answer.Answer.{Answer}
+use Rattle.pol_answer.specs.declared.answer.Answer.TheVariants as answer
 use Rattle.pol_script.specs.declared.command.Command.TheVariants as command
 use Rattle.pol_run.specs.Spots.{Spot, Reading, stands_before}
 use Rattle.pol_run.specs.History.{state_at}
@@ -26,13 +26,13 @@ use Rattle.pol_run.specs.Endpoints.{IsLive, IsLiveSince, IsVerdictFor, IsSyncFor
 
 -- `ok k`: the request had no fault at the revision before, and holds the number that the new state gives it
 pub record IsRightCommit (options : Options) (spots : List Spot) (request : Request) (revision : ℕ) (printed : Option ℕ) : Type 0 where
-  pub no_fault : fault_of options (state_at options spots (revision - 1)) request ≡ None
+  pub no_fault : fault_of (state_at options spots (revision - 1)) request ≡ None
   pub identity : printed ≡ identity_given (state_at options spots revision) request
 
 -- `refused F at k`: the request has that fault at a moment of the line
 pub record IsRightRefusal (options : Options) (spots : List Spot) (spot : Spot) (request : Request) (refused : Refused) : Type 0 where
   pub moment : IsMoment spots spot refused.revision
-  pub fault : fault_of options (state_at options spots refused.revision) request ≡ Some refused.fault
+  pub fault : fault_of (state_at options spots refused.revision) request ≡ Some refused.fault
 
 -- A verdict at R: of an endpoint that is live at a moment of the line, at a revision from the one that
 -- added it to that moment; by a scan of all rules there; of a map that may be published; and no older

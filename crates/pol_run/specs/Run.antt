@@ -2,11 +2,11 @@
 use Rattle.std.specs.Prelude.{⊤, ◌≡◌, ◌≢◌, ℕ, ◌<◌, ◌≤◌, Bool, true, false, if◌then◌else◌, List, [], ◌∷◌, length, map, IsTrue}
 use Rattle.std.specs.List.{AllByRecursion, Contains, list_any, zip}
 use Rattle.pol_model.specs.declared.options.Options.{Options}
-use Rattle.pol_script.specs.declared.answer.Answer.{Answer}
-use Rattle.pol_script.specs.declared.answer.Answer.TheVariants as answer
+use Rattle.pol_answer.specs.declared.answer.Answer.{Answer}
+use Rattle.pol_answer.specs.declared.answer.Answer.TheVariants as answer
 use Rattle.pol_script.specs.Lines.{lines_of}
 use Rattle.pol_script.specs.Reading.{reading_of}
-use Rattle.pol_script.specs.Text.{texts_of}
+use Rattle.pol_answer.specs.Text.{texts_of}
 use Rattle.pol_run.specs.Spots.{Spot, Reading, spots_of, stands_before}
 use Rattle.pol_run.specs.History.{Commit, commits_of}
 use Rattle.pol_run.specs.RightAnswer.{RightAnswer}

@@ -14,8 +14,8 @@ use Rattle.pol_model.specs.declared.options.Options.{Options}
 use Rattle.pol_model.specs.declared.request.Query.{Query}
 use Rattle.pol_model.specs.declared.request.Request.{Request}
 use Rattle.pol_model.specs.declared.row.Endpoint.{Endpoint}
-use Rattle.pol_script.specs.declared.answer.Answer.{Answer}
-use Rattle.pol_script.specs.declared.answer.Answer.TheVariants as answer
+use Rattle.pol_answer.specs.declared.answer.Answer.{Answer}
+use Rattle.pol_answer.specs.declared.answer.Answer.TheVariants as answer
 use Rattle.pol_script.specs.declared.command.Command.TheVariants as command
 use Rattle.pol_run.specs.Spots.{Reading, phase_after}
 
@@ -30,12 +30,12 @@ abbrev pub answer_to_commit : State → State → Request → Option Fault → A
 answer_to_commit s next request None = answer.Committed next.revision (identity_given next request)
 answer_to_commit s next request (Some fault) = answer.Refused (record { revision = s.revision; fault = fault })
 
-abbrev pub state_committed : Options → State → Request → State
-state_committed options s request = state_with s request (fault_of options s request)
+abbrev pub state_committed : State → Request → State
+state_committed s request = state_with s request (fault_of s request)
 
-abbrev pub commit_answer : Options → State → Request → Answer
-commit_answer options s request =
-    answer_to_commit s (state_committed options s request) request (fault_of options s request)
+abbrev pub commit_answer : State → Request → Answer
+commit_answer s request =
+    answer_to_commit s (state_committed s request) request (fault_of s request)
 
 -- ---- queries
 
@@ -59,26 +59,26 @@ trace_answer options s query = answer_with_trace s (explain_of options s query)
 -- the answer to a line in a state and a phase
 abbrev pub answer_in : Options → State → ℕ → Reading → Answer
 answer_in options s phase (Err fault) = answer.BadLine fault
-answer_in options s phase (Ok (command.Commit session request)) = commit_answer options s request
+answer_in options s phase (Ok (command.Commit session request)) = commit_answer s request
 answer_in options s phase (Ok (command.Look session query)) = look_answer options s query
 answer_in options s phase (Ok (command.Trace session query)) = trace_answer options s query
 answer_in options s phase (Ok (command.Sync session)) = answer.Synced s.revision []
 answer_in options s phase (Ok command.Phase) = answer.Phase phase
 
 -- the state that a line leaves
-abbrev pub state_then : Options → State → Reading → State
-state_then options s (Err fault) = s
-state_then options s (Ok (command.Commit session request)) = state_committed options s request
-state_then options s (Ok (command.Look session query)) = s
-state_then options s (Ok (command.Trace session query)) = s
-state_then options s (Ok (command.Sync session)) = s
-state_then options s (Ok command.Phase) = s
+abbrev pub state_then : State → Reading → State
+state_then s (Err fault) = s
+state_then s (Ok (command.Commit session request)) = state_committed s request
+state_then s (Ok (command.Look session query)) = s
+state_then s (Ok (command.Trace session query)) = s
+state_then s (Ok (command.Sync session)) = s
+state_then s (Ok command.Phase) = s
 
 -- the answers to lines, from a state and a phase on
 abbrev pub answers_from : Options → State → ℕ → List Reading → List Answer
 answers_from options s phase [] = []
 answers_from options s phase (reading ∷ readings) =
-    answer_in options s phase reading ∷ answers_from options (state_then options s reading) (phase_after phase reading) readings
+    answer_in options s phase reading ∷ answers_from options (state_then s reading) (phase_after phase reading) readings
 
 -- the answers to the lines of a script
 abbrev pub serial_answers : Options → List Reading → List Answer

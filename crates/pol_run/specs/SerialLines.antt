@@ -6,20 +6,20 @@ use Rattle.pol_mapkey.specs.declared.Word.{Word}
 use Rattle.pol_model.specs.State.{State}
 use Rattle.pol_model.specs.After.{start, after}
 use Rattle.pol_model.specs.Committed.{identity_given}
+use Rattle.pol_model.specs.Commits.{IsRefusedIn}
 use Rattle.pol_model.specs.Endpoints.{endpoint_of}
 use Rattle.pol_model.specs.Explain.{explain_of}
 use Rattle.pol_model.specs.Fault.{fault_of}
 use Rattle.pol_model.specs.PolicyMap.{map_size}
 use Rattle.pol_model.specs.Remote.{verdict_for}
 use Rattle.pol_model.specs.declared.answer.FullSlot.{FullSlot}
-use Rattle.pol_model.specs.declared.answer.Refused.{Refused}
 use Rattle.pol_model.specs.declared.answer.Trace.{Trace}
 use Rattle.pol_model.specs.declared.options.Options.{Options}
 use Rattle.pol_model.specs.declared.request.Query.{Query}
 use Rattle.pol_model.specs.declared.request.Request.{Request}
 use Rattle.pol_model.specs.declared.row.Endpoint.{Endpoint}
-use Rattle.pol_script.specs.declared.answer.Answer.{Answer}
-use Rattle.pol_script.specs.declared.answer.Answer.TheVariants as answer
+use Rattle.pol_answer.specs.declared.answer.Answer.{Answer}
+use Rattle.pol_answer.specs.declared.answer.Answer.TheVariants as answer
 use Rattle.pol_script.specs.declared.command.Command.TheVariants as command
 use Rattle.pol_run.specs.Spots.{Reading, phase_after}
 use Rattle.pol_run.specs.Endpoints.{fits_limit}
@@ -66,15 +66,10 @@ abbrev pub MapFits : Options → State → Endpoint → Type 0
 MapFits options s endpoint = IsTrue (fits_limit options.map_max (map_size options s endpoint))
 
 -- `ok k`: the request has no fault, k is the next revision, and the printed number is the one that it gives
-pub record IsNextCommit (options : Options) (s : State) (request : Request) (revision : ℕ) (printed : Option ℕ) : Type 0 where
-  pub no_fault : fault_of options s request ≡ None
+pub record IsNextCommit (s : State) (request : Request) (revision : ℕ) (printed : Option ℕ) : Type 0 where
+  pub no_fault : fault_of s request ≡ None
   pub next : revision ≡ s.revision + 1
   pub identity : printed ≡ identity_given (after s request) request
-
--- `refused F at k`: F is the request's fault
-pub record IsRefusalNow (options : Options) (s : State) (request : Request) (refused : Refused) : Type 0 where
-  pub now : refused.revision ≡ s.revision
-  pub fault : fault_of options s request ≡ Some refused.fault
 
 -- a verdict at R: by a scan of all rules, for a live endpoint whose map may be published
 pub record IsVerdictNow (options : Options) (s : State) (query : Query) (revision : ℕ) (word : Word) : Type 0 where
@@ -115,9 +110,9 @@ abbrev pub SerialAnswer : Options → State → ℕ → Seen → Reading → Ans
 SerialAnswer options s phase seen (Err fault) (answer.BadLine told) = told ≡ fault
 SerialAnswer options s phase seen (Ok command.Phase) (answer.Phase number) = number ≡ phase
 SerialAnswer options s phase seen (Ok (command.Commit session request)) (answer.Committed revision identity) =
-    IsNextCommit options s request revision identity
+    IsNextCommit s request revision identity
 SerialAnswer options s phase seen (Ok (command.Commit session request)) (answer.Refused refused) =
-    IsRefusalNow options s request refused
+    IsRefusedIn s request refused
 SerialAnswer options s phase seen (Ok (command.Sync session)) (answer.Synced revision full) =
     IsSyncNow options s revision full
 SerialAnswer options s phase seen (Ok (command.Look session query)) (answer.Verdict revision word) =
@@ -137,7 +132,7 @@ abbrev pub IsSerialFrom : Options → State → ℕ → Seen → List (Reading �
 IsSerialFrom options s phase seen [] = ⊤
 IsSerialFrom options s phase seen (line ∷ lines) =
     SerialAnswer options s phase seen line.0 line.1
-    × IsSerialFrom options (state_then options s line.0) (phase_after phase line.0) (seen_after s seen line.0 line.1) lines
+    × IsSerialFrom options (state_then s line.0) (phase_after phase line.0) (seen_after s seen line.0 line.1) lines
 
 -- the lines of a whole run, answered in input order
 abbrev pub IsSerial : Options → List (Reading × Answer) → Type 0

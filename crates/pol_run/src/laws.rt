@@ -2,20 +2,20 @@
 ghost use Rattle.std.specs.Prelude.{◌≡◌, ◌≤◌, ℕ, List, Option, None};
 ghost use Rattle.std.specs.List.{zip};
 ghost use Rattle.pol_model.specs.declared.options.Options.{Options};
-ghost use Rattle.pol_run.specs.InShort.{IsRunInShort};
+ghost use Rattle.pol_run.specs.InShort.{IsRunInShort, IsRunOfInShort, begins_marked};
 ghost use Rattle.pol_run.specs.Moments.{IsCutBeforeLater, cap};
-ghost use Rattle.pol_run.specs.Run.{IsRun, IsRunOf, readings_of, status_of};
+ghost use Rattle.pol_run.specs.Run.{IsRun, IsRunOf, is_marked, readings_of, status_of};
 ghost use Rattle.pol_run.specs.Serial.{serial_answers};
 ghost use Rattle.pol_run.specs.SerialLines.{IsSerial};
-ghost use Rattle.pol_run.specs.Spots.{Reading, Spot, spots_of};
-ghost use Rattle.pol_script.specs.Text.{texts_of};
-ghost use Rattle.pol_script.specs.declared.answer.Answer.{Answer};
+ghost use Rattle.pol_run.specs.Spots.{Line, Reading, Spot, spots_of};
+ghost use Rattle.pol_answer.specs.Text.{text_of, texts_of};
+ghost use Rattle.pol_answer.specs.declared.answer.Answer.{Answer};
 
 /// The law of serial runs: lines that are answered in input order, each from the state after the
 /// commits of the lines before it, are a run of the policy machine. It holds for every command, and for any
 /// sessions and phases, where verdicts are at the newest revision and no `synced` line has a row ('profile').
 pub fn serial_lines_are_a_run()
-    ensures { (options : Options) (lines : List (Reading × Answer)) → IsSerial options lines → IsRun options (spots_of lines) }
+    ensures { (options : Options) (lines : List Line) → IsSerial options lines → IsRun options (spots_of lines) }
 {}
 
 /// Where maps have no limit, each line may be answered from the state alone: a verdict where the
@@ -33,12 +33,23 @@ pub fn serial_answers_are_a_run()
         (status_of (serial_answers options (readings_of script))) }
 {}
 
-/// What a run says, in few words: the `ok` lines carry each number from 1 to their count once, and
-/// the history is their requests, that of `ok k` the k-th. A verdict names a revision that was
-/// reached, at which an endpoint of that name is live and a scan of all rules gives the word, and no
-/// line before it has shown a newer map of that endpoint ('profile').
+/// What a run says, line by line, in words of its own: there is one history; each number is carried once;
+/// commits ascend in each session and over phases; no line is ahead of what comes after it; what a session has
+/// seen bounds each answer from below; rows are exact; a printed map fits the limit; phases are numbered
+/// from 1. And lines of which all that holds are a run ('profile').
 pub fn runs_in_short()
-    ensures { (options : Options) (spots : List Spot) → IsRun options spots → IsRunInShort options spots }
+    ensures said { (options : Options) (lines : List Line) → IsRun options (spots_of lines) → IsRunInShort options lines }
+    ensures all { (options : Options) (lines : List Line) → IsRunInShort options lines → IsRun options (spots_of lines) }
+{}
+
+/// What an output says: it is the texts of one answer for each line of the script, in order; the lines with
+/// these answers say what a run does; and the status is 1 where a text begins with `refused`, `notyet` or
+/// `noendpoint`, else 0. And this is all ('profile').
+pub fn outputs_in_short()
+    ensures said { (options : Options) (script written : List ℕ) (ended : ℕ) → IsRunOf options script written ended
+        → IsRunOfInShort options script written ended }
+    ensures all { (options : Options) (script written : List ℕ) (ended : ℕ) → IsRunOfInShort options script written ended
+        → IsRunOf options script written ended }
 {}
 
 /// The cap of a line is the greatest revision whose commits hold none that stands behind the line in
@@ -48,4 +59,10 @@ pub fn caps_are_the_greatest()
         → revision ≤ cap spots spot → IsCutBeforeLater spots spot revision }
     ensures greatest { (options : Options) (spots : List Spot) (spot : Spot) (revision : ℕ) → IsRun options spots
         → IsCutBeforeLater spots spot revision → revision ≤ cap spots spot }
+{}
+
+/// Which answers make the status 1: those whose text begins with `refused`, `notyet` or `noendpoint`
+/// ('profile').
+pub fn marks_are_by_word()
+    ensures { (answer : Answer) → is_marked answer ≡ begins_marked (text_of answer) }
 {}
