@@ -1,5 +1,5 @@
 //! The real input and output. No contract can say what they give or take, so these two tell no bytes. That they
-//! do what they are asked to is trusted, and shown by a test each.
+//! read, write and flush is shown by tests.
 ghost use Rattle.std.specs.Prelude.{◌≡◌, ◌<◌, ◌≤◌, IfOk, IsErr, None, OnErr, OnOk, length, take};
 ghost use Rattle.std.specs.Io.KnownBytes.{Appends, ReadConsumes};
 ghost use Rattle.pol_base.specs.Faults.{Rose, next_count};

@@ -1,7 +1,7 @@
-//! What no clause says: that memory is there, and that the two adapters read and write what they are asked to.
+//! What no clause says: that memory is there, and that the two adapters read, write and flush as they are asked to.
 use super::*;
 use std::alloc::Global;
-use std::process::Abort;
+use std::io::{self, Write};
 use std::test::Fail;
 
 // 250 bytes, all different.
@@ -25,17 +25,6 @@ fn a_source_in_pieces_is_read_whole(rt: HostRuntime) -> Result<(), Fail> {
 }
 
 #[test]
-fn a_read_fails_in_mid_stream(rt: HostRuntime) -> Result<(), Fail> {
-    let alloc = rt.alloc();
-    let fails = vec![in alloc; 2]?;
-    let mut source = MemSource::new(input(alloc)?, 100, fails);
-    assert!(rt; matches!(read_all(alloc, &mut source, 250), Err(ReadAllError::Fault)));
-    assert_eq!(rt; source.calls(), 2);
-    assert_eq!(rt; source.left().first(), Some(&100));
-    Ok(())
-}
-
-#[test]
 fn an_input_is_too_long(rt: HostRuntime) -> Result<(), Fail> {
     let alloc = rt.alloc();
     let mut source = MemSource::new(input(alloc)?, 100, Vec::new(alloc));
@@ -45,36 +34,6 @@ fn an_input_is_too_long(rt: HostRuntime) -> Result<(), Fail> {
             Err(ReadAllError::TooLong)
         )
     );
-    Ok(())
-}
-
-// A sink of pieces of 10 bytes, after a write of a text that it doesn't take whole.
-fn after_write(
-    rt: &impl Abort,
-    alloc: Global,
-    room: usize,
-    fails: Vec<u64>,
-) -> Result<MemSink, Memory> {
-    let mut sink = MemSink::new(alloc, room, 10, fails)?;
-    assert!(rt; write_all(&mut sink, b"ok 1 identity 256\nok 2 identity 257\n").is_err());
-    Ok(sink)
-}
-
-#[test]
-fn a_write_fails_in_mid_stream(rt: HostRuntime) -> Result<(), Fail> {
-    let alloc = rt.alloc();
-    let fails = vec![in alloc; 2]?;
-    let sink = after_write(&rt, alloc, 1000, fails)?;
-    assert_eq!(rt; sink.written(), b"ok 1 ident".as_slice());
-    assert_eq!(rt; sink.calls(), 2);
-    Ok(())
-}
-
-#[test]
-fn a_sink_is_full(rt: HostRuntime) -> Result<(), Fail> {
-    let alloc = rt.alloc();
-    let sink = after_write(&rt, alloc, 5, Vec::new(alloc))?;
-    assert_eq!(rt; sink.written(), b"ok 1 ".as_slice());
     Ok(())
 }
 
@@ -108,10 +67,29 @@ fn a_writer_of_std_is_written(rt: HostRuntime) -> Result<(), Fail> {
     Ok(())
 }
 
+// A writer that counts how often it is flushed.
+#[derive(Drop)]
+struct Counting {
+    flushes: u64,
+}
+
+impl Write for Counting {
+    fn write(&mut self, bytes: &[u8]) -> io::Result<usize> {
+        Ok(bytes.len().min(4))
+    }
+
+    fn flush(&mut self) -> io::Result<()> {
+        self.flushes = self.flushes.saturating_add(1);
+        Ok(())
+    }
+}
+
 #[test]
-fn a_write_that_takes_nothing_is_a_fault(rt: HostRuntime) {
-    let mut bytes = [0u8; 5];
-    let mut sink = IoSink::new(bytes.as_mut_slice());
-    assert_eq!(rt; write_all(&mut sink, b"synced 0\n"), Err(Failed));
-    assert_eq!(rt; bytes.as_slice(), b"synce".as_slice());
+fn each_write_is_flushed(rt: HostRuntime) -> Result<(), Fail> {
+    let mut writer = Counting { flushes: 0 };
+    let mut sink = IoSink::new(&mut writer);
+    write_all(&mut sink, b"synced 0\n")?;
+    // 4, 4 and 1 bytes.
+    assert_eq!(rt; writer.flushes, 3);
+    Ok(())
 }

@@ -9,13 +9,13 @@ use Rattle.std.proofs.lemmas.List.Folds.{find-append}
 use Rattle.pol_addr.specs.declared.address.Addr.{Addr}
 use Rattle.pol_labels.specs.declared.label.Label.{Label}
 use Rattle.pol_model.specs.declared.answer.Fault.{Fault}
-use Rattle.pol_model.specs.declared.options.Options.{Options}
 use Rattle.pol_model.specs.declared.request.Request.TheVariants.{AddEndpoint, AddIdentity}
 use Rattle.pol_model.specs.declared.row.Endpoint.{Endpoint}
 use Rattle.pol_model.specs.declared.row.NamedIdentity.{NamedIdentity}
 use Rattle.pol_model.specs.declared.row.Stamped.{Stamped}
 use Rattle.pol_model.specs.Endpoints.{endpoint_of, free_slot, named_of, without_endpoint}
-use Rattle.pol_model.specs.Fault.{fault_if, fault_of, endpoints_max}
+use Rattle.pol_model.specs.declared.limits.TheConstants.{ENDPOINTS_MAX}
+use Rattle.pol_model.specs.Fault.{fault_if, fault_of}
 use Rattle.pol_model.specs.Numbers.{placed_by}
 use Rattle.pol_model.specs.Policies.{applied, is_of_key, removed}
 use Rattle.pol_model.specs.Sizes.{IsShortPolicy}
@@ -51,19 +51,19 @@ fault_parts false f o none = (refl, none)
 -- a new endpoint that has no fault: its name is new, and there is a slot
 pub record IsLegalEndpoint (name : List ℕ) (endpoints : List Endpoint) : Type 0 where
   pub new_name : is_some (endpoint_of name endpoints) ≡ false
-  pub has_slot : length endpoints < 256
+  pub has_slot : length endpoints < ENDPOINTS_MAX
 
-pub legal_endpoint : (options : Options) (s : State) (name : List ℕ) (labels : List Label) (address : Addr) → fault_of options s (AddEndpoint name labels address) ≡ None → IsLegalEndpoint name s.endpoints
-legal_endpoint options s name labels address legal =
+pub legal_endpoint : (s : State) (name : List ℕ) (labels : List Label) (address : Addr) → fault_of s (AddEndpoint name labels address) ≡ None → IsLegalEndpoint name s.endpoints
+legal_endpoint s name labels address legal =
     let reserved = fault_parts _ _ _ legal in
     let double = fault_parts _ _ _ reserved.1 in
     let full = fault_parts _ _ _ double.1 in
-    record { new_name = double.0; has_slot = leb-false endpoints_max (length s.endpoints) full.0 }
+    record { new_name = double.0; has_slot = leb-false ENDPOINTS_MAX (length s.endpoints) full.0 }
 
 -- the invariant stays
-pub sound_added : (policies : List Stamped) (endpoints : List Endpoint) (new : Endpoint) → IsSound policies endpoints → length endpoints < 256 → new.slot ≡ free_slot endpoints → IsSound policies (placed_by (λ endpoint. endpoint.slot) new endpoints)
+pub sound_added : (policies : List Stamped) (endpoints : List Endpoint) (new : Endpoint) → IsSound policies endpoints → length endpoints < ENDPOINTS_MAX → new.slot ≡ free_slot endpoints → IsSound policies (placed_by (λ endpoint. endpoint.slot) new endpoints)
 sound_added policies endpoints new sound few slot = record {
-  slots = all_insert (λ endpoint. endpoint.slot < 256) _ new endpoints sound.slots (omega (arith, free_slot-le endpoints));
+  slots = all_insert (λ endpoint. endpoint.slot < ENDPOINTS_MAX) _ new endpoints sound.slots (omega (arith, free_slot-le endpoints));
   short = sound.short;
 }
 
@@ -113,7 +113,7 @@ all_applied P new (x ∷ xs) all here = put (is_of_key new.policy.key x) (all_ap
 
 pub sound_without_endpoint : (name : List ℕ) (policies : List Stamped) (endpoints : List Endpoint) → IsSound policies endpoints → IsSound policies (without_endpoint name endpoints)
 sound_without_endpoint name policies endpoints sound = record {
-  slots = all_filter (λ endpoint. endpoint.slot < 256) (λ endpoint. not (bytes_eq endpoint.name name)) endpoints sound.slots;
+  slots = all_filter (λ endpoint. endpoint.slot < ENDPOINTS_MAX) (λ endpoint. not (bytes_eq endpoint.name name)) endpoints sound.slots;
   short = sound.short;
 }
 
@@ -136,8 +136,8 @@ found_named name named new free same =
     find-append p named (new ∷ [])
     ∙ first_none (find p named) (p new) new None (none_of _ free) (ap (λ n. bytes_eq n name) same ∙ bytes_same name)
 
-pub legal_identity : (options : Options) (s : State) (name : List ℕ) (labels : List Label) → fault_of options s (AddIdentity name labels) ≡ None → is_some (named_of name s.named) ≡ false
-legal_identity options s name labels legal =
+pub legal_identity : (s : State) (name : List ℕ) (labels : List Label) → fault_of s (AddIdentity name labels) ≡ None → is_some (named_of name s.named) ≡ false
+legal_identity s name labels legal =
     let reserved = fault_parts _ _ _ legal in
     let double = fault_parts _ _ _ reserved.1 in
     double.0

@@ -1,11 +1,9 @@
 pub mod Added
 pub mod Counts
-pub mod Covering
-pub mod Distinct
 pub mod Free
+pub mod Gains
 pub mod Held
-pub mod LabelLists
 pub mod Locals
+pub mod Nearest
 pub mod Placed
 pub mod Room
-pub mod Sections

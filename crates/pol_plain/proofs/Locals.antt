@@ -9,9 +9,10 @@ use Rattle.pol_addr.specs.declared.network.Prefix.{Prefix}
 use Rattle.pol_labels.specs.declared.label.Label.{Label}
 use Rattle.pol_model.specs.declared.row.IdentityRow.{IdentityRow}
 use Rattle.pol_model.specs.Fault.{locals_held, locals_wanted}
-use Rattle.pol_model.specs.Identities.{free_number, is_local, is_reserved, local_first, one_more, recounted, with_holder, held_or_new, reserved_label}
+use Rattle.pol_model.specs.declared.limits.TheConstants.{LOCAL_FIRST, LOCAL_IDENTITIES}
+use Rattle.pol_model.specs.Identities.{free_number, is_local, is_reserved, recounted, with_holder, held_or_new}
 use Rattle.pol_model.specs.Numbers.{least_free, placed_by}
-use Rattle.pol_model.specs.Prefixes.{has_prefix, number_of_prefix, prefix_held}
+use Rattle.pol_model.specs.Prefixes.{has_prefix, number_of_prefix, prefix_held, prefix_row}
 use Rattle.pol_plain.proofs.Counts.{count_by-mono, count_by-map, count_by-agree, none_found, list_any-insert, find-map}
 
 -- the number and the prefix of a row don't depend on its count
@@ -31,12 +32,12 @@ recounted-prefix n f row = at ((row.number == n) && not (is_reserved n))
 
 locals_held-with_holder : (n : ℕ) (rows : List IdentityRow) → locals_held (with_holder n rows) ≡ locals_held rows
 locals_held-with_holder n rows =
-    count_by-map (λ row. is_local row.number) (recounted n one_more) rows
-    ∙ count_by-agree _ _ (λ row. ap is_local (recounted-number n one_more row)) rows
+    count_by-map (λ row. is_local row.number) (recounted n (λ count. count + 1)) rows
+    ∙ count_by-agree _ _ (λ row. ap is_local (recounted-number n (λ count. count + 1) row)) rows
 
 number_of_prefix-with_holder : (p : Prefix) (n : ℕ) (rows : List IdentityRow) → number_of_prefix p (with_holder n rows) ≡ number_of_prefix p rows
 number_of_prefix-with_holder p n rows =
-    find-map (λ row. has_prefix p row.prefix) (recounted n one_more) (λ row. row.number) (λ row. ap (has_prefix p) (recounted-prefix n one_more row)) (recounted-number n one_more) rows
+    find-map (λ row. has_prefix p row.prefix) (recounted n (λ count. count + 1)) (λ row. row.number) (λ row. ap (has_prefix p) (recounted-prefix n (λ count. count + 1) row)) (recounted-number n (λ count. count + 1)) rows
 
 wanted-with_holder : (n : ℕ) (rows : List IdentityRow) (ps : List Prefix) → locals_wanted (with_holder n rows) ps ≡ locals_wanted rows ps
 wanted-with_holder n rows ps = count_by-agree _ _ (λ p. ap is_none (number_of_prefix-with_holder p n rows)) ps
@@ -77,33 +78,28 @@ least_free-le-count first (x ∷ xs) =
     omega (arith, here, sum_by-cons (λ y. cond (nat_le first y) 1 0) x xs)
 
 -- the least free local number is within as many of the first as are held
-pub free_local-le : (rows : List IdentityRow) → free_number local_first rows ≤ local_first + locals_held rows
+pub free_local-le : (rows : List IdentityRow) → free_number LOCAL_FIRST rows ≤ LOCAL_FIRST + locals_held rows
 free_local-le rows =
-    let counted = count_by-map (nat_le local_first) (λ row. row.number) rows in
-    omega (arith, least_free-le-count local_first (map (λ row. row.number) rows))
+    let counted = count_by-map (nat_le LOCAL_FIRST) (λ row. row.number) rows in
+    omega (arith, least_free-le-count LOCAL_FIRST (map (λ row. row.number) rows))
 
-free_local-is_local : (rows : List IdentityRow) → is_local (free_number local_first rows) ≡ true
-free_local-is_local rows = le-leb local_first _ (first-le local_first (map (λ row. row.number) rows))
-
--- a prefix's new row
-abbrev pub local_row : ℕ → List Label → Prefix → IdentityRow
-local_row number labels prefix = record { number = number; labels = labels; prefix = Some prefix; holders = 1 }
+free_local-is_local : (rows : List IdentityRow) → is_local (free_number LOCAL_FIRST rows) ≡ true
+free_local-is_local rows = le-leb LOCAL_FIRST _ (first-le LOCAL_FIRST (map (λ row. row.number) rows))
 
 -- a prefix that has no number takes the least free one
-pub prefix_held_new : (p : Prefix) (rows : List IdentityRow) (number : ℕ) (labels : List Label) → None ≡ number_of_prefix p rows → number ≡ free_number local_first rows → labels ≡ reserved_label (codes "world") ∷ [] → placed_by (λ row. row.number) (local_row number labels p) rows ≡ prefix_held p rows
-prefix_held_new p rows number labels none free world =
-    ap (λ n. placed_by (λ row. row.number) (local_row n labels p) rows) free
-    ∙ ap (λ ls. placed_by (λ row. row.number) (local_row (free_number local_first rows) ls p) rows) world
-    ∙ ap (λ o. held_or_new o (local_row (free_number local_first rows) (reserved_label (codes "world") ∷ []) p) rows) none
+pub prefix_held_new : (p : Prefix) (rows : List IdentityRow) (number : ℕ) → None ≡ number_of_prefix p rows → number ≡ free_number LOCAL_FIRST rows → placed_by (λ row. row.number) (prefix_row p number) rows ≡ prefix_held p rows
+prefix_held_new p rows number none free =
+    ap (λ n. placed_by (λ row. row.number) (prefix_row p n) rows) free
+    ∙ ap (λ o. held_or_new o (prefix_row p (free_number LOCAL_FIRST rows)) rows) none
 
 -- there is a free number where there is room
-pub free_local-fits : (rows : List IdentityRow) (n : ℕ) → locals_held rows + n ≤ 65535 → free_number local_first rows < 2 ^ 32
+pub free_local-fits : (rows : List IdentityRow) (n : ℕ) → locals_held rows + n ≤ LOCAL_IDENTITIES → free_number LOCAL_FIRST rows < 2 ^ 32
 free_local-fits rows n room = omega (arith, free_local-le rows)
 
 wanted-cons : (rows : List IdentityRow) (p : Prefix) (ps : List Prefix) → locals_wanted rows (p ∷ ps) ≡ cond (is_none (number_of_prefix p rows)) 1 0 + locals_wanted rows ps
 wanted-cons rows p ps = sum_by-cons (λ q. cond (is_none (number_of_prefix q rows)) 1 0) p ps
 
-room_at : (o : Option ℕ) (p : Prefix) (new : IdentityRow) (rows : List IdentityRow) (ps : List Prefix) → o ≡ number_of_prefix p rows → is_local new.number ≡ true → locals_held rows + (cond (is_none o) 1 0 + locals_wanted rows ps) ≤ 65535 → locals_held (held_or_new o new rows) + locals_wanted (held_or_new o new rows) ps ≤ 65535
+room_at : (o : Option ℕ) (p : Prefix) (new : IdentityRow) (rows : List IdentityRow) (ps : List Prefix) → o ≡ number_of_prefix p rows → is_local new.number ≡ true → locals_held rows + (cond (is_none o) 1 0 + locals_wanted rows ps) ≤ LOCAL_IDENTITIES → locals_held (held_or_new o new rows) + locals_wanted (held_or_new o new rows) ps ≤ LOCAL_IDENTITIES
 room_at (Some n) p new rows ps is here room = omega (arith, locals_held-with_holder n rows, wanted-with_holder n rows ps)
 room_at None p new rows ps is here room =
     let k = count_by (λ row. nat_lt row.number new.number) rows in
@@ -111,6 +107,6 @@ room_at None p new rows ps is here room =
     omega (arith, locals_held-insert new k rows here)
 
 -- once a prefix is held, there is room for the others
-pub held_room : (p : Prefix) (rows : List IdentityRow) (ps : List Prefix) → locals_held rows + locals_wanted rows (p ∷ ps) ≤ 65535 → locals_held (prefix_held p rows) + locals_wanted (prefix_held p rows) ps ≤ 65535
+pub held_room : (p : Prefix) (rows : List IdentityRow) (ps : List Prefix) → locals_held rows + locals_wanted rows (p ∷ ps) ≤ LOCAL_IDENTITIES → locals_held (prefix_held p rows) + locals_wanted (prefix_held p rows) ps ≤ LOCAL_IDENTITIES
 held_room p rows ps room =
-    room_at (number_of_prefix p rows) p (local_row (free_number local_first rows) (reserved_label (codes "world") ∷ []) p) rows ps refl (free_local-is_local rows) (omega (arith, wanted-cons rows p ps))
+    room_at (number_of_prefix p rows) p (prefix_row p (free_number LOCAL_FIRST rows)) rows ps refl (free_local-is_local rows) (omega (arith, wanted-cons rows p ps))

@@ -1,3 +1,3 @@
 pub mod Core
 pub mod Holders
-pub mod Kept
+pub mod Longest

@@ -1,7 +1,8 @@
 //! What is committed: how each request changes the state.
 ghost use Rattle.std.specs.Prelude.{◌≡◌, ◌<◌, ◌-◌, ◌^◌, IfOk, OnOk, OnErr, IfErr};
-ghost use Rattle.pol_model.specs.After.{after};
-ghost use Rattle.pol_model.specs.Committed.{committed_of, identity_given, slots_of};
+ghost use Rattle.pol_model.specs.After.{changed};
+ghost use Rattle.pol_model.specs.Commits.{Commits};
+ghost use Rattle.pol_model.specs.Committed.{identity_given, slots_of};
 ghost use Rattle.pol_model.specs.Fault.{fault_of};
 ghost use Rattle.pol_model.specs.Sizes.{IsShort, IsShortPolicy};
 ghost use Rattle.pol_plain.specs.Core.{IsCause};
@@ -22,16 +23,16 @@ use std::alloc::Global;
 
 impl Plain {
     /// A new endpoint; it answers the number that the endpoint holds.
-    pub(crate) fn add_endpoint(
+    fn add_endpoint(
         &mut self,
         alloc: Global,
         name: Text,
         labels: LabelSet,
         address: Addr,
     ) -> Result<u32, Memory>
-        requires legal { fault_of self.old.options self.old.state (Request.AddEndpoint name labels address) ≡ None }
+        requires legal { fault_of self.old.state (Request.AddEndpoint name labels address) ≡ None }
         requires room { self.old.state.revision < 2 ^ 64 - 1 }
-        ensures state { OnOk result (self.new ≡ record self.old { state = after self.old.state (Request.AddEndpoint name labels address) }) }
+        ensures state { OnOk result (self.new ≡ record self.old { state = changed self.old.state (Request.AddEndpoint name labels address) }) }
         ensures number { IfOk result (λ number. Some number ≡ identity_given self.new.state (Request.AddEndpoint name labels address)) }
         ensures stays { OnErr result (self.new ≡ self.old) }
     {
@@ -39,7 +40,7 @@ impl Plain {
         self.endpoints.reserve(1)?;
         let held = labels.copy(alloc)?;
         let slot = least_slot(&self.endpoints) as u32;
-        let identity = hold_labels(&mut self.identities, held);
+        let identity = hold_labels(&mut self.identities, held)?;
         let added = self.revision + 1;
         place_endpoint(
             &mut self.endpoints,
@@ -52,47 +53,40 @@ impl Plain {
                 address,
             },
         );
-        self.revision = added;
         Ok(identity)
     }
 
     /// The endpoint of that name goes.
     fn remove_endpoint(&mut self, name: &str)
-        requires room { self.old.state.revision < 2 ^ 64 - 1 }
-        ensures state { self.new ≡ record self.old { state = after self.old.state (Request.RemoveEndpoint name.now) } }
+        ensures state { self.new ≡ record self.old { state = changed self.old.state (Request.RemoveEndpoint name.now) } }
     {
         remove_endpoint(&mut self.identities, &mut self.endpoints, name);
-        self.revision += 1;
     }
 
     /// A new named identity; it answers the number that it holds.
     fn add_identity(&mut self, name: Text, labels: LabelSet) -> Result<u32, Memory>
-        requires legal { fault_of self.old.options self.old.state (Request.AddIdentity name labels) ≡ None }
-        requires room { self.old.state.revision < 2 ^ 64 - 1 }
-        ensures state { OnOk result (self.new ≡ record self.old { state = after self.old.state (Request.AddIdentity name labels) }) }
+        requires legal { fault_of self.old.state (Request.AddIdentity name labels) ≡ None }
+        ensures state { OnOk result (self.new ≡ record self.old { state = changed self.old.state (Request.AddIdentity name labels) }) }
         ensures number { IfOk result (λ number. Some number ≡ identity_given self.new.state (Request.AddIdentity name labels)) }
         ensures stays { OnErr result (self.new ≡ self.old) }
     {
         let number = add_named(&mut self.identities, &mut self.named, name, labels)?;
-        self.revision += 1;
         Ok(number)
     }
 
     /// The named identity goes.
     fn remove_identity(&mut self, name: &str)
-        requires room { self.old.state.revision < 2 ^ 64 - 1 }
-        ensures state { self.new ≡ record self.old { state = after self.old.state (Request.RemoveIdentity name.now) } }
+        ensures state { self.new ≡ record self.old { state = changed self.old.state (Request.RemoveIdentity name.now) } }
     {
         remove_named(&mut self.identities, &mut self.named, name);
-        self.revision += 1;
     }
 
     /// The policy is placed, in place of one of the same key if there is one.
     fn apply(&mut self, alloc: Global, policy: Policy) -> Result<(), Memory>
-        requires legal { fault_of self.old.options self.old.state (Request.Apply policy) ≡ None }
+        requires legal { fault_of self.old.state (Request.Apply policy) ≡ None }
         requires room { self.old.state.revision < 2 ^ 64 - 1 }
         requires short { IsShortPolicy policy }
-        ensures state { OnOk result (self.new ≡ record self.old { state = after self.old.state (Request.Apply policy) }) }
+        ensures state { OnOk result (self.new ≡ record self.old { state = changed self.old.state (Request.Apply policy) }) }
         ensures stays { OnErr result (self.new ≡ self.old) }
     {
         let rows = rows_applied(alloc, &self.identities, &self.policies, &policy)?;
@@ -100,38 +94,33 @@ impl Plain {
         let stamp = self.revision + 1;
         self.identities = rows;
         put_policy(&mut self.policies, Stamped { policy, stamp });
-        self.revision = stamp;
         Ok(())
     }
 
     /// The policy of that key goes.
     fn remove(&mut self, alloc: Global, key: &PolicyKey) -> Result<(), Memory>
-        requires room { self.old.state.revision < 2 ^ 64 - 1 }
-        ensures state { OnOk result (self.new ≡ record self.old { state = after self.old.state (Request.Remove key.now) }) }
+        ensures state { OnOk result (self.new ≡ record self.old { state = changed self.old.state (Request.Remove key.now) }) }
         ensures stays { OnErr result (self.new ≡ self.old) }
     {
         let rows = rows_removed(alloc, &self.identities, &self.policies, key)?;
         self.identities = rows;
         remove_policy(&mut self.policies, key);
-        self.revision += 1;
         Ok(())
     }
 
     /// The mode from now on.
-    pub(crate) fn set_mode(&mut self, mode: Mode)
-        requires room { self.old.state.revision < 2 ^ 64 - 1 }
-        ensures state { self.new ≡ record self.old { state = after self.old.state (Request.SetMode mode) } }
+    fn set_mode(&mut self, mode: Mode)
+        ensures state { self.new ≡ record self.old { state = changed self.old.state (Request.SetMode mode) } }
     {
         self.mode = mode;
-        self.revision += 1;
     }
 
-    /// Does what an accepted request asks, and answers the identity that it gave.
+    /// Does what an accepted request asks, the revision aside, and answers the identity that it gave.
     fn change(&mut self, alloc: Global, request: Request) -> Result<Option<u32>, Memory>
-        requires legal { fault_of self.old.options self.old.state request ≡ None }
+        requires legal { fault_of self.old.state request ≡ None }
         requires room { self.old.state.revision < 2 ^ 64 - 1 }
         requires short { IsShort request }
-        ensures state { OnOk result (self.new ≡ record self.old { state = after self.old.state request }) }
+        ensures state { OnOk result (self.new ≡ record self.old { state = changed self.old.state request }) }
         ensures identity { IfOk result (λ identity. identity ≡ identity_given self.new.state request) }
         ensures stays { OnErr result (self.new ≡ self.old) }
     {
@@ -172,42 +161,42 @@ impl Plain {
         count_slots(&self.endpoints)
     }
 
-    fn accept(&mut self, alloc: Global, request: Request) -> Result<Committed, CommitError>
-        requires legal { fault_of self.old.options self.old.state request ≡ None }
+    /// Does what an accepted request asks, and raises the revision by one.
+    fn accept(&mut self, alloc: Global, request: Request) -> Result<Committed, Memory>
+        requires legal { fault_of self.old.state request ≡ None }
         requires room { self.old.state.revision < 2 ^ 64 - 1 }
         requires short { IsShort request }
-        ensures state { OnOk result (self.new ≡ record self.old { state = after self.old.state request }) }
-        ensures answer { IfOk result (λ committed. committed ≡ committed_of self.new.state request) }
-        ensures memory { IfErr result (λ error. error ≡ CommitError.Memory) }
+        ensures committed { IfOk result (λ done. Commits self.old.state self.new.state request done) }
+        ensures options { OnOk result (self.new.options ≡ self.old.options) }
         ensures stays { OnErr result (self.new ≡ self.old) }
     {
-        match self.change(alloc, request) {
-            Ok(identity) => Ok(Committed {
-                revision: self.revision(),
-                identity,
-                slots: self.slots(),
-            }),
-            Err(_) => Err(CommitError::Memory),
-        }
+        let identity = self.change(alloc, request)?;
+        self.revision += 1;
+        Ok(Committed {
+            revision: self.revision(),
+            identity,
+            slots: self.slots(),
+        })
     }
 
     /// Does what the request asks, if it has no fault, and raises the revision by one.
     ///
-    /// `Refused` comes exactly where the request has a fault, with that fault and the present revision.
+    /// A request that has a fault isn't accepted. `Refused` names its fault, with the present revision, and
     /// `Memory` is want of memory. After either the state is as before.
     pub fn commit(&mut self, alloc: Global, request: Request) -> Result<Committed, CommitError>
         requires room { self.old.state.revision < 2 ^ 64 - 1 }
         requires short { IsShort request }
-        // What is accepted has no fault.
-        ensures accepted { OnOk result (fault_of self.old.options self.old.state request ≡ None) }
-        ensures state { OnOk result (self.new ≡ record self.old { state = after self.old.state request }) }
-        ensures answer { IfOk result (λ committed. committed ≡ committed_of self.new.state request) }
+        ensures committed { IfOk result (λ done. Commits self.old.state self.new.state request done) }
+        ensures options { OnOk result (self.new.options ≡ self.old.options) }
         // What is refused has the fault that is named, unless memory was wanting.
-        ensures refused { IfErr result (IsCause self.old.options self.old.state request) }
+        ensures refused { IfErr result (IsCause self.old.state request) }
         ensures stays { OnErr result (self.new ≡ self.old) }
     {
         match self.fault(alloc, &request) {
-            Ok(None) => self.accept(alloc, request),
+            Ok(None) => match self.accept(alloc, request) {
+                Ok(done) => Ok(done),
+                Err(_) => Err(CommitError::Memory),
+            },
             Ok(Some(fault)) => Err(CommitError::Refused(Refused {
                 revision: self.revision(),
                 fault,

@@ -10,7 +10,7 @@ ghost use Rattle.pol_model.specs.Identities.{number_released};
 ghost use Rattle.pol_model.specs.Numbers.{placed_by};
 
 use crate::identities::release_number;
-use pol_model::{Endpoint, IdentityRow};
+use pol_model::{ENDPOINTS_MAX, Endpoint, IdentityRow};
 
 /// The live endpoint of that name.
 pub fn find_endpoint<'a>(endpoints: &'a [Endpoint], name: &str) -> Option<&'a Endpoint>
@@ -73,7 +73,7 @@ pub fn remove_endpoint(rows: &mut Vec<IdentityRow>, endpoints: &mut Vec<Endpoint
 
 /// One more than the greatest slot, 0 where no endpoint is live.
 pub fn count_slots(endpoints: &[Endpoint]) -> u32
-    requires { AllByRecursion (λ endpoint. endpoint.slot < 256) endpoints.now }
+    requires { AllByRecursion (λ endpoint. endpoint.slot < ENDPOINTS_MAX) endpoints.now }
     ensures { result ≡ slots_of endpoints.now }
 {
     let mut slots = 0u32;

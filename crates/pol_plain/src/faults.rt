@@ -1,40 +1,28 @@
 //! Why a request is refused: the first fault that holds, in the stated order.
 ghost use Rattle.std.specs.Prelude.{◌≡◌, IfOk};
-ghost use Rattle.std.specs.List.{list_any};
-ghost use Rattle.pol_addr.specs.Address.{same_addr};
 ghost use Rattle.pol_model.specs.Fault.{fault_if, fault_of, is_taken};
 
 use crate::endpoints::{find_endpoint, is_live};
 use crate::identities::is_exhausted;
-use crate::labels::{has_reserved, is_init};
 use crate::named::{find_named, is_named};
 use crate::plain::Plain;
 use crate::policies::find_policy;
-use crate::prefixes::{locals_held, locals_wanted, policy_prefixes};
+use crate::prefixes::{locals_held, locals_wanted};
 use pol_addr::Addr;
 use pol_data::Memory;
 use pol_labels::LabelSet;
-use pol_model::{Endpoint, Fault, Options, Request};
+use pol_model::{ENDPOINTS_MAX, Endpoint, Fault, LOCAL_IDENTITIES, Request, has_reserved, is_init};
 use pol_rule::Policy;
 use std::alloc::Global;
 
-/// How many endpoints may be live.
-const ENDPOINTS_MAX: usize = 256;
-
 /// How many numbers prefixes may take.
-const LOCALS_MAX: usize = 65535;
+const LOCALS_MAX: usize = LOCAL_IDENTITIES as usize;
 
-fn has_address(endpoints: &[Endpoint], address: Addr) -> bool
-    ensures { result ≡ list_any (λ endpoint. same_addr endpoint.address address) endpoints.now }
+/// Whether a live endpoint has the address.
+fn is_taken(endpoints: &[Endpoint], address: Addr) -> bool
+    ensures { result ≡ is_taken endpoints.now address }
 {
     endpoints.iter().any(|endpoint| endpoint.address == address)
-}
-
-/// Whether a live endpoint has the address, as far as addresses are kept.
-fn is_taken(options: Options, endpoints: &[Endpoint], address: Addr) -> bool
-    ensures { result ≡ is_taken options endpoints.now address }
-{
-    options.addresses && has_address(endpoints, address)
 }
 
 /// The fault, where this holds.
@@ -47,15 +35,15 @@ fn fault_where(holds: bool, fault: Fault) -> Option<Fault>
 impl Plain {
     /// The fault of a new endpoint.
     fn endpoint_fault(&self, name: &str, labels: &LabelSet, address: Addr) -> Option<Fault>
-        ensures { result ≡ fault_of self.now.options self.now.state (Request.AddEndpoint name.now labels.now address) }
+        ensures { result ≡ fault_of self.now.state (Request.AddEndpoint name.now labels.now address) }
     {
         if has_reserved(labels) && !is_init(labels) {
             Some(Fault::ReservedLabel)
         } else if is_live(&self.endpoints, name) {
             Some(Fault::DuplicateEndpoint)
-        } else if ENDPOINTS_MAX <= self.endpoints.len() {
+        } else if ENDPOINTS_MAX as usize <= self.endpoints.len() {
             Some(Fault::EndpointsFull)
-        } else if is_taken(self.options, &self.endpoints, address) {
+        } else if is_taken(&self.endpoints, address) {
             Some(Fault::AddressTaken)
         } else if is_exhausted(&self.identities, labels) {
             Some(Fault::IdentitiesExhausted)
@@ -66,7 +54,7 @@ impl Plain {
 
     /// The fault of a new named identity.
     fn identity_fault(&self, name: &str, labels: &LabelSet) -> Option<Fault>
-        ensures { result ≡ fault_of self.now.options self.now.state (Request.AddIdentity name.now labels.now) }
+        ensures { result ≡ fault_of self.now.state (Request.AddIdentity name.now labels.now) }
     {
         if has_reserved(labels) {
             Some(Fault::ReservedLabel)
@@ -82,11 +70,13 @@ impl Plain {
     /// The fault of a policy.
     #[tactic(auto, using(crate::proofs::Room::too_many))]
     fn policy_fault(&self, alloc: Global, policy: &Policy) -> Result<Option<Fault>, Memory>
-        ensures { IfOk result (λ fault. fault ≡ fault_of self.now.options self.now.state (Request.Apply policy.now)) }
+        ensures { IfOk result (λ fault. fault ≡ fault_of self.now.state (Request.Apply policy.now)) }
     {
-        let prefixes = policy_prefixes(alloc, policy)?;
+        let prefixes = policy.prefixes(alloc)?;
         let held = locals_held(&self.identities);
-        if LOCALS_MAX < held || LOCALS_MAX - held < locals_wanted(&self.identities, &prefixes) {
+        if LOCALS_MAX < held
+            || LOCALS_MAX - held < locals_wanted(&self.identities, prefixes.as_slice())
+        {
             Ok(Some(Fault::LocalExhausted))
         } else {
             Ok(None)
@@ -95,7 +85,7 @@ impl Plain {
 
     /// The fault of the request in the present state, if it has one. The one error is want of memory.
     pub fn fault(&self, alloc: Global, request: &Request) -> Result<Option<Fault>, Memory>
-        ensures { IfOk result (λ fault. fault ≡ fault_of self.now.options self.now.state request.now) }
+        ensures { IfOk result (λ fault. fault ≡ fault_of self.now.state request.now) }
     {
         match request {
             Request::AddEndpoint {

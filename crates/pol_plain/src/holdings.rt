@@ -2,23 +2,23 @@
 ghost use Rattle.std.specs.Prelude.{◌≡◌, ◌+◌, ◌≤◌, IfOk};
 ghost use Rattle.pol_model.specs.Fault.{locals_held, locals_wanted};
 ghost use Rattle.pol_model.specs.Policies.{policy_at, prefixes_of, identities_without};
-ghost use Rattle.pol_model.specs.Prefixes.{policy_prefixes, prefixes_held, prefixes_released};
+ghost use Rattle.pol_model.specs.Prefixes.{prefixes_held, prefixes_released};
+ghost use Rattle.pol_rule.specs.Prefixes.{policy_prefixes};
 
 use crate::policies::find_policy;
-use crate::prefixes::{policy_prefixes, rows_with, rows_without};
-use pol_addr::Prefix;
+use crate::prefixes::{rows_with, rows_without};
 use pol_data::Memory;
-use pol_model::{IdentityRow, Stamped};
-use pol_rule::{Policy, PolicyKey};
+use pol_model::{IdentityRow, LOCAL_IDENTITIES, Stamped};
+use pol_rule::{Policy, PolicyKey, Prefixes};
 use std::alloc::Global;
 
 /// The prefixes that go with the policy of that key.
-fn prefixes_at(alloc: Global, policies: &[Stamped], key: &PolicyKey) -> Result<Vec<Prefix>, Memory>
-    ensures { IfOk result (λ prefixes. prefixes.items ≡ prefixes_of (policy_at key.now policies.now)) }
+fn prefixes_at(alloc: Global, policies: &[Stamped], key: &PolicyKey) -> Result<Prefixes, Memory>
+    ensures { IfOk result (λ prefixes. prefixes ≡ prefixes_of (policy_at key.now policies.now)) }
 {
     match find_policy(policies, key) {
-        Some(stamped) => policy_prefixes(alloc, &stamped.policy),
-        None => Ok(Vec::new(alloc)),
+        Some(stamped) => stamped.policy.prefixes(alloc),
+        None => Ok(Prefixes::from_vec(Vec::new(alloc))),
     }
 }
 
@@ -30,12 +30,12 @@ pub fn rows_applied(
     policies: &[Stamped],
     policy: &Policy,
 ) -> Result<Vec<IdentityRow>, Memory>
-    requires { locals_held rows.now + locals_wanted rows.now (policy_prefixes policy.now) ≤ 65535 }
+    requires { locals_held rows.now + locals_wanted rows.now (policy_prefixes policy.now) ≤ LOCAL_IDENTITIES }
     ensures { IfOk result (λ made. made.items ≡ prefixes_released (prefixes_of (policy_at policy.now.key policies.now)) (prefixes_held (policy_prefixes policy.now) rows.now)) }
 {
-    let new = policy_prefixes(alloc, policy)?;
+    let new = policy.prefixes(alloc)?;
     let old = prefixes_at(alloc, policies, &policy.key)?;
-    rows_with(alloc, rows, &new, &old)
+    rows_with(alloc, rows, new.as_slice(), old.as_slice())
 }
 
 /// A copy of the rows in which the prefixes of the policy of that key are released.
@@ -48,5 +48,5 @@ pub fn rows_removed(
     ensures { IfOk result (λ made. made.items ≡ identities_without key.now policies.now rows.now) }
 {
     let old = prefixes_at(alloc, policies, key)?;
-    rows_without(alloc, rows, &old)
+    rows_without(alloc, rows, old.as_slice())
 }

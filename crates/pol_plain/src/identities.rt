@@ -1,23 +1,17 @@
 //! The rows of identities: how a number is found, held and released.
-ghost use Rattle.std.specs.Prelude.{◌≡◌, ◌<◌, ◌≤◌, vec_len, map, filter, nat_lt, false};
+ghost use Rattle.std.specs.Prelude.{◌≡◌, ◌<◌, ◌≤◌, vec_len, map, filter, nat_lt, true, false, IfOk, OnOk, OnErr};
 ghost use Rattle.std.specs.Vec.{vec_capacity};
 ghost use Rattle.std.specs.Option.{option_copied};
 ghost use Rattle.pol_model.specs.Fault.{is_exhausted};
 ghost use Rattle.pol_model.specs.Identities.{is_reserved, labels_held, number_for, number_of_labels, number_released, released, recounted, with_holder};
 ghost use Rattle.pol_model.specs.Numbers.{placed_by};
-ghost use Rattle.pol_plain.specs.Holders.{counted};
+ghost use Rattle.pol_plain.specs.Holders.{counted, none_full};
 
 use crate::numbers::least_number;
+use pol_data::Memory;
 use pol_labels::LabelSet;
-use pol_model::IdentityRow;
-
-/// The first number of the cluster's identities, and the last.
-pub const CLUSTER_FIRST: u32 = 256;
-
-pub const CLUSTER_LAST: u32 = 65535;
-
-/// The first number of the prefixes' identities.
-pub const LOCAL_FIRST: u32 = 16777217;
+use pol_model::{CLUSTER_FIRST, CLUSTER_LAST, IdentityRow, LOCAL_FIRST, RESERVED_LAST};
+use std::alloc::AllocError;
 
 /// The number of an equal label set, prefixes' identities aside.
 pub fn number_of_labels(rows: &[IdentityRow], labels: &LabelSet) -> Option<u32>
@@ -61,7 +55,7 @@ pub enum Holders {
 fn recount_row(row: &mut IdentityRow, number: u32, change: Holders)
     ensures { row.new ≡ recounted number (counted change) row.old }
 {
-    if row.number == number && !(1 <= number && number <= 8) {
+    if row.number == number && !(1 <= number && number <= RESERVED_LAST) {
         row.holders = match change {
             Holders::Gained => row.holders.saturating_add(1),
             Holders::Lost => row.holders.saturating_sub(1),
@@ -78,11 +72,32 @@ fn recount(rows: &mut [IdentityRow], number: u32, change: Holders)
     }
 }
 
-/// One holder more of a number that has a row.
-pub fn add_holder(rows: &mut Vec<IdentityRow>, number: u32)
-    ensures { rows.new.items ≡ with_holder number rows.old.items }
+fn none_is_full(rows: &[IdentityRow]) -> bool
+    ensures { result ≡ none_full rows.now }
 {
-    recount(rows.as_mut_slice(), number, Holders::Gained);
+    rows.iter().all(|row| row.holders < u64::MAX)
+}
+
+/// One holder more of the number's row, if it isn't reserved.
+#[tactic(auto, using(crate::proofs::Gains::gained))]
+fn gain(rows: &mut [IdentityRow], number: u32)
+    requires { none_full rows.old ≡ true }
+    ensures { rows.new ≡ with_holder number rows.old }
+{
+    recount(rows, number, Holders::Gained);
+}
+
+/// One holder more of a number that has a row. Where a count stands at its end it answers want of
+/// memory, and the rows are as before.
+pub fn add_holder(rows: &mut Vec<IdentityRow>, number: u32) -> Result<(), Memory>
+    ensures held { OnOk result (rows.new.items ≡ with_holder number rows.old.items) }
+    ensures stays { OnErr result (rows.new.items ≡ rows.old.items) }
+{
+    if !none_is_full(rows) {
+        return Err(AllocError);
+    }
+    gain(rows.as_mut_slice(), number);
+    Ok(())
 }
 
 /// One holder less of a number; a row without a holder goes.
@@ -99,17 +114,18 @@ fn drop_unheld(rows: &mut Vec<IdentityRow>)
     rows.retain(|row| row.holders > 0);
 }
 
-/// Holds the label set once more, and answers its number. It takes no memory.
-pub fn hold_labels(rows: &mut Vec<IdentityRow>, labels: LabelSet) -> u32
+/// Holds the label set once more, and answers its number. After want of memory the rows are as before.
+pub fn hold_labels(rows: &mut Vec<IdentityRow>, labels: LabelSet) -> Result<u32, Memory>
     requires room { vec_len rows.old < vec_capacity rows.old }
     requires free { is_exhausted labels rows.old.items ≡ false }
-    ensures rows { rows.new.items ≡ labels_held labels rows.old.items }
-    ensures number { result ≡ number_for labels rows.old.items }
+    ensures rows { OnOk result (rows.new.items ≡ labels_held labels rows.old.items) }
+    ensures number { IfOk result (λ number. number ≡ number_for labels rows.old.items) }
+    ensures stays { OnErr result (rows.new.items ≡ rows.old.items) }
 {
     match number_of_labels(rows, &labels) {
         Some(number) => {
-            add_holder(rows, number);
-            number
+            add_holder(rows, number)?;
+            Ok(number)
         }
         None => {
             let number = least_number(CLUSTER_FIRST, rows) as u32;
@@ -122,7 +138,7 @@ pub fn hold_labels(rows: &mut Vec<IdentityRow>, labels: LabelSet) -> u32
                     holders: 1,
                 },
             );
-            number
+            Ok(number)
         }
     }
 }

@@ -5,14 +5,10 @@
 #![tactic(auto)]
 
 mod commit;
-mod covers;
 mod endpoints;
-mod enforced;
 mod faults;
 mod holdings;
 mod identities;
-mod labels;
-mod matching;
 mod named;
 mod numbers;
 mod places;
@@ -20,7 +16,6 @@ mod plain;
 mod policies;
 mod prefixes;
 mod remote;
-mod reserved;
 mod selects;
 mod verdict;
 

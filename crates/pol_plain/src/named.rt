@@ -42,7 +42,7 @@ pub fn add_named(
 {
     rows.reserve(1)?;
     named.reserve(1)?;
-    let number = hold_labels(rows, labels);
+    let number = hold_labels(rows, labels)?;
     named.push(NamedIdentity { name, number }).unwrap();
     Ok(number)
 }

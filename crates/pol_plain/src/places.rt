@@ -1,17 +1,14 @@
 //! The places of the entries that cover a packet.
 ghost use Rattle.std.specs.Prelude.{◌≡◌, ◌++◌, ◌<◌, ◌^◌, length, IfOk, OnOk};
 ghost use Rattle.std.specs.List.{AllByRecursion};
-ghost use Rattle.std.specs.Option.{option_copied};
-ghost use Rattle.pol_rule.specs.Covers.{covers};
+ghost use Rattle.pol_rule.specs.Covers.{entry_covers};
 ghost use Rattle.pol_model.specs.Enforced.{rule_selects};
 ghost use Rattle.pol_model.specs.Explain.{covering_places, covers_query, entry_places, rule_places};
-ghost use Rattle.pol_model.specs.Selects.{known_of, selects};
+ghost use Rattle.pol_model.specs.Selects.{selects_number};
 ghost use Rattle.pol_model.specs.Sizes.{HasShortSections, IsShortPolicy};
 
-use crate::covers::covers_packet;
-use crate::enforced::{entries_of, selects_endpoint};
 use crate::plain::Plain;
-use crate::remote::find_row;
+use crate::selects::covers_packet;
 use pol_data::Memory;
 use pol_model::{Endpoint, IdentityRow, Places, Query, Stamped};
 use pol_rule::{Entry, Place, Policy, PolicyKey, Section};
@@ -24,14 +21,15 @@ fn push_entries(
     rule: u32,
     section: Section,
     entries: &[Entry],
-    row: Option<&IdentityRow>,
+    rows: &[IdentityRow],
+    number: u32,
     query: &Query,
 ) -> Result<(), Memory>
     requires { length entries.now < 2 ^ 32 }
-    ensures { OnOk result (out.new.items ≡ out.old.items ++ entry_places (covers (selects (known_of (option_copied row.entry))) query.now.proto query.now.port) key.now rule section 0 entries.now) }
+    ensures { OnOk result (out.new.items ≡ out.old.items ++ entry_places (entry_covers (selects_number rows.now number) query.now.proto query.now.port) key.now rule section 0 entries.now) }
 {
     for (i, entry) in entries.iter().enumerate() {
-        if covers_packet(entry, row, query.proto, query.port) {
+        if covers_packet(entry, rows, number, query.proto, query.port) {
             out.push(Place {
                 key: key.copy(*out.allocator())?,
                 rule,
@@ -49,17 +47,27 @@ fn push_policy(
     policy: &Policy,
     endpoint: &Endpoint,
     section: Section,
-    row: Option<&IdentityRow>,
+    rows: &[IdentityRow],
+    number: u32,
     query: &Query,
 ) -> Result<(), Memory>
     requires rules { length policy.now.rules < 2 ^ 32 }
     requires sections { AllByRecursion HasShortSections policy.now.rules }
-    ensures { OnOk result (out.new.items ≡ out.old.items ++ rule_places (rule_selects endpoint.now) (covers (selects (known_of (option_copied row.entry))) query.now.proto query.now.port) policy.now.key section 0 policy.now.rules) }
+    ensures { OnOk result (out.new.items ≡ out.old.items ++ rule_places (rule_selects endpoint.now) (entry_covers (selects_number rows.now number) query.now.proto query.now.port) policy.now.key section 0 policy.now.rules) }
 {
     for (i, rule) in policy.rules.as_slice().iter().enumerate() {
-        if selects_endpoint(rule, endpoint) {
-            let entries = entries_of(rule, section);
-            push_entries(out, &policy.key, i as u32, section, entries, row, query)?;
+        if endpoint.is_selected_by(rule) {
+            let entries = rule.entries_of(section);
+            push_entries(
+                out,
+                &policy.key,
+                i as u32,
+                section,
+                entries,
+                rows,
+                number,
+                query,
+            )?;
         }
     }
     Ok(())
@@ -71,15 +79,24 @@ fn places_in(
     policies: &[Stamped],
     endpoint: &Endpoint,
     section: Section,
-    row: Option<&IdentityRow>,
+    rows: &[IdentityRow],
+    number: u32,
     query: &Query,
 ) -> Result<Places, Memory>
     requires { AllByRecursion (λ stamped. IsShortPolicy stamped.policy) policies.now }
-    ensures { IfOk result (λ places. places ≡ covering_places policies.now endpoint.now section (covers (selects (known_of (option_copied row.entry))) query.now.proto query.now.port)) }
+    ensures { IfOk result (λ places. places ≡ covering_places policies.now endpoint.now section (entry_covers (selects_number rows.now number) query.now.proto query.now.port)) }
 {
     let mut out = Vec::new(alloc);
     for stamped in policies {
-        push_policy(&mut out, &stamped.policy, endpoint, section, row, query)?;
+        push_policy(
+            &mut out,
+            &stamped.policy,
+            endpoint,
+            section,
+            rows,
+            number,
+            query,
+        )?;
     }
     Ok(Places::from_vec(out))
 }
@@ -95,7 +112,15 @@ impl Plain {
     ) -> Result<Places, Memory>
         ensures { IfOk result (λ places. places ≡ covering_places self.now.state.policies endpoint.now section (covers_query self.now.state query.now)) }
     {
-        let row = find_row(&self.identities, self.remote(query.remote));
-        places_in(alloc, &self.policies, endpoint, section, row, query)
+        let number = self.remote(query.remote);
+        places_in(
+            alloc,
+            &self.policies,
+            endpoint,
+            section,
+            &self.identities,
+            number,
+            query,
+        )
     }
 }

@@ -6,13 +6,12 @@ ghost use Rattle.pol_model.specs.Explain.{explain_for, explain_of};
 ghost use Rattle.pol_model.specs.Remote.{remote_number, verdict_for};
 
 use crate::endpoints::{find_endpoint, is_live};
-use crate::enforced::{allows_in, denies_in};
 use crate::remote::number_at;
-use crate::reserved::reserved_rows;
 use pol_data::Memory;
 use pol_mapkey::Word;
 use pol_model::{
     Endpoint, IdentityRow, Mode, NamedIdentity, Options, Query, Remote, Stamped, Trace,
+    allow_section, deny_section, reserved_rows,
 };
 use std::alloc::Global;
 use std::marker::Model;
@@ -118,8 +117,8 @@ impl Plain {
         Ok(Trace {
             word: self.verdict_at(query, endpoint),
             remote: self.remote(query.remote),
-            denies: self.places(alloc, endpoint, denies_in(query.dir), query)?,
-            allows: self.places(alloc, endpoint, allows_in(query.dir), query)?,
+            denies: self.places(alloc, endpoint, deny_section(query.dir), query)?,
+            allows: self.places(alloc, endpoint, allow_section(query.dir), query)?,
         })
     }
 }

@@ -1,107 +1,15 @@
-//! Which prefixes a policy holds, and how they are held and released.
-ghost use Rattle.std.specs.Prelude.{◌≡◌, ◌++◌, ◌+◌, ◌<◌, ◌≤◌, ◌^◌, IfOk, OnOk, None, Some};
-ghost use Rattle.std.specs.List.{flat_map};
+//! How prefixes are held and released.
+ghost use Rattle.std.specs.Prelude.{◌≡◌, ◌+◌, ◌<◌, ◌≤◌, ◌^◌, IfOk, OnOk, None, Some};
 ghost use Rattle.pol_model.specs.Fault.{locals_held, locals_wanted};
-ghost use Rattle.pol_model.specs.Identities.{free_number, local_first};
-ghost use Rattle.pol_model.specs.Prefixes.{peer_prefixes, entry_prefixes, rule_prefixes, policy_prefixes, distinct, number_of_prefix, prefix_held, prefix_released, prefixes_held, prefixes_released, has_prefix};
-ghost use Rattle.pol_plain.specs.Kept.{is_kept};
+ghost use Rattle.pol_model.specs.Identities.{free_number};
+ghost use Rattle.pol_model.specs.Prefixes.{number_of_prefix, prefix_held, prefix_released, prefixes_held, prefixes_released, has_prefix};
 
-use crate::identities::{LOCAL_FIRST, add_holder, place_row, release};
+use crate::identities::{add_holder, place_row, release};
 use crate::numbers::least_number;
-use crate::reserved::reserved_labels;
 use pol_addr::Prefix;
 use pol_data::Memory;
-use pol_labels::LabelSet;
-use pol_model::IdentityRow;
-use pol_rule::{Entry, Peer, Peers, Policy, Rule};
+use pol_model::{IdentityRow, LOCAL_FIRST, LOCAL_IDENTITIES};
 use std::alloc::Global;
-
-fn push_peer(out: &mut Vec<Prefix>, peer: &Peer) -> Result<(), Memory>
-    ensures { OnOk result (out.new.items ≡ out.old.items ++ peer_prefixes peer.now) }
-{
-    match peer {
-        Peer::Labels(_) => Ok(()),
-        Peer::Entity(_) => Ok(()),
-        Peer::Cidr { prefix, except } => {
-            out.push(*prefix)?;
-            out.extend_from_slice(except.as_slice())
-        }
-    }
-}
-
-fn push_peers(out: &mut Vec<Prefix>, peers: &[Peer]) -> Result<(), Memory>
-    ensures { OnOk result (out.new.items ≡ out.old.items ++ flat_map peer_prefixes peers.now) }
-{
-    for peer in peers {
-        push_peer(out, peer)?;
-    }
-    Ok(())
-}
-
-fn push_entry(out: &mut Vec<Prefix>, entry: &Entry) -> Result<(), Memory>
-    ensures { OnOk result (out.new.items ≡ out.old.items ++ entry_prefixes entry.now.peers) }
-{
-    match &entry.peers {
-        Peers::Every => Ok(()),
-        Peers::Listed(peers) => push_peers(out, peers.as_slice()),
-    }
-}
-
-fn push_section(out: &mut Vec<Prefix>, entries: &[Entry]) -> Result<(), Memory>
-    ensures { OnOk result (out.new.items ≡ out.old.items ++ flat_map (λ entry. entry_prefixes entry.peers) entries.now) }
-{
-    for entry in entries {
-        push_entry(out, entry)?;
-    }
-    Ok(())
-}
-
-#[tactic(auto, using(crate::proofs::Sections::rule_prefixes_by_section))]
-fn push_rule(out: &mut Vec<Prefix>, rule: &Rule) -> Result<(), Memory>
-    ensures { OnOk result (out.new.items ≡ out.old.items ++ rule_prefixes rule.now) }
-{
-    push_section(out, rule.ingress.as_slice())?;
-    push_section(out, rule.ingress_deny.as_slice())?;
-    push_section(out, rule.egress.as_slice())?;
-    push_section(out, rule.egress_deny.as_slice())
-}
-
-fn push_rules(out: &mut Vec<Prefix>, rules: &[Rule]) -> Result<(), Memory>
-    ensures { OnOk result (out.new.items ≡ out.old.items ++ flat_map rule_prefixes rules.now) }
-{
-    for rule in rules {
-        push_rule(out, rule)?;
-    }
-    Ok(())
-}
-
-fn keeps(kept: &[Prefix], prefix: &Prefix) -> bool
-    ensures { result ≡ is_kept kept.now prefix.now }
-{
-    kept.iter().any(|other| *other == *prefix)
-}
-
-/// Each prefix at its first place alone.
-fn distinct(alloc: Global, prefixes: &[Prefix]) -> Result<Vec<Prefix>, Memory>
-    ensures { IfOk result (λ kept. kept.items ≡ distinct prefixes.now) }
-{
-    let mut kept = Vec::new(alloc);
-    for prefix in prefixes {
-        if !keeps(&kept, prefix) {
-            kept.push(*prefix)?;
-        }
-    }
-    Ok(kept)
-}
-
-/// The prefixes that a policy holds, in document order, each once.
-pub fn policy_prefixes(alloc: Global, policy: &Policy) -> Result<Vec<Prefix>, Memory>
-    ensures { IfOk result (λ prefixes. prefixes.items ≡ policy_prefixes policy.now) }
-{
-    let mut all = Vec::new(alloc);
-    push_rules(&mut all, policy.rules.as_slice())?;
-    distinct(alloc, &all)
-}
 
 fn is_of_prefix(row: &IdentityRow, prefix: &Prefix) -> bool
     ensures { result ≡ has_prefix prefix.now row.now.prefix }
@@ -139,32 +47,21 @@ pub fn locals_wanted(rows: &[IdentityRow], prefixes: &[Prefix]) -> usize
         .count()
 }
 
-/// Holds the prefix once more. After want of memory the rows are as before.
+/// Holds the prefix once more.
 pub fn hold_prefix(alloc: Global, rows: &mut Vec<IdentityRow>, prefix: Prefix) -> Result<(), Memory>
-    requires { number_of_prefix prefix rows.old.items ≡ None → free_number local_first rows.old.items < 2 ^ 32 }
+    requires { number_of_prefix prefix rows.old.items ≡ None → free_number LOCAL_FIRST rows.old.items < 2 ^ 32 }
     ensures { OnOk result (rows.new.items ≡ prefix_held prefix rows.old.items) }
 {
     match number_of_prefix(rows, &prefix) {
-        Some(number) => add_holder(rows, number),
+        Some(number) => add_holder(rows, number)?,
         None => {
-            let labels = reserved_labels(alloc, "world")?;
             rows.reserve(1)?;
             let number = least_number(LOCAL_FIRST, rows) as u32;
-            place_row(rows, local_row(number, labels, prefix));
+            let row = IdentityRow::of_prefix(alloc, prefix, number)?;
+            place_row(rows, row);
         }
     }
     Ok(())
-}
-
-fn local_row(number: u32, labels: LabelSet, prefix: Prefix) -> IdentityRow
-    ensures { result ≡ record { number = number; labels = labels; prefix = Some prefix; holders = 1 } }
-{
-    IdentityRow {
-        number,
-        labels,
-        prefix: Some(prefix),
-        holders: 1,
-    }
 }
 
 /// Holds one prefix after another.
@@ -173,7 +70,7 @@ fn hold_prefixes(
     rows: &mut Vec<IdentityRow>,
     prefixes: &[Prefix],
 ) -> Result<(), Memory>
-    requires { locals_held rows.old.items + locals_wanted rows.old.items prefixes.now ≤ 65535 }
+    requires { locals_held rows.old.items + locals_wanted rows.old.items prefixes.now ≤ LOCAL_IDENTITIES }
     ensures { OnOk result (rows.new.items ≡ prefixes_held prefixes.now rows.old.items) }
 {
     for prefix in prefixes {
@@ -201,23 +98,12 @@ fn release_prefixes(rows: &mut Vec<IdentityRow>, prefixes: &[Prefix])
     }
 }
 
-fn copy_row(alloc: Global, row: &IdentityRow) -> Result<IdentityRow, Memory>
-    ensures { IfOk result (λ copy. copy ≡ row.now) }
-{
-    Ok(IdentityRow {
-        number: row.number,
-        labels: row.labels.copy(alloc)?,
-        prefix: row.prefix,
-        holders: row.holders,
-    })
-}
-
 fn copy_rows(alloc: Global, rows: &[IdentityRow]) -> Result<Vec<IdentityRow>, Memory>
     ensures { IfOk result (λ copies. copies.items ≡ rows.now) }
 {
     let mut copies = Vec::with_capacity(alloc, rows.len())?;
     for row in rows {
-        copies.push(copy_row(alloc, row)?)?;
+        copies.push(row.copy(alloc)?)?;
     }
     Ok(copies)
 }
@@ -229,7 +115,7 @@ pub fn rows_with(
     new: &[Prefix],
     old: &[Prefix],
 ) -> Result<Vec<IdentityRow>, Memory>
-    requires { locals_held rows.now + locals_wanted rows.now new.now ≤ 65535 }
+    requires { locals_held rows.now + locals_wanted rows.now new.now ≤ LOCAL_IDENTITIES }
     ensures { IfOk result (λ made. made.items ≡ prefixes_released old.now (prefixes_held new.now rows.now)) }
 {
     let mut made = copy_rows(alloc, rows)?;

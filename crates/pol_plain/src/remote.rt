@@ -1,11 +1,12 @@
 //! What an address or a number stands for.
 ghost use Rattle.std.specs.Prelude.{◌≡◌};
 ghost use Rattle.std.specs.Option.{option_copied, option_map_or};
-ghost use Rattle.pol_model.specs.Remote.{endpoint_at, longer, longest_at, number_at, prefix_length, row_contains, world_identity};
-ghost use Rattle.pol_model.specs.Selects.{row_of};
+ghost use Rattle.pol_addr.specs.Longest.{longer};
+ghost use Rattle.pol_model.specs.Remote.{endpoint_at, longest_at, number_at};
+ghost use Rattle.pol_plain.specs.Longest.{with_prefix};
 
-use pol_addr::Addr;
-use pol_model::{Endpoint, IdentityRow};
+use pol_addr::{Addr, Prefix};
+use pol_model::{Endpoint, IdentityRow, WORLD_IDENTITY};
 
 /// The live endpoint that has the address.
 fn find_endpoint_at(endpoints: &[Endpoint], address: Addr) -> Option<&Endpoint>
@@ -16,61 +17,48 @@ fn find_endpoint_at(endpoints: &[Endpoint], address: Addr) -> Option<&Endpoint>
         .find(|endpoint| endpoint.address == address)
 }
 
-/// The row of that number.
-pub fn find_row(rows: &[IdentityRow], number: u32) -> Option<&IdentityRow>
-    ensures { option_copied result ≡ row_of number rows.now }
-{
-    rows.iter().find(|row| row.number == number)
-}
+/// A prefix with its number.
+type Numbered = (Prefix, u32);
 
-fn has_address(row: &IdentityRow, address: Addr) -> bool
-    ensures { result ≡ row_contains address row.now }
-{
-    match &row.prefix {
-        None => false,
-        Some(prefix) => prefix.contains(address),
-    }
-}
-
-fn length_of(row: &IdentityRow) -> u8
-    ensures { result ≡ prefix_length row.now }
-{
-    match &row.prefix {
-        None => 0,
-        Some(prefix) => prefix.len(),
-    }
-}
-
-/// The row of the longer prefix; of two as long the first one.
-fn longer_of<'a>(row: &'a IdentityRow, best: Option<&'a IdentityRow>) -> Option<&'a IdentityRow>
-    ensures { option_copied result ≡ longer row.now (option_copied best.entry) }
+/// The longer of two prefixes; of two as long the first one.
+fn longer_of(found: Numbered, best: Option<Numbered>) -> Option<Numbered>
+    ensures { result ≡ longer found best }
 {
     match best {
-        Some(best) if length_of(row) < length_of(best) => Some(best),
-        _ => Some(row),
+        Some(best) if found.0.len() < best.0.len() => Some(best),
+        _ => Some(found),
     }
 }
 
-/// The row of the longest prefix that contains the address.
-fn find_longest(rows: &[IdentityRow], address: Addr) -> Option<&IdentityRow>
-    ensures { option_copied result ≡ longest_at address rows.now }
+/// The better of the row's prefix and the best of the others.
+fn with_row(row: &IdentityRow, address: Addr, best: Option<Numbered>) -> Option<Numbered>
+    ensures { result ≡ with_prefix address row.now.number row.now.prefix best }
 {
-    let mut best: Option<&IdentityRow> = None;
+    match row.prefix {
+        Some(prefix) if prefix.contains(address) => longer_of((prefix, row.number), best),
+        _ => best,
+    }
+}
+
+/// The longest prefix that contains the address, with its number.
+#[tactic(auto, using(crate::proofs::Nearest::one_row_more))]
+fn find_longest(rows: &[IdentityRow], address: Addr) -> Option<Numbered>
+    ensures { result ≡ longest_at address rows.now }
+{
+    let mut best: Option<Numbered> = None;
     for i in (0..rows.len()).rev() {
-        if has_address(&rows[i], address) {
-            best = longer_of(&rows[i], best);
-        }
+        best = with_row(&rows[i], address, best);
     }
     best
 }
 
-/// The number of the longest prefix that contains the address, 2 where none does.
+/// The number of the longest prefix that contains the address, that of the world where none does.
 fn number_by_prefix(rows: &[IdentityRow], address: Addr) -> u32
-    ensures { result ≡ option_map_or (λ row. row.number) (longest_at address rows.now) world_identity }
+    ensures { result ≡ option_map_or (λ found. found.1) (longest_at address rows.now) WORLD_IDENTITY }
 {
     match find_longest(rows, address) {
-        Some(row) => row.number,
-        None => 2,
+        Some(found) => found.1,
+        None => WORLD_IDENTITY,
     }
 }
 

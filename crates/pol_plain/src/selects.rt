@@ -1,85 +1,54 @@
-//! Whether a peer selects an identity.
-ghost use Rattle.std.specs.Prelude.{◌≡◌};
-ghost use Rattle.std.specs.Option.{option_copied};
+//! Whether a peer selects an identity, and an entry covers a packet.
+ghost use Rattle.std.specs.Prelude.{◌≡◌, ◌==◌, ◌&&◌};
 ghost use Rattle.std.specs.List.{list_any};
-ghost use Rattle.pol_model.specs.Identities.{reserved_label};
-ghost use Rattle.pol_model.specs.Selects.{carries, entity_selects, is_core_number, known_of, known_row, selects};
+ghost use Rattle.pol_rule.specs.Covers.{entry_covers, peers_take};
+ghost use Rattle.pol_model.specs.Selects.{selects_number, selects_row};
 
-use crate::matching::{carries_label, matches_selector};
-use pol_addr::Prefix;
-use pol_labels::LabelSet;
-use pol_model::IdentityRow;
-use pol_rule::{Entity, Peer};
+use pol_model::{IdentityRow, selects_every_number};
+use pol_ports::Proto;
+use pol_rule::{Entry, Peer, Peers};
 
-/// Whether some label is `reserved:NAME`.
-fn is_reserved_as(labels: &LabelSet, name: &str) -> bool
-    ensures { result ≡ carries labels.now (reserved_label name.now) }
+/// Whether the peer selects some row of the number.
+fn some_row_is_selected(rows: &[IdentityRow], number: u32, peer: &Peer) -> bool
+    ensures { result ≡ list_any (λ row. (row.number == number) && selects_row peer.now row) rows.now }
 {
-    carries_label(labels, "reserved", name, "")
+    rows.iter()
+        .any(|row| row.number == number && row.is_selected_by(peer))
 }
 
-fn is_core(number: u32) -> bool
-    ensures { result ≡ is_core_number number }
+/// Whether the peer selects the number. One without a row is selected by the entity `all` alone.
+fn selects_number(rows: &[IdentityRow], number: u32, peer: &Peer) -> bool
+    ensures { result ≡ selects_number rows.now number peer.now }
 {
-    number == 1 || (3 <= number && number <= 8)
+    selects_every_number(peer) || some_row_is_selected(rows, number, peer)
 }
 
-fn entity_selects_row(entity: Entity, row: &IdentityRow) -> bool
-    ensures { result ≡ entity_selects (known_row row.now) entity }
+fn some_peer_selects(peers: &[Peer], rows: &[IdentityRow], number: u32) -> bool
+    ensures { result ≡ list_any (selects_number rows.now number) peers.now }
 {
-    let labels = &row.labels;
-    match entity {
-        Entity::All => true,
-        Entity::World => is_reserved_as(labels, "world"),
-        Entity::Host => is_reserved_as(labels, "host"),
-        Entity::RemoteNode => is_reserved_as(labels, "remote-node"),
-        Entity::KubeApiserver => is_reserved_as(labels, "kube-apiserver"),
-        Entity::Ingress => is_reserved_as(labels, "ingress"),
-        Entity::Init => is_reserved_as(labels, "init"),
-        Entity::Health => is_reserved_as(labels, "health"),
-        Entity::Unmanaged => is_reserved_as(labels, "unmanaged"),
-        Entity::Cluster => {
-            is_core(row.number)
-                || carries_label(labels, "k8s", "io.cilium.k8s.policy.cluster", "default")
-        }
+    peers.iter().any(|peer| selects_number(rows, number, peer))
+}
+
+fn takes_number(peers: &Peers, rows: &[IdentityRow], number: u32) -> bool
+    ensures { result ≡ peers_take (selects_number rows.now number) peers.now }
+{
+    match peers {
+        Peers::Every => true,
+        Peers::Listed(list) => some_peer_selects(list.as_slice(), rows, number),
     }
 }
 
-/// Whether the identity's prefix lies in this one.
-fn lies_in(row: &IdentityRow, prefix: &Prefix) -> bool
-    ensures { result ≡ (known_row row.now).lies_in prefix.now }
+/// Whether the entry covers a packet from or to the identity of that number.
+pub fn covers_packet(
+    entry: &Entry,
+    rows: &[IdentityRow],
+    number: u32,
+    proto: Proto,
+    port: u16,
+) -> bool
+    ensures { result ≡ entry_covers (selects_number rows.now number) proto port entry.now }
 {
-    match &row.prefix {
-        None => false,
-        Some(own) => prefix.covers(own),
-    }
-}
-
-fn lies_in_any(row: &IdentityRow, prefixes: &[Prefix]) -> bool
-    ensures { result ≡ list_any (known_row row.now).lies_in prefixes.now }
-{
-    prefixes.iter().any(|prefix| lies_in(row, prefix))
-}
-
-fn selects_known(row: &IdentityRow, peer: &Peer) -> bool
-    ensures { result ≡ selects (known_row row.now) peer.now }
-{
-    match peer {
-        Peer::Labels(selector) => matches_selector(selector, &row.labels),
-        Peer::Cidr { prefix, except } => {
-            lies_in(row, prefix) && !lies_in_any(row, except.as_slice())
-        }
-        Peer::Entity(entity) => entity_selects_row(*entity, row),
-    }
-}
-
-/// Whether the peer selects the identity of that row. A number without a row is selected by the
-/// entity `all` alone.
-pub fn selects_row(row: Option<&IdentityRow>, peer: &Peer) -> bool
-    ensures { result ≡ selects (known_of (option_copied row.entry)) peer.now }
-{
-    match row {
-        Some(row) => selects_known(row, peer),
-        None => matches!(peer, Peer::Entity(Entity::All)),
-    }
+    entry.takes_effect()
+        && takes_number(&entry.peers, rows, number)
+        && entry.covers_port(proto, port)
 }

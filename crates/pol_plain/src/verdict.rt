@@ -1,28 +1,37 @@
 //! The verdict on a packet.
 ghost use Rattle.std.specs.Prelude.{◌≡◌};
-ghost use Rattle.std.specs.Option.{option_copied};
 ghost use Rattle.pol_model.specs.Enforced.{has_rule};
 ghost use Rattle.pol_model.specs.Remote.{verdict_for};
-ghost use Rattle.pol_model.specs.Selects.{known_of};
+ghost use Rattle.pol_model.specs.Selects.{selects_number};
 ghost use Rattle.pol_model.specs.Verdict.{rule_covers, some_covers};
 
-use crate::covers::covers_packet;
-use crate::enforced::{allows_in, denies_in, entries_of, is_enforced, selects_endpoint};
 use crate::plain::Plain;
-use crate::remote::find_row;
+use crate::selects::covers_packet;
 use pol_mapkey::Word;
-use pol_model::{Endpoint, IdentityRow, Mode, Query, Stamped};
+use pol_model::{
+    Endpoint, HOST_IDENTITY, IdentityRow, Mode, Query, Stamped, allow_section, deny_section,
+};
 use pol_ports::Direction;
 use pol_rule::{Rule, Section};
 
-/// Whether some entry of that section of the rule covers the query's packet.
+/// Whether some entry of that section of the rule covers the query's packet, from or to that number.
 #[tactic(auto, unfolding(pol_model::specs::Verdict::rule_covers))]
-fn rule_covers(rule: &Rule, section: Section, row: Option<&IdentityRow>, query: &Query) -> bool
-    ensures { result ≡ rule_covers section (known_of (option_copied row.entry)) query.now.proto query.now.port rule.now }
+fn rule_covers(
+    rule: &Rule,
+    section: Section,
+    rows: &[IdentityRow],
+    number: u32,
+    query: &Query,
+) -> bool
+    ensures { result ≡ rule_covers section (selects_number rows.now number) query.now.proto query.now.port rule.now }
 {
-    entries_of(rule, section)
-        .iter()
-        .any(|entry| covers_packet(entry, row, query.proto, query.port))
+    rule.entries_of(section).iter().any(|entry| covers_packet(
+        entry,
+        rows,
+        number,
+        query.proto,
+        query.port,
+    ))
 }
 
 /// Whether some rule of the policy that selects the endpoint has such an entry.
@@ -31,14 +40,15 @@ fn policy_covers(
     stamped: &Stamped,
     endpoint: &Endpoint,
     section: Section,
-    row: Option<&IdentityRow>,
+    rows: &[IdentityRow],
+    number: u32,
     query: &Query,
 ) -> bool
-    ensures { result ≡ has_rule (rule_covers section (known_of (option_copied row.entry)) query.now.proto query.now.port) endpoint.now stamped.now }
+    ensures { result ≡ has_rule (rule_covers section (selects_number rows.now number) query.now.proto query.now.port) endpoint.now stamped.now }
 {
     let rules = stamped.policy.rules.as_slice();
-    rules.iter().any(|rule| selects_endpoint(rule, endpoint)
-        && rule_covers(rule, section, row, query))
+    rules.iter().any(|rule| endpoint.is_selected_by(rule)
+        && rule_covers(rule, section, rows, number, query))
 }
 
 /// Whether some entry of that section of a rule that selects the endpoint covers the query's packet.
@@ -46,12 +56,13 @@ fn some_entry_covers(
     policies: &[Stamped],
     endpoint: &Endpoint,
     section: Section,
-    row: Option<&IdentityRow>,
+    rows: &[IdentityRow],
+    number: u32,
     query: &Query,
 ) -> bool
-    ensures { result ≡ some_covers policies.now endpoint.now section (known_of (option_copied row.entry)) query.now.proto query.now.port }
+    ensures { result ≡ some_covers policies.now endpoint.now section (selects_number rows.now number) query.now.proto query.now.port }
 {
-    policies.iter().any(|stamped| policy_covers(stamped, endpoint, section, row, query))
+    policies.iter().any(|stamped| policy_covers(stamped, endpoint, section, rows, number, query))
 }
 
 impl Plain {
@@ -62,14 +73,16 @@ impl Plain {
         if matches!(self.mode, Mode::Never) {
             return Word::Allowed;
         }
-        let (policies, dir) = (self.policies.as_slice(), query.dir);
+        let (policies, rows) = (self.policies.as_slice(), self.identities.as_slice());
         let number = self.remote(query.remote);
-        let row = find_row(&self.identities, number);
-        if some_entry_covers(policies, endpoint, denies_in(dir), row, query) {
+        let dir = query.dir;
+        if some_entry_covers(policies, endpoint, deny_section(dir), rows, number, query) {
             Word::DeniedByRule
-        } else if some_entry_covers(policies, endpoint, allows_in(dir), row, query)
-            || !is_enforced(self.mode, policies, endpoint, dir)
-            || (matches!(dir, Direction::Ingress) && number == 1 && self.options.localhost)
+        } else if some_entry_covers(policies, endpoint, allow_section(dir), rows, number, query)
+            || !endpoint.is_enforced(self.mode, policies, dir)
+            || (matches!(dir, Direction::Ingress)
+                && number == HOST_IDENTITY
+                && self.options.localhost)
         {
             Word::Allowed
         } else {

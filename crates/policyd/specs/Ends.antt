@@ -51,11 +51,11 @@ is_silent Memory = true
 is_silent TooLong = true
 
 -- the statuses at which the script was read whole, and is within the limits
-abbrev pub is_read : Status → Bool
-is_read Clean = true
-is_read Marked = true
-is_read Usage = false
-is_read Read = false
-is_read Write = true
-is_read Memory = false
-is_read TooLong = false
+abbrev pub has_read_all : Status → Bool
+has_read_all Clean = true
+has_read_all Marked = true
+has_read_all Usage = false
+has_read_all Read = false
+has_read_all Write = true
+has_read_all Memory = false
+has_read_all TooLong = false

@@ -2,9 +2,9 @@
 use Rattle.std.specs.Prelude.{ℕ, ◌||◌, not, nat_lt, Bool, true, false, List, length, None}
 use Rattle.pol_model.specs.declared.options.Mode.TheVariants.{Default}
 use Rattle.pol_model.specs.declared.options.Options.{Options}
-use Rattle.pol_script.specs.declared.answer.Answer.{Answer}
+use Rattle.pol_answer.specs.declared.answer.Answer.{Answer}
 use Rattle.pol_script.specs.Lines.{lines_of}
-use Rattle.pol_script.specs.Text.{texts_of}
+use Rattle.pol_answer.specs.Text.{texts_of}
 use Rattle.pol_run.specs.Run.{readings_of, status_of}
 use Rattle.pol_run.specs.Serial.{serial_answers}
 
@@ -22,9 +22,8 @@ abbrev pub fits_limits : List ℕ → Bool
 fits_limits script = not (is_too_long script)
 
 -- The options of the program: default mode, the local host may always come in, and no map is limited.
--- No form of the script that is read keeps an address yet.
 abbrev pub program_options : Options
-program_options = record { mode = Default; localhost = true; map_max = None; addresses = false }
+program_options = record { mode = Default; localhost = true; map_max = None }
 
 abbrev pub script_answers : List ℕ → List Answer
 script_answers script = serial_answers program_options (readings_of script)

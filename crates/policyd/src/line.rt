@@ -3,10 +3,11 @@ ghost use Rattle.std.specs.Prelude.{◌≡◌, ◌-◌, ◌<◌, ◌^◌, [], If
 ghost use Rattle.pol_run.specs.Spots.{phase_after};
 ghost use Rattle.pol_run.specs.Serial.{answer_in, state_then, commit_answer, state_committed, look_answer, trace_answer};
 
+use pol_answer::Answer;
 use pol_data::{Items, Memory};
 use pol_model::{CommitError, Query, Request};
 use pol_plain::Plain;
-use pol_script::{Answer, Command, LineFault};
+use pol_script::{Command, LineFault};
 use std::alloc::Global;
 
 /// What a line reads as.
@@ -32,7 +33,7 @@ pub fn answer_line(
 ) -> Result<Answer, Memory>
     requires { plain.old.state.revision < 2 ^ 64 - 1 }
     ensures answer { IfOk result (λ answer. answer ≡ answer_in plain.old.options plain.old.state phase reading) }
-    ensures state { OnOk result (plain.new ≡ record plain.old { state = state_then plain.old.options plain.old.state reading }) }
+    ensures state { OnOk result (plain.new ≡ record plain.old { state = state_then plain.old.state reading }) }
 {
     match reading {
         Err(fault) => Ok(Answer::BadLine(fault)),
@@ -51,10 +52,10 @@ pub fn answer_line(
 
 fn commit(alloc: Global, plain: &mut Plain, request: Request) -> Result<Answer, Memory>
     requires { plain.old.state.revision < 2 ^ 64 - 1 }
-    ensures answer { IfOk result (λ answer. answer ≡ commit_answer plain.old.options plain.old.state request) }
-    ensures state { OnOk result (plain.new ≡ record plain.old { state = state_committed plain.old.options plain.old.state request }) }
+    ensures answer { IfOk result (λ answer. answer ≡ commit_answer plain.old.state request) }
+    ensures state { OnOk result (plain.new ≡ record plain.old { state = state_committed plain.old.state request }) }
 {
-    // No line within the limits has a list so long.
+    // A place has no numbers for a list so long.
     if !request.is_short() {
         return Err(Memory);
     }
@@ -92,7 +93,7 @@ fn trace(alloc: Global, plain: &Plain, query: &Query) -> Result<Answer, Memory>
     }
 }
 
-// Every map is made anew after each commit, and none is too large.
+// No map has a limit, so none is too large.
 fn synced(alloc: Global, plain: &Plain) -> Answer
     ensures { result ≡ Answer.Synced plain.now.state.revision [] }
 {

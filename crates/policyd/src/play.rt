@@ -7,14 +7,15 @@ ghost use Rattle.pol_base.specs.Bytes.{ConsumesSome};
 ghost use Rattle.pol_run.specs.Run.{is_marked};
 ghost use Rattle.policyd.specs.Script.{is_too_long, fits_limits, script_answers, script_text, script_status};
 ghost use Rattle.policyd.specs.Headline.{WritesRun, WritesPartOfRun};
-ghost use Rattle.policyd.specs.Ends.{is_answered, is_read, is_silent, status_number};
+ghost use Rattle.policyd.specs.Ends.{is_answered, has_read_all, is_silent, status_number};
 
 use crate::serial::play_lines;
 use crate::status::Status;
+use pol_answer::{Answer, answers_text};
 use pol_base::{Failed, ReadAllError, Sink, Source, read_all, write_all};
 use pol_data::Memory;
 use pol_model::{Mode, Options};
-use pol_script::{Answer, answers_text, count_lines, read_script};
+use pol_script::{count_lines, read_script};
 use std::alloc::Global;
 use std::sync::Wait;
 use std::thread::Threads;
@@ -24,12 +25,11 @@ const INPUT_MAX: usize = 67_108_864;
 
 const LINES_MAX: usize = 1_000_000;
 
-// Default mode, and the local host may always come in. No map is limited, and addresses aren't kept yet.
+// Default mode, and the local host may always come in. No map is limited.
 const OPTIONS: Options = Options {
     mode: Mode::Default,
     localhost: true,
     map_max: None,
-    addresses: false,
 };
 
 /// Reads a script from the source, answers its lines in order, and then writes all answers to the sink.
@@ -50,10 +50,10 @@ pub fn play<R: Threads + Wait + Sync, S: Source, K: Sink>(
     ensures write { result ≡ Status.Write → Rose (K.faults sink.old) (K.faults sink.new) }
     ensures too_long { result ≡ Status.TooLong
         → IfSome (S.left source.old) (λ script. IsTrue (is_too_long script)) }
-    ensures within { IsTrue (is_read result)
+    ensures within { IsTrue (has_read_all result)
         → IfSome (S.left source.old) (λ script. IsTrue (fits_limits script)) }
     ensures taken { ConsumesSome (S.left source.old) (S.left source.new) }
-    ensures at_end { IsTrue (is_read result) → IsAtEnd (S.left source.new) }
+    ensures at_end { IsTrue (has_read_all result) → IsAtEnd (S.left source.new) }
     ensures silent { IsTrue (is_silent result) → Keeps (K.written sink.old) (K.written sink.new) }
     ensures run { IsTrue (is_answered result) → IfSome (S.left source.old)
         (λ script. WritesRun (K.written sink.old) (K.written sink.new) script (status_number result)) }
@@ -103,7 +103,7 @@ fn script_of<S: Source>(alloc: Global, words: &[String], source: &mut S) -> Resu
 #[tactic(auto, using(crate::proofs::ScriptRun::writes_run, crate::proofs::ScriptRun::writes_part), unfolding(crate::specs::Script::script_status))]
 fn answer_script<K: Sink>(alloc: Global, script: &[u8], sink: &mut K) -> Status
     requires { IsTrue (fits_limits script.now) }
-    ensures end { IsTrue (is_read result) ⊎ (result ≡ Status.Memory) }
+    ensures end { IsTrue (has_read_all result) ⊎ (result ≡ Status.Memory) }
     ensures write { result ≡ Status.Write → Rose (K.faults sink.old) (K.faults sink.new) }
     ensures silent { result ≡ Status.Memory → Keeps (K.written sink.old) (K.written sink.new) }
     ensures run { IsTrue (is_answered result)

@@ -3,10 +3,10 @@ ghost use Rattle.std.specs.Prelude.{◌≡◌, ◌≤◌, IfOk, vec_len};
 ghost use Rattle.pol_run.specs.Serial.{serial_answers};
 
 use crate::line::{Reading, answer_line, next_phase};
+use pol_answer::Answer;
 use pol_data::Memory;
 use pol_model::Options;
 use pol_plain::Plain;
-use pol_script::Answer;
 use std::alloc::Global;
 
 /// The answers to the lines, in order.

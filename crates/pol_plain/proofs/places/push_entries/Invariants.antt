@@ -1,12 +1,11 @@
 use Rattle.std.proofs.Common.{◌≡◌, ◌++◌, drop}
-use Rattle.std.specs.Option.{option_copied}
-use Rattle.pol_rule.specs.Covers.{covers}
+use Rattle.pol_rule.specs.Covers.{entry_covers}
 use Rattle.pol_model.specs.Explain.{entry_places}
-use Rattle.pol_model.specs.Selects.{known_of, selects}
+use Rattle.pol_model.specs.Selects.{selects_number}
 use Rattle.pol_plain.proofs.places.push_entries.Given as goal
 
 -- what is appended so far and what is left are the places of all
 abbrev pub invariant-loop-i : goal.invariant-loop-i
 invariant-loop-i l =
-    let passes = covers (selects (known_of (option_copied l.row))) l.query.proto l.query.port in
+    let passes = entry_covers (selects_number l.rows l.number) l.query.proto l.query.port in
     l.out.items ++ entry_places passes l.key l.rule l.section l.i (drop l.i l.entries) ≡ l.initial.out.items ++ entry_places passes l.key l.rule l.section 0 l.entries

@@ -1,5 +1,6 @@
 use Rattle.std.proofs.Common.{◌≡◌, ◌+◌, ◌<◌, ◌≤◌, ◌∷◌, drop, length, sym, ap, ◌∙◌, arith}
 use Rattle.std.proofs.lemmas.List.{at_drop_more}
+use Rattle.pol_model.specs.declared.limits.TheConstants.{LOCAL_IDENTITIES}
 use Rattle.pol_model.specs.Fault.{locals_held, locals_wanted}
 use Rattle.pol_model.specs.Prefixes.{prefixes_held}
 use Rattle.pol_plain.proofs.Locals.{free_local-fits, held_room}
@@ -16,7 +17,7 @@ loop-prefix-preserved c =
     let p = c.prefix-item.result in
     let within : i < length ps = omega arith in
     let left : drop i ps ≡ p ∷ drop (i + 1) ps = at_drop_more (λ xs. xs) ps i p within ∙ ap (λ q. q ∷ drop (i + 1) ps) (sym c.prefix-item.is) in
-    let room : locals_held rows + locals_wanted rows (p ∷ drop (i + 1) ps) ≤ 65535 = rw left at c.loop-prefix.invariant.room in
+    let room : locals_held rows + locals_wanted rows (p ∷ drop (i + 1) ps) ≤ LOCAL_IDENTITIES = rw left at c.loop-prefix.invariant.room in
     let held : prefixes_held (p ∷ drop (i + 1) ps) rows ≡ prefixes_held ps c.args.rows.now.items = rw left at c.loop-prefix.invariant.held in
     record {
       held = rw c.in_ok-hold_prefix.ensures held;

@@ -1,4 +1,5 @@
 use Rattle.std.proofs.Common.{◌≡◌, ◌+◌, ◌≤◌, drop}
+use Rattle.pol_model.specs.declared.limits.TheConstants.{LOCAL_IDENTITIES}
 use Rattle.pol_model.specs.Fault.{locals_held, locals_wanted}
 use Rattle.pol_model.specs.Prefixes.{prefixes_held}
 use Rattle.pol_plain.proofs.prefixes.hold_prefixes.Given as goal
@@ -7,5 +8,5 @@ use Rattle.pol_plain.proofs.prefixes.hold_prefixes.Given as goal
 abbrev pub invariant-loop-prefix : goal.invariant-loop-prefix
 invariant-loop-prefix l = record {
   held : prefixes_held (drop l.prefix-index l.prefixes) l.rows.items ≡ prefixes_held l.prefixes l.initial.rows.items;
-  room : locals_held l.rows.items + locals_wanted l.rows.items (drop l.prefix-index l.prefixes) ≤ 65535;
+  room : locals_held l.rows.items + locals_wanted l.rows.items (drop l.prefix-index l.prefixes) ≤ LOCAL_IDENTITIES;
 }

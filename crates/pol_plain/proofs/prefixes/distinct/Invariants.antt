@@ -1,7 +1,0 @@
-use Rattle.std.proofs.Common.{◌≡◌, drop}
-use Rattle.pol_model.specs.Prefixes.{distinct}
-use Rattle.pol_plain.proofs.Distinct.{with_rest}
-use Rattle.pol_plain.proofs.prefixes.distinct.Given as goal
-
-abbrev pub invariant-loop-prefix : goal.invariant-loop-prefix
-invariant-loop-prefix l = with_rest l.kept.items (drop l.prefix-index l.prefixes) ≡ distinct l.prefixes
