@@ -1,0 +1,228 @@
+"""Checks what the documents claim, where that is cheap.
+
+Blocks of the language `console` show commands, each behind `$ `, with what they print: `commands` gives them as
+cases. Such a command ends in `./play WORDS`, which may stand behind a pipe, or it doesn't run the program.
+"""
+import re
+import subprocess
+
+import compare
+import layers
+import program
+
+TOP = compare.TOP
+PLAY = "./play "
+# What a crate's README has.
+SECTIONS = ("What it is for", "Its calls", "What it gives to the layer above", "Where to begin reading")
+
+
+def pages():
+    """The pages of the repository."""
+    found = [*TOP.glob("*.md"), *TOP.glob("docs/*.md"), *TOP.glob("examples/**/*.md"), *TOP.glob("crates/*/README.md")]
+    return sorted(it for it in found if "out" not in it.relative_to(TOP).parts)
+
+
+def name_of(page):
+    return str(page.relative_to(TOP))
+
+
+# Commands.
+
+
+class Command:
+    """A command in a page, with the lines that it prints."""
+
+    def __init__(self, page, number, text, printed):
+        self.name, self.text = f"command {name_of(page)}:{number}", text
+        self.printed = "".join(f"{it}\n" for it in printed).encode()
+        before, self.piped, last = text.rpartition("| ")
+        self.before, self.is_play = before, last.startswith(PLAY)
+        self.last = last.split()[1:] if self.is_play else []
+
+    def given(self):
+        """The script that ./play is given."""
+        if self.last[0] != "-":
+            return (TOP / self.last[0]).read_bytes()
+        return subprocess.run(["bash", "-o", "pipefail", "-c", self.before], cwd=TOP, stdout=subprocess.PIPE, stderr=subprocess.DEVNULL, check=True).stdout
+
+    def words(self):
+        return self.last[1:]
+
+    def out(self):
+        return self.printed
+
+    def status(self):
+        return None
+
+    def play(self, _):
+        """Runs the whole command, and returns what is wrong with what it prints."""
+        try:
+            ended = subprocess.run(["bash", "-c", self.text], cwd=TOP, stdin=subprocess.DEVNULL, stdout=subprocess.PIPE, stderr=subprocess.PIPE, timeout=compare.SECONDS)
+        except subprocess.TimeoutExpired:
+            return [f"no end within {compare.SECONDS} seconds"]
+        found = compare.difference("the answers", self.printed, ended.stdout)
+        return [*found, *compare.lines_of(ended.stderr)[-5:]] if found else []
+
+
+def shown(page):
+    """The commands that a page shows, in order."""
+    found, number, text, printed = [], 0, None, []
+
+    def end():
+        if text is not None:
+            found.append(Command(page, number, text, printed))
+
+    inside = False
+    for at, line in enumerate(page.read_text().splitlines(), 1):
+        if line.startswith("```"):
+            end()
+            inside, text = line == "```console", None
+        elif inside and line.startswith("$ "):
+            end()
+            number, text, printed = at, line[2:], []
+        elif inside and text is not None and text.endswith("\\") and not printed:
+            text = text[:-1] + line.strip()
+        elif inside:
+            printed.append(line)
+    return found
+
+
+def commands():
+    """What documents show of the program, as cases."""
+    return [Table(TOP / "README.md"), *(it for page in pages() for it in shown(page) if it.is_play)]
+
+
+# Links.
+
+
+def anchors(page):
+    """The anchors of a page's headings, as GitHub makes them."""
+    heads = re.findall(r"(?m)^#+ (.*)$", without_blocks(page.read_text()))
+    return {re.sub(r"[^\w\- ]", "", it.lower()).replace(" ", "-") for it in heads}
+
+
+def without_blocks(text):
+    return re.sub(r"(?ms)^```.*?^```$", "", text)
+
+
+def lost_links(page):
+    lost = []
+    for target in re.findall(r"\]\(([^)\s]+)\)", without_blocks(page.read_text())):
+        if re.match(r"\w+:", target):
+            continue
+        path, _, anchor = target.partition("#")
+        to = (page.parent / path).resolve() if path else page
+        if not to.exists():
+            lost.append(f"the link {target} leads nowhere")
+        elif anchor and anchor not in anchors(to):
+            lost.append(f"the link {target} leads to no heading of {name_of(to)}")
+    return lost
+
+
+def lost_paths(page):
+    """Paths of the repository that a page names in code marks, and that aren't there."""
+    tops = "|".join(("bench", "crates", "docs", "examples", "recipes", "tests", r"\.ci"))
+    named = re.findall(rf"`((?:{tops})/[\w./-]+)`", without_blocks(page.read_text()))
+    return [f"there is no {it}" for it in named if not (TOP / it).exists() and "/out" not in it and "NAME" not in it]
+
+
+# The table of the README, whose rows are lines of a script and their answers.
+
+
+class Table:
+    """The rows `| LINE | ANSWER | .. |` of a page, in code marks, as a case."""
+
+    def __init__(self, page):
+        self.name = f"table {name_of(page)}"
+        self.rows = re.findall(r"(?m)^\| `(\{.*?\})` \| `([^`]*)` \|", page.read_text())
+
+    def given(self):
+        return "".join(f"{line}\n" for line, _ in self.rows).encode()
+
+    def words(self):
+        return []
+
+    def out(self):
+        return "".join(f"{answer}\n" for _, answer in self.rows).encode()
+
+    def status(self):
+        return None
+
+    def play(self, command):
+        ended = subprocess.run(command, input=self.given(), stdout=subprocess.PIPE, timeout=compare.SECONDS)
+        return compare.difference("the answers", self.out(), ended.stdout)
+
+
+def example():
+    """The README's table is the script that it names, and it counts the program's crates right."""
+    page, count = TOP / "README.md", len(program.parts())
+    wrong = compare.difference("the lines of README.md", (TOP / "examples" / "star-wars.jsonl").read_bytes(), Table(page).given())
+    is_counted = f"of the {count} crates that the program is made of" in page.read_text()
+    return wrong if is_counted else [*wrong, f"it doesn't say 'of the {count} crates that the program is made of'"]
+
+
+# Crates.
+
+
+def sources(name):
+    """The text of a crate's code and definitions."""
+    below = [*(TOP / "crates" / name / "src").rglob("*.rt"), *(TOP / "crates" / name / "specs").rglob("*.antt")]
+    return "\n".join(it.read_text() for it in below)
+
+
+def lost_names(text, names):
+    """Names in code marks that the code of none of the crates has."""
+    code = "\n".join(map(sources, names))
+    lost = []
+    for named in re.findall(r"`([A-Za-z_]\w*(?:::\w+)?)(?:<\w+>)?`", text):
+        kind, _, call = named.rpartition("::")
+        known = re.search(rf"\bfn {call}\b", code) and re.search(rf"\b{kind}\b", code) if kind else re.search(rf"\b{call}\b", code)
+        if not known and named not in program.crates() and f" {named}" not in (TOP / "crates.txt").read_text():
+            lost.append(f"{' and '.join(names)}: nothing there is named {named}")
+    return lost
+
+
+def sections(page):
+    """The sections of docs/PROVED.md: the crates of a heading, and the text below it."""
+    parts = re.split(r"(?m)^## (.*)$", page.read_text())
+    return [(re.findall(r"`(\w+)`", head), text) for head, text in zip(parts[1::2], parts[2::2])]
+
+
+def proved():
+    """Each crate has its place in docs/PROVED.md, and what is named there is in its code."""
+    found = sections(TOP / "docs" / "PROVED.md")
+    named, listed = [it for names, _ in found for it in names], [*program.crates()]
+    wrong = [f"{it} has no section" for it in listed if it not in named]
+    wrong += [f"{it} is no crate, or has two sections" for it in {*named} if it not in listed or named.count(it) > 1]
+    return [*wrong, *(it for names, text in found if not wrong for it in lost_names(text, names))]
+
+
+def diagram():
+    """The diagram of docs/ARCHITECTURE.md is what crates.txt says, and says something of each crate."""
+    wanted = layers.drawn()
+    wrong = compare.difference("the diagram", wanted.encode(), layers.there().encode())
+    unsaid = [it for it, what in layers.described().items() if what == layers.UNKNOWN]
+    return [*wrong, *(["tests/layers.py --write draws it"] if wrong else []), *(f"it doesn't say what {it} is" for it in unsaid)]
+
+
+def introduced(name):
+    """A crate's README has the sections that a reader wants, and what it names is in the crate's code."""
+    page = TOP / "crates" / name / "README.md"
+    if not page.is_file():
+        return [f"crates/{name}/README.md isn't there"]
+    text = page.read_text()
+    return [*(f"it has no section {it}" for it in SECTIONS if f"\n## {it}\n" not in text), *lost_names(text, [name])]
+
+
+def checks():
+    yield "diagram docs/ARCHITECTURE.md", diagram
+    for name in program.crates():
+        yield f"readme crates/{name}", lambda name=name: introduced(name)
+    yield "example README.md", example
+    yield "proved docs/PROVED.md", proved
+    for page in pages():
+        yield f"links {name_of(page)}", lambda page=page: lost_links(page) + lost_paths(page)
+    for page in pages():
+        for it in shown(page):
+            if not it.is_play:
+                yield it.name, lambda it=it: it.play(None)

@@ -1,0 +1,127 @@
+#!/usr/bin/env python3
+"""The build of policyd: what it is made of, whether a proved build of that stands, and the ways to one.
+
+The proved build is crates/policyd/out/policyd. The note beside it, policyd.note, has two checksums: of the sources
+that were proved, and of the program that was built from them. A build without such a note, or whose sources or
+program have changed since, is never used.
+
+    tests/program.py sources      prints the checksum of the sources as they stand
+    tests/program.py keep SUM     after `rt ci` passed: notes its build, where the sources still have that checksum
+"""
+import hashlib
+import pathlib
+import subprocess
+import sys
+import time
+
+TOP = pathlib.Path(__file__).resolve().parent.parent
+NAME = "policyd"
+CRATE = TOP / "crates" / NAME
+PROGRAM = CRATE / "out" / NAME
+NOTE = CRATE / "out" / f"{NAME}.note"
+# What an unproved build writes at most.
+TRIED_MOST = 1 << 20
+
+
+def crates():
+    """The crates of crates.txt in its order, each with the libraries that it names."""
+    found = {}
+    for line in (TOP / "crates.txt").read_text().splitlines():
+        line = line.partition("#")[0].strip()
+        if line:
+            head, _, libraries = line.partition(":")
+            found[head.split()[0]] = libraries.split()
+    return found
+
+
+def parts():
+    """The crates that the program stands on, lowest first, and the program last."""
+    listed, found = crates(), []
+
+    def visit(name):
+        if name in listed and name not in found:
+            for below in listed[name]:
+                visit(below)
+            found.append(name)
+
+    visit(NAME)
+    return found
+
+
+def sum_of(path):
+    return hashlib.sha256(path.read_bytes()).hexdigest() if path.is_file() else "none"
+
+
+def kit():
+    try:
+        return subprocess.run(["rt", "version"], stdout=subprocess.PIPE, stderr=subprocess.DEVNULL).stdout
+    except OSError:
+        return b"no kit"
+
+
+def sources():
+    """The checksum of all that the proved program is made from: the kit, the crates' lines, their code, definitions and proofs."""
+    total, listed = hashlib.sha256(kit()), crates()
+    for name in sorted(parts()):
+        total.update(repr((name, listed[name])).encode())
+        for part in ("src", "specs", "proofs"):
+            for path in sorted((TOP / "crates" / name / part).rglob("*")):
+                if path.is_file():
+                    total.update(repr((str(path.relative_to(TOP)), path.read_bytes())).encode())
+    return total.hexdigest()
+
+
+def is_proved():
+    """Whether a proved build of the sources, as they stand now, is there."""
+    if not NOTE.is_file() or not PROGRAM.is_file():
+        return False
+    return NOTE.read_text().split() == [sources(), sum_of(PROGRAM)]
+
+
+def keep(before):
+    """Notes that the program was proved and built from sources of that checksum; no, where they aren't those any more."""
+    if not PROGRAM.is_file() or before != sources():
+        return False
+    NOTE.write_text(f"{before}\n{sum_of(PROGRAM)}\n")
+    return True
+
+
+def prove(say):
+    """Proves the program's crates, lowest first, and builds it. Returns what went wrong, or None."""
+    before, names = sources(), parts()
+    NOTE.unlink(missing_ok=True)
+    for at, name in enumerate(names):
+        left = len(names) - at
+        say(f"proving {name} ({left} {'crates are' if left > 1 else 'crate is'} left) ..")
+        start = time.monotonic()
+        done = subprocess.run(
+            ["rt", "run" if name == NAME else "lib"],
+            cwd=TOP / "crates" / name,
+            stdin=subprocess.DEVNULL,
+            stdout=subprocess.PIPE,
+            stderr=subprocess.STDOUT,
+        )
+        if done.returncode:
+            return f"{name} is not proved:\n{done.stdout.decode(errors='replace')[-4000:]}"
+        say(f"proved {name} in {time.monotonic() - start:.0f} seconds")
+    if not keep(before):
+        return "the sources changed while they were proved: run this again"
+    return None
+
+
+def main(words):
+    if words == ["sources"]:
+        print(sources())
+        return 0
+    if len(words) == 2 and words[0] == "keep":
+        if keep(words[1]):
+            return 0
+        print("the sources of policyd changed while they were proved, or it wasn't built: run this again", file=sys.stderr)
+        return 1
+    print(__doc__.split("\n\n")[-1], file=sys.stderr)
+    return 2
+
+
+if __name__ == "__main__":
+    sys.dont_write_bytecode = True
+    sys.exit(main(sys.argv[1:]))

@@ -1,0 +1,2 @@
+"""A document that is nested too deeply."""
+print("[" * 100000)
