@@ -12,6 +12,3 @@ mod text;
 
 pub use answer::Answer;
 pub use text::{answer_text, answers_text};
-
-#[cfg(test)]
-mod tests;

@@ -24,6 +24,3 @@ pub use input::Source;
 pub use output::Sink;
 pub use reading::read_all;
 pub use writing::write_all;
-
-#[cfg(test)]
-mod tests;

@@ -4,5 +4,4 @@ pub mod Turns
 pub mod Looking
 pub mod FirstFaults
 pub mod Visits
-pub mod Lists
 pub mod Names

@@ -1,14 +1,13 @@
 -- The places of a value are visited in the order of their paths.
-use Rattle.std.proofs.Common.{◌≡◌, ℕ, suc, ◌<◌, if◌then◌else◌, Bool, true, false, ◌⊎◌, inl, inr, List, [], ◌∷◌, ◌++◌, map, Less, nat_cmp, refl, subst, arith}
-use Rattle.std.specs.Cmp.Lexicographic.{slice_cmp}
-use Rattle.serde_json.specs.Data.{Data, null, boolean, number, string, array, object, Items, no_items, item, Members, no_members, member}
+use Rattle.std.proofs.Common.{ℕ, suc, ◌<◌, if◌then◌else◌, Bool, true, false, inl, inr, List, [], ◌∷◌, ◌++◌, map, refl, arith}
+use Rattle.serde_json.specs.Data.{Data, array, object, Items, no_items, item, Members, no_members, member}
 use Rattle.pol_json.specs.declared.table.Kind.{Kind}
 use Rattle.pol_json.specs.declared.table.Content.{Content}
-use Rattle.pol_json.specs.declared.table.Content.TheVariants.{Ignored, Text, Number, Object}
+use Rattle.pol_json.specs.declared.table.Content.TheVariants.{Object}
 use Rattle.pol_json.specs.Look.{StepBefore, PathBefore, AllAfter, PathsAscend, IsBelow, NamesAscend, ItemsAscend, MembersAscend}
 use Rattle.pol_json.specs.Members.{is_null}
-use Rattle.pol_json.specs.Places.{Step, named, numbered, Place, here, under, unless_absent, below, below_members, below_items, places}
-use Rattle.pol_json.specs.Table.{Shape, unknown, unsupported, one, list_of, shape_of}
+use Rattle.pol_json.specs.Places.{Step, named, numbered, Place, under, unless_absent, below, below_members, below_items, places}
+use Rattle.pol_json.specs.Table.{Shape, one, list_of, shape_of}
 
 -- ---- lists of places
 

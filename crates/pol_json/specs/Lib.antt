@@ -1,6 +1,5 @@
 pub mod Members
 pub mod Texts
-pub mod Forms
 pub mod Gives
 pub mod Table
 pub mod Places

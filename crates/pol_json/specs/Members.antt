@@ -1,8 +1,7 @@
 -- The members of a JSON object. A member whose value is null counts as absent (Kubernetes, "API Conventions").
-use Rattle.std.specs.Prelude.{ℕ, ◌+◌, ◌==◌, ◌&&◌, Bool, false, if◌then◌else◌, List, [], ◌∷◌, length, Option, None, Some, is_some, option_and_then, bytes_eq}
-use Rattle.std.specs.List.{list_all}
-use Rattle.serde_json.specs.Data.{Data, Items, no_items, item, Members, no_members, member}
-use Rattle.serde_json.specs.Find.{get, as_null, as_object, as_array, as_str}
+use Rattle.std.specs.Prelude.{ℕ, Bool, false, if◌then◌else◌, List, [], ◌∷◌, Option, None, Some, is_some, option_and_then, bytes_eq}
+use Rattle.serde_json.specs.Data.{Data, Items, no_items, item}
+use Rattle.serde_json.specs.Find.{get, as_null, as_array, as_str}
 
 abbrev pub is_null : Data → Bool
 is_null d = is_some (as_null d)
@@ -13,21 +12,6 @@ unless_null d = if is_null d then None else Some d
 -- the value of a member that is there
 abbrev pub present : List ℕ → Data → Option Data
 present name d = option_and_then unless_null (get name d)
-
--- how many members are there
-abbrev pub members_present : Members → ℕ
-members_present no_members = 0
-members_present (member name d others) = (if is_null d then 0 else 1) + members_present others
-
--- whether it is an object with so many members
-abbrev pub has_count : ℕ → Option Members → Bool
-has_count n None = false
-has_count n (Some ms) = members_present ms == n
-
--- whether it is an object with exactly these members, whose names differ
-abbrev pub has_exactly : List (List ℕ) → Data → Bool
-has_exactly names d =
-    has_count (length names) (as_object d) && list_all (λ name. is_some (present name d)) names
 
 -- the text of a member
 abbrev pub text_at : List ℕ → Data → Option (List ℕ)

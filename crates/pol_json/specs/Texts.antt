@@ -1,8 +1,6 @@
--- The forms of names and keys.
+-- The forms of names.
 use Rattle.std.specs.Prelude.{ℕ, ◌==◌, ◌&&◌, ◌||◌, nat_le, Bool, List, length, codes}
-use Rattle.std.specs.List.{list_all, list_any, starts_with}
-use Rattle.std.specs.Prelude.{nat_eq}
-use Rattle.std.specs.Str.{bytes_eq}
+use Rattle.std.specs.List.{list_all, list_any}
 
 abbrev pub is_between : ℕ → ℕ → ℕ → Bool
 is_between first last byte = nat_le first byte && nat_le byte last
@@ -41,23 +39,3 @@ is_dns_name text = has_name_length text && list_all is_dns_byte text
 -- a name of the script
 abbrev pub is_name : List ℕ → Bool
 is_name text = has_name_length text && list_all is_name_byte text
-
--- a label's value, as far as it is read so far
-abbrev pub is_value : List ℕ → Bool
-is_value text = list_all is_name_byte text
-
--- a label's key, as far as it is read so far
-abbrev pub is_key : List ℕ → Bool
-is_key text = nat_le 1 (length text) && list_all is_name_byte text
-
--- the label that every pod has its namespace in
-abbrev pub namespace_key : List ℕ
-namespace_key = codes "io.kubernetes.pod.namespace"
-
--- the keys of a namespace's own labels begin so
-abbrev pub namespace_labels : List ℕ
-namespace_labels = codes "io.cilium.k8s.namespace.labels."
-
--- whether the key speaks of namespaces
-abbrev pub is_of_namespace : List ℕ → Bool
-is_of_namespace key = bytes_eq key namespace_key || starts_with nat_eq key namespace_labels

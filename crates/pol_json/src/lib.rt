@@ -22,8 +22,5 @@ mod walk;
 
 pub use document::read_policy;
 pub use fault::{DocError, DocFault};
-pub use members::{has_exactly, is_text_at, list_at, present, some_items_at, text_at};
-pub use texts::{NAMESPACE_KEY, is_dns_name, is_key, is_name, is_of_namespace, is_value};
-
-#[cfg(test)]
-mod tests;
+pub use members::{is_text_at, list_at, present, text_at};
+pub use texts::{is_dns_name, is_name};

@@ -1,11 +1,9 @@
 //! The members of a JSON object.
-ghost use Rattle.std.specs.Prelude.{◌≡◌, ◌==◌, map, is_some, option_map, option_and_then};
-ghost use Rattle.pol_json.specs.Forms.{some_items};
-ghost use Rattle.std.specs.List.{list_all};
-ghost use Rattle.serde_json.specs.View.{view, members_view};
-ghost use Rattle.pol_json.specs.Members.{is_text, present, members_present, text_at, has_exactly, list_at};
+ghost use Rattle.std.specs.Prelude.{◌≡◌, map, option_map};
+ghost use Rattle.serde_json.specs.View.{view};
+ghost use Rattle.pol_json.specs.Members.{is_text, present, text_at, list_at};
 
-use serde_json::{Map, Value};
+use serde_json::Value;
 
 /// The value of a member that is there. A member whose value is null counts as absent (Kubernetes,
 /// "API Conventions"), and what is no object has no member.
@@ -40,46 +38,4 @@ pub fn list_at<'v>(value: &'v Value, name: &str) -> Option<&'v [Value]>
 {
     let list = present(value, name)?.as_array()?;
     Some(list.as_slice())
-}
-
-/// The items of a member that is there and is a list with an item.
-pub fn some_items_at<'v>(value: &'v Value, name: &str) -> Option<&'v [Value]>
-    ensures { option_map (λ items. map view items.now) result
-        ≡ option_and_then some_items (list_at name.now (view value.now)) }
-{
-    let items = list_at(value, name)?;
-    if items.is_empty() { None } else { Some(items) }
-}
-
-/// Whether so many members aren't null.
-fn has_count(members: &Map<String, Value>, count: usize) -> bool
-    ensures { result ≡ (members_present (members_view members.now.entries) == count) }
-{
-    let mut left = count;
-    for (_, member) in members {
-        if !member.is_null() {
-            if left == 0 {
-                return false;
-            }
-            left -= 1;
-        }
-    }
-    left == 0
-}
-
-/// Whether each of these members is there.
-fn has_each(value: &Value, names: &[&str]) -> bool
-    ensures { result ≡ list_all (λ name. is_some (present name.now (view value.now))) names.now }
-{
-    names.iter().all(|name| present(value, *name).is_some())
-}
-
-/// Whether it is an object whose members are exactly these, which differ. A null member counts as absent.
-pub fn has_exactly(value: &Value, names: &[&str]) -> bool
-    ensures { result ≡ has_exactly (map (λ name. name.now) names.now) (view value.now) }
-{
-    match value.as_object() {
-        None => false,
-        Some(members) => has_count(members, names.len()) && has_each(value, names),
-    }
 }

@@ -20,8 +20,6 @@ mod row_copy;
 mod row_tests;
 mod sections;
 mod size;
-#[cfg(test)]
-mod tests;
 
 pub use answer::{CommitError, Committed, Fault, FullList, FullSlot, Places, Refused, Trace};
 pub use limits::{

@@ -20,6 +20,3 @@ mod selects;
 mod verdict;
 
 pub use plain::Plain;
-
-#[cfg(test)]
-mod tests;

@@ -12,8 +12,6 @@ mod peers;
 mod policy;
 mod ports;
 mod selectors;
-#[cfg(test)]
-mod tests;
 
 pub use fault::SanitizeError;
 pub use policy::sanitize;

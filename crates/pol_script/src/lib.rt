@@ -22,6 +22,3 @@ pub use command::Command;
 pub use line::read_line;
 pub use line_fault::{LineError, LineFault};
 pub use lines::{count_lines, read_script};
-
-#[cfg(test)]
-mod tests;

@@ -1,4 +1,4 @@
-//! Tests of the libraries below the model, in one crate, so that each of those is proved once.
+//! Tests of the libraries, in one crate, so that each of those is proved once.
 //!
 //! Each call that may find no memory is made once with ample memory, and texts are read that the grammars were read
 //! from. What a contract says is not tested again.
@@ -18,3 +18,7 @@ mod policies;
 mod ports;
 #[cfg(test)]
 mod prefix_table;
+#[cfg(test)]
+mod requests;
+#[cfg(test)]
+mod streams;

@@ -1,10 +1,9 @@
 //! Copies of requests, with ample memory.
 
-use crate::Request;
 use pol_data::Text;
 use pol_labels::{Label, LabelSet};
+use pol_model::Request;
 use std::alloc::Global;
-use std::process::Abort;
 use std::test::Fail;
 
 #[test]

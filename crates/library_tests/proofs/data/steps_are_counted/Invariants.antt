@@ -1,4 +1,4 @@
-use Rattle.leaf_tests.proofs.data.steps_are_counted.Given as goal
+use Rattle.library_tests.proofs.data.steps_are_counted.Given as goal
 
 abbrev pub ghosts-count : goal.ghosts-count
 ghosts-count a = record { name = a.blank.name; parts = a.blank.parts }

@@ -1,6 +1,0 @@
-use Rattle.std.proofs.lemmas.Str.Pattern.{starts_text}
-use Rattle.pol_json.specs.Texts.{namespace_labels}
-use Rattle.pol_json.proofs.texts.is_namespace_label.Goals as goal
-
-pub returns : goal.returns
-returns c = starts_text c.starts_with.result namespace_labels c.args.key.now c.starts_with.ensures.cases
