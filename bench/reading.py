@@ -1,0 +1,68 @@
+#!/usr/bin/env python3
+"""How fast policyd reads policy documents, and whether time and memory grow with the document alone.
+
+    bench/reading.py        applies of about 400 bytes, one policy after another in place of each other; one policy of
+                            2,500, 5,000 and 10,000 entries; and one whose `status` has 2.5, 5 and 10 MiB
+
+Each row has the size of the script, the seconds, MB/s, the peak memory in MiB, and the ratio of its seconds to those of
+the row before. `no-spec` lines are refused once they are read, so they show the JSON reader and the walk alone.
+"""
+import pathlib
+import sys
+
+sys.dont_write_bytecode = True
+sys.path.insert(0, str(pathlib.Path(__file__).resolve().parent))
+import lines  # noqa: E402
+
+
+def apply(name, spec, **more):
+    policy = {"apiVersion": "cilium.io/v2", "kind": "CiliumNetworkPolicy", "metadata": {"name": name}, "spec": spec, **more}
+    return lines.text({"op": "apply", "policy": policy})
+
+
+def entry(i):
+    ports = [{"port": str(1 + i % 65535), "protocol": "TCP"}]
+    return {"fromEndpoints": [{"matchLabels": {"app": f"a{i % 64}", "tier": "front"}}], "toPorts": [{"ports": ports}]}
+
+
+def small(i):
+    selector = {"matchLabels": {"app": f"a{i % 64}", "io.kubernetes.pod.namespace": "default"}}
+    return apply("p", {"description": "one of many", "endpointSelector": selector, "ingress": [entry(i)], "egress": []})
+
+
+def applies(count):
+    return "".join(map(small, range(count)))
+
+
+def of_entries(count):
+    return apply("p", {"endpointSelector": {}, "ingress": [*map(entry, range(count))]})
+
+
+def with_status(kibibytes):
+    condition = {"type": "Valid", "status": "True", "message": "x" * 1000}
+    return apply("p", {"endpointSelector": {}}, status={"conditions": [condition] * kibibytes})
+
+
+def no_spec(count):
+    return lines.text({"op": "apply", "policy": {"apiVersion": "cilium.io/v2", "kind": "CiliumNetworkPolicy", "metadata": {"name": "p"}, "status": ["x" * 300]}}) * count
+
+
+def main():
+    for name, script, counts in (
+        ("applies", applies, (20_000, 40_000, 80_000)),
+        ("no-spec lines", no_spec, (40_000, 80_000, 160_000)),
+        ("entries", of_entries, (2_500, 5_000, 10_000)),
+        ("KiB of status", with_status, (2_560, 5_120, 10_240)),
+    ):
+        last = None
+        for count in counts:
+            made = script(count)
+            seconds, memory = lines.measured(made)
+            size = len(made) / 1e6
+            ratio = "" if last is None else f"  x{seconds / last:.2f}"
+            print(f"{count:>9} {name:<14} {size:8.1f} MB {seconds:8.2f} s {size / seconds:8.1f} MB/s {memory:9.1f} MiB{ratio}", flush=True)
+            last = seconds
+
+
+if __name__ == "__main__":
+    main()
