@@ -1,0 +1,110 @@
+-- Two sides of a packet that the peers of all policies take alike get one verdict.
+use Rattle.std.proofs.Common.{◌≡◌, ℕ, Bool, not, ◌&&◌, ◌||◌, List, [], ◌∷◌, ◌++◌, inl, inr, refl, sym, ap, subst}
+use Rattle.std.specs.Prelude.{if◌then◌else◌}
+use Rattle.std.specs.List.{flat_map, list_any}
+use Rattle.std.proofs.lemmas.Bool.{cases_Bool}
+use Rattle.pol_addr.specs.declared.network.Prefix.{Prefix}
+use Rattle.pol_addr.specs.Prefix.{same_prefix}
+use Rattle.pol_ports.specs.declared.Direction.{Direction}
+use Rattle.pol_ports.specs.declared.Proto.{Proto}
+use Rattle.pol_mapkey.specs.declared.Word.TheVariants.{Allowed, DeniedByRule, DeniedByDefault}
+use Rattle.pol_rule.specs.Covers.{section_of, entry_covers, has_effect, peers_take, ports_cover}
+use Rattle.pol_rule.specs.Prefixes.{distinct, entry_prefixes, peer_prefixes, policy_prefixes, rule_entries, rule_prefixes}
+use Rattle.pol_rule.specs.declared.policy.Entry.{Entry}
+use Rattle.pol_rule.specs.declared.policy.Peer.{Peer}
+use Rattle.pol_rule.specs.declared.policy.Peers.{Peers}
+use Rattle.pol_rule.specs.declared.policy.Peers.TheVariants.{Every, Listed}
+use Rattle.pol_rule.specs.declared.policy.Rule.{Rule}
+use Rattle.pol_rule.specs.declared.policy.Section.{Section}
+use Rattle.pol_rule.specs.declared.policy.Section.TheVariants as section
+use Rattle.pol_model.specs.Enforced.{allow_section, deny_section, enforced, has_rule, rule_selects}
+use Rattle.pol_model.specs.State.{State}
+use Rattle.pol_model.specs.Verdict.{Side, is_ingress, is_never, rule_covers, some_covers, verdict_on}
+use Rattle.pol_model.specs.declared.options.Options.{Options}
+use Rattle.pol_model.specs.declared.row.Endpoint.{Endpoint}
+use Rattle.pol_model.specs.declared.row.Stamped.{Stamped}
+use Rattle.pol_data.proofs.Members.{In}
+use Rattle.pol_facts.proofs.Ledger.{same_prefix-is}
+use Rattle.pol_facts.proofs.Membership.{In-left, In-right, filter-In}
+
+-- ---- lists
+
+any_within : {X : Type 0} (p q : X → Bool) (xs : List X) → ((x : X) → In x xs → p x ≡ q x) → list_any p xs ≡ list_any q xs
+any_within p q [] same = refl
+any_within p q (x ∷ xs) same = λ i. same x (inl refl) i || any_within p q xs (λ y later. same y (inr later)) i
+
+in_flat_map : {X Y : Type 0} (f : X → List Y) (y : Y) (x : X) (xs : List X) → In y (f x) → In x xs → In y (flat_map f xs)
+in_flat_map f y x [] own there = elim there [ ]
+in_flat_map f y x (z ∷ zs) own (inl same) = In-left y (f z) (flat_map f zs) (subst (λ w. In y (f w)) (sym same) own)
+in_flat_map f y x (z ∷ zs) own (inr later) = In-right y (f z) (flat_map f zs) (in_flat_map f y x zs own later)
+
+-- each prefix stands once among the distinct ones
+in_distinct : (prefix : Prefix) (prefixes : List Prefix) → In prefix prefixes → In prefix (distinct prefixes)
+in_distinct prefix [] there = elim there [ ]
+in_distinct prefix (first ∷ others) (inl same) = inl same
+in_distinct prefix (first ∷ others) (inr later) =
+    elim (cases_Bool (same_prefix first prefix)) [
+      | inl same ↦ inl (same_prefix-is first prefix same)
+      | inr other ↦ inr (filter-In (λ q. not (same_prefix first q)) prefix (distinct others) (in_distinct prefix others later) (ap not other))
+    ]
+
+-- an entry of a section is one of its rule's
+in_rule : (s : Section) (rule : Rule) (entry : Entry) → In entry (section_of s rule) → In entry (rule_entries rule)
+in_rule section.Ingress rule entry there =
+    In-left entry (rule.ingress ++ rule.ingress_deny ++ rule.egress) rule.egress_deny
+    (In-left entry (rule.ingress ++ rule.ingress_deny) rule.egress (In-left entry rule.ingress rule.ingress_deny there))
+in_rule section.IngressDeny rule entry there =
+    In-left entry (rule.ingress ++ rule.ingress_deny ++ rule.egress) rule.egress_deny
+    (In-left entry (rule.ingress ++ rule.ingress_deny) rule.egress (In-right entry rule.ingress rule.ingress_deny there))
+in_rule section.Egress rule entry there =
+    In-left entry (rule.ingress ++ rule.ingress_deny ++ rule.egress) rule.egress_deny
+    (In-right entry (rule.ingress ++ rule.ingress_deny) rule.egress there)
+in_rule section.EgressDeny rule entry there = In-right entry (rule.ingress ++ rule.ingress_deny ++ rule.egress) rule.egress_deny there
+
+-- ---- peers, entries, rules, policies
+
+-- the two tests agree on each peer whose prefixes are among these
+abbrev AgreeOver : (f g : Peer → Bool) → List Prefix → Type 0
+AgreeOver f g prefixes = (p : Peer) → ((prefix : Prefix) → In prefix (peer_prefixes p) → In prefix prefixes) → f p ≡ g p
+
+-- the two tests agree on the peers of the policies
+abbrev pub Agree : (f g : Peer → Bool) → List Stamped → Type 0
+Agree f g policies = (stamped : Stamped) → In stamped policies → AgreeOver f g (policy_prefixes stamped.policy)
+
+module _ (f g : Peer → Bool) where
+  peers_agree : (prefixes : List Prefix) → AgreeOver f g prefixes → (peers : Peers) → ((prefix : Prefix) → In prefix (entry_prefixes peers) → In prefix prefixes)
+      → peers_take f peers ≡ peers_take g peers
+  peers_agree prefixes agree Every own = refl
+  peers_agree prefixes agree (Listed peers) own =
+      any_within f g peers (λ p there. agree p (λ prefix its. own prefix (in_flat_map peer_prefixes prefix p peers its there)))
+
+  module _ (proto : Proto) (port : ℕ) where
+    rule_agrees : (prefixes : List Prefix) → AgreeOver f g prefixes → (s : Section) (rule : Rule) → ((prefix : Prefix) → In prefix (rule_prefixes rule) → In prefix prefixes)
+        → list_any (entry_covers f proto port) (section_of s rule) ≡ list_any (entry_covers g proto port) (section_of s rule)
+    rule_agrees prefixes agree s rule own =
+        any_within (entry_covers f proto port) (entry_covers g proto port) (section_of s rule) (λ entry there.
+        let its : (prefix : Prefix) → In prefix (entry_prefixes entry.peers) → In prefix prefixes
+        = λ prefix among. own prefix (in_flat_map (λ e. entry_prefixes e.peers) prefix entry (rule_entries rule) among (in_rule s rule entry there)) in
+        ap (λ b. has_effect entry && b && ports_cover proto port entry.ports) (peers_agree prefixes agree entry.peers its))
+
+    policies_agree : (policies : List Stamped) (endpoint : Endpoint) (s : Section) → Agree f g policies
+        → some_covers policies endpoint s f proto port ≡ some_covers policies endpoint s g proto port
+    unfolding has_rule rule_covers
+    policies_agree policies endpoint s agree =
+        any_within _ _ policies (λ stamped there.
+        any_within _ _ stamped.policy.rules (λ rule within.
+        ap (λ b. rule_selects endpoint rule && b) (rule_agrees (policy_prefixes stamped.policy) (agree stamped there) s rule (λ prefix its.
+        in_distinct prefix (flat_map rule_prefixes stamped.policy.rules) (in_flat_map rule_prefixes prefix rule stamped.policy.rules its within)))))
+
+-- ---- the verdict
+
+pub verdicts_agree : (options : Options) (s : State) (endpoint : Endpoint) (dir : Direction) (one other : Side) (proto : Proto) (port : ℕ)
+    → Agree one.takes other.takes s.policies → one.is_host ≡ other.is_host
+    → verdict_on options s endpoint dir one proto port ≡ verdict_on options s endpoint dir other proto port
+verdicts_agree options s endpoint dir one other proto port agree host =
+    let denies = policies_agree one.takes other.takes proto port s.policies endpoint (deny_section dir) agree in
+    let allows = policies_agree one.takes other.takes proto port s.policies endpoint (allow_section dir) agree in
+    λ i. if is_never s.mode then Allowed
+    else (if denies i then DeniedByRule
+    else (if allows i || not (enforced s.mode s.policies endpoint dir) || (is_ingress dir && host i && options.localhost) then Allowed
+    else DeniedByDefault))
