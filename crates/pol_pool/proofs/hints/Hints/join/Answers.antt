@@ -1,0 +1,5 @@
+use Rattle.pol_pool.proofs.Steps.{merges}
+use Rattle.pol_pool.proofs.hints.Hints.join.Goals as goal
+
+pub absorb-requires-clause-rule : goal.absorb-requires-clause-rule
+absorb-requires-clause-rule g c = merges _ _ _ _

@@ -1,0 +1,7 @@
+use Rattle.pol_pool.specs.Passes.{IsHintPassOf, seen_by}
+use Rattle.pol_pool.specs.Queue.{GoesOn}
+use Rattle.pol_pool.proofs.worker.work.Given as goal
+
+-- the pass stays one of the queue, and what it has seen goes on
+abbrev pub invariant-loop : goal.invariant-loop
+invariant-loop g l = IsHintPassOf l.hints l.pass × GoesOn (seen_by l.fn.pass) (seen_by l.pass)

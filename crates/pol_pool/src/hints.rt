@@ -1,0 +1,94 @@
+//! A queue of hints.
+ghost use Rattle.std.specs.Prelude.{◌≡◌, ◌≤◌, [], IfOk, IfSome, IfNone, OnOk, OnErr};
+ghost use Rattle.pol_pool.specs.Passes.{IsHintPassOf, room_of, seen_by};
+ghost use Rattle.pol_pool.specs.Queue.{AddsPut, AddsTaken, IsHistory, WasHeld, joined, seen};
+
+use crate::pass::HintPass;
+use crate::rule::{InOrder, Puts, Sound, Takes, Together, Twice};
+use crate::seen::Seen;
+use crossbeam_queue::RuledArrayQueue;
+use std::alloc::{AllocError as Memory, Global};
+use std::sync::Wait;
+use thiserror::Error;
+
+/// Hints for workers: slots of endpoints whose maps may be old. Threads share the queue; it holds as many hints as its
+/// room, and gives them in the order in which they were put.
+///
+/// What a hint means is nobody's promise: whoever makes maps makes those that no hint named too.
+#[derive(Drop)]
+pub struct Hints {
+    queue: RuledArrayQueue<u32, Seen, InOrder>,
+}
+
+/// The queue had no room.
+#[derive(Clone, Copy, Debug, PartialEq, Eq, Error)]
+#[error("the queue of hints is full")]
+pub struct HintsFull;
+
+impl Hints {
+    /// A queue with room for so many hints, of 1 and more, and a pass of it that has seen nothing. The one error is want
+    /// of memory; no other call takes any.
+    pub fn new(alloc: Global, room: u32) -> Result<(Hints, HintPass), Memory>
+        requires room { 1 ≤ room }
+        ensures room { IfOk result (λ made. room_of made.0 ≡ room) }
+        ensures pass { IfOk result (λ made. IsHintPassOf made.0 made.1) }
+        ensures empty { IfOk result (λ made. seen_by made.1 ≡ seen [] []) }
+    {
+        let (queue, pass) = RuledArrayQueue::<u32, Seen, InOrder>::ruled(alloc, room as usize)?;
+        Ok((Hints { queue }, HintPass { pass }))
+    }
+
+    /// A pass more, for another thread, which has seen what this one has.
+    pub fn split<R: Wait>(&self, _rt: &R, pass: &mut HintPass) -> Result<HintPass, Memory>
+        requires pass { IsHintPassOf self.now pass.old }
+        ensures pass { IsHintPassOf self.now pass.new }
+        ensures seen { seen_by pass.new ≡ seen_by pass.old }
+        ensures other { IfOk result (λ other. IsHintPassOf self.now other) }
+        ensures other_seen { IfOk result (λ other. seen_by other ≡ seen_by pass.old) }
+    {
+        let other = self.queue.another::<Twice>(&mut pass.pass);
+        Ok(HintPass { pass: other })
+    }
+
+    /// Puts two passes together: this one has then seen what either has.
+    pub fn join<R: Wait>(&self, _rt: &R, pass: &mut HintPass, other: HintPass)
+        requires pass { IsHintPassOf self.now pass.old }
+        requires other { IsHintPassOf self.now other }
+        ensures pass { IsHintPassOf self.now pass.new }
+        ensures seen { seen_by pass.new ≡ joined (seen_by pass.old) (seen_by other) }
+    {
+        let HintPass { pass: theirs } = other;
+        self.queue.absorb::<Together>(&mut pass.pass, theirs);
+        self.queue.learn_as::<Sound>(&mut pass.pass);
+    }
+
+    /// Puts a hint behind those that the queue holds. `HintsFull` comes only where the queue held as many hints as it has
+    /// room for at some moment of the call, and then the pass has seen nothing more. It may wait for a thread that has
+    /// stalled in a put or a take.
+    pub fn put<R: Wait>(&self, rt: &R, pass: &mut HintPass, slot: u32) -> Result<(), HintsFull>
+        requires pass { IsHintPassOf self.now pass.old }
+        ensures pass { IsHintPassOf self.now pass.new }
+        ensures put { OnOk result (AddsPut (seen_by pass.old) slot (seen_by pass.new)) }
+        ensures full { OnErr result (WasHeld (room_of self.now) (seen_by pass.old)) }
+        ensures same { OnErr result (seen_by pass.new ≡ seen_by pass.old) }
+        ensures sound { IsHistory (seen_by pass.new) }
+    {
+        match self.queue.push_as::<Puts, R>(rt, &mut pass.pass, slot) {
+            Ok(()) => Ok(()),
+            Err(_) => Err(HintsFull),
+        }
+    }
+
+    /// Takes the oldest hint. None comes only where the queue was empty at some moment of the call, and then the pass has
+    /// seen nothing more. It may wait for a thread that has stalled in a put or a take.
+    pub fn take<R: Wait>(&self, rt: &R, pass: &mut HintPass) -> Option<u32>
+        requires pass { IsHintPassOf self.now pass.old }
+        ensures pass { IsHintPassOf self.now pass.new }
+        ensures taken { IfSome result (λ slot. AddsTaken (seen_by pass.old) slot (seen_by pass.new)) }
+        ensures empty { IfNone result (WasHeld 0 (seen_by pass.old)) }
+        ensures same { IfNone result (seen_by pass.new ≡ seen_by pass.old) }
+        ensures sound { IsHistory (seen_by pass.new) }
+    {
+        self.queue.pop_as::<Takes, R>(rt, &mut pass.pass)
+    }
+}
