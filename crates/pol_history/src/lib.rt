@@ -1,0 +1,8 @@
+//! Histories: what happened on a node, as a list of events, and which lists are legal.
+#![tactic(auto)]
+
+mod event;
+mod machine;
+
+pub use event::{EndpointId, HistoryEvent, LastReport};
+pub use machine::{Event, Reply};

@@ -1,0 +1,2 @@
+//! Lines of a run that are placed in one history, and what follows for the run.
+#![tactic(auto)]
