@@ -1,0 +1,8 @@
+pub mod Lists
+pub mod Cuts
+pub mod Same
+pub mod LastReports
+pub mod LegalEvents
+pub mod Lives
+pub mod Names
+pub mod Steps

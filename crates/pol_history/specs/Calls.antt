@@ -1,6 +1,6 @@
 -- What a call with a pass may answer, where `old` is what the pass had seen before the call, and `new` is what it has
 -- seen after it.
-use Rattle.std.specs.Prelude.{⊤, ⊥, ◌≡◌, ℕ, ◌+◌, ◌<◌, ◌≤◌, ◌⊎◌, Bool, List, [], ◌∷◌, length, take, slice_get, IsTrue, None, Some}
+use Rattle.std.specs.Prelude.{⊤, ◌≡◌, ℕ, ◌+◌, ◌<◌, ◌≤◌, ◌⊎◌, Bool, List, [], ◌∷◌, length, take, slice_get, IsTrue, None, Some}
 use Rattle.std.specs.List.{AllByRecursion, Contains}
 use Rattle.std.specs.Ordering.{nat_cmp, ordering_then, is_le}
 use Rattle.std.specs.Cmp.Lexicographic.{slice_cmp}

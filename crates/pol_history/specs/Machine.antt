@@ -1,5 +1,5 @@
 -- The pure machine: a history, and for each slot at most one endpoint that was taken with a revision.
-use Rattle.std.specs.Prelude.{ℕ, ◌==◌, Bool, false, if◌then◌else◌, List, [], ◌∷◌, ◌++◌, length, find, Option, None, Some}
+use Rattle.std.specs.Prelude.{◌≡◌, ℕ, ◌==◌, Bool, true, false, if◌then◌else◌, List, [], ◌∷◌, ◌++◌, length, find, slice_get, Option, None, Some}
 use Rattle.pol_mapkey.specs.Entries.{Entry as MapEntry}
 use Rattle.pol_model.specs.After.{after}
 use Rattle.pol_model.specs.Committed.{committed_of}
@@ -67,11 +67,14 @@ endpoint_in slot endpoints = find (λ row. row.slot == slot) endpoints
 abbrev pub endpoint_id : Endpoint → EndpointId
 endpoint_id row = record { name = row.name; added = row.added }
 
+-- the endpoint is taken at the present revision
+abbrev pub taken_now : List HistoryEvent → Endpoint → Taken
+taken_now history row = record { endpoint = endpoint_id row; revision = revision_of history }
+
 -- A take replaces what was taken for the slot; one that finds no endpoint changes nothing.
 abbrev pub step_take : Machine → ℕ → Option Endpoint → Stepped
 step_take m slot None = (reply.Gone, m)
-step_take m slot (Some row) =
-    (reply.Took (revision_of m.history), with_taken slot (Some (record { endpoint = endpoint_id row; revision = revision_of m.history })) m)
+step_take m slot (Some row) = (reply.Took (revision_of m.history), with_taken slot (Some (taken_now m.history row)) m)
 
 -- ---- finish
 
@@ -80,20 +83,23 @@ abbrev pub is_reported : ℕ → Option LastReport → Bool
 is_reported revision None = false
 is_reported revision (Some last) = last.revision == revision
 
--- the map at the taken revision is published where it fits the limit, and reported as too large where it doesn't
-abbrev pub report_table : Options → Machine → Taken → List MapEntry → Stepped
-report_table options m taken table =
-    if fits_limit options.map_max (length table)
-    then (reply.Published taken.revision, with_event (event.Publish taken.endpoint taken.revision table) m)
-    else (reply.Full taken.revision (length table), with_event (event.Blocked taken.endpoint taken.revision (length table)) m)
+-- the map at the taken revision is published where it fits the limit, and else reported as too large
+abbrev pub report_table : Options → Machine → Taken → List MapEntry → Bool → Stepped
+report_table options m taken table true = (reply.Published taken.revision, with_event (event.Publish taken.endpoint taken.revision table) m)
+report_table options m taken table false =
+    (reply.Full taken.revision (length table), with_event (event.Blocked taken.endpoint taken.revision (length table)) m)
+
+-- nothing is reported where the last report is of the taken revision
+abbrev pub report_unless : Options → Machine → Taken → List MapEntry → Bool → Stepped
+report_unless options m taken table true = (reply.Already taken.revision, m)
+report_unless options m taken table false = report_table options m taken table (fits_limit options.map_max (length table))
 
 -- what is done with what was taken, where the endpoint's live row is this
 abbrev pub report_taken : Options → Machine → Taken → Option Endpoint → Stepped
 report_taken options m taken None = (reply.Gone, m)
 report_taken options m taken (Some row) =
-    if is_reported taken.revision (last_report taken.endpoint m.history)
-    then (reply.Already taken.revision, m)
-    else report_table options m taken (policy_map options (state_after options m.history taken.revision) row)
+    report_unless options m taken (policy_map options (state_after options m.history taken.revision) row)
+    (is_reported taken.revision (last_report taken.endpoint m.history))
 
 -- A finish spends what was taken for the slot.
 abbrev pub step_finish : Options → Machine → ℕ → Option Taken → Stepped
@@ -107,6 +113,12 @@ abbrev pub reply_found : Looked → Reply
 reply_found (NoEndpoint revision) = reply.NoEndpoint revision
 reply_found (NotYet revision) = reply.NotYet revision
 reply_found (Found revision word) = reply.Verdict revision word
+
+-- ---- histories of the machine
+
+-- all commits of the history are of pass 0
+pub record AreOfPassZero (history : List HistoryEvent) : Type 0 where
+  pub each : (i pass number : ℕ) (request : Request) → slice_get history i ≡ Some (event.Commit pass number request) → pass ≡ 0
 
 -- ---- steps
 

@@ -1,5 +1,5 @@
 -- Reports of an endpoint: that its map was published, or that it is too large to be.
-use Rattle.std.specs.Prelude.{⊥, ◌≡◌, ℕ, ◌+◌, ◌<◌, nat_le, Bool, true, if◌then◌else◌, List, [], ◌∷◌, length, slice_get, Option, None, Some, option_map, option_and_then}
+use Rattle.std.specs.Prelude.{◌≡◌, ℕ, ◌+◌, ◌<◌, nat_le, Bool, true, if◌then◌else◌, List, [], ◌∷◌, length, slice_get, Option, None, Some, option_map}
 use Rattle.pol_mapkey.specs.Entries.{Entry as MapEntry}
 use Rattle.pol_model.specs.PolicyMap.{policy_map, map_size}
 use Rattle.pol_model.specs.declared.options.Options.{Options}
@@ -33,7 +33,8 @@ pub record IsLastReport (history : List HistoryEvent) (n i : ℕ) (endpoint : En
 
 -- the revision of the last published map, where a report was made before
 abbrev pub published_before : Option LastReport → Option ℕ
-published_before last = option_and_then last (λ report. report.published)
+published_before None = None
+published_before (Some report) = report.published
 
 -- the last report of the endpoint after an event, which so many commits stand before
 abbrev pub report_after : EndpointId → ℕ → Option LastReport → HistoryEvent → Option LastReport

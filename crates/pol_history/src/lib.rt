@@ -2,6 +2,7 @@
 #![tactic(auto)]
 
 mod event;
+pub mod laws;
 mod machine;
 
 pub use event::{EndpointId, HistoryEvent, LastReport};

@@ -1,6 +1,6 @@
 -- Which answers one history places: each line of a session stands between two beginnings of the history, and its answer
 -- is one that the line's call of the node allows between them.
-use Rattle.std.specs.Prelude.{⊥, ◌≡◌, ℕ, ◌+◌, ◌==◌, ◌≤◌, if◌then◌else◌, List, length, take, slice_get, count_by, Option, None, Some, Ok, Err}
+use Rattle.std.specs.Prelude.{◌≡◌, ℕ, ◌+◌, ◌==◌, ◌≤◌, if◌then◌else◌, List, length, take, slice_get, count_by, Option, None, Some, Ok, Err}
 use Rattle.std.specs.List.{filter_map}
 use Rattle.pol_model.specs.declared.options.Options.{Options}
 use Rattle.pol_model.specs.declared.request.Request.{Request}
