@@ -19,7 +19,7 @@ use Rattle.pol_history.specs.Commits.{commits_by, live_endpoint, revision_of, st
 use Rattle.pol_history.specs.Legal.{IsLegal}
 use Rattle.pol_history.specs.MayFollow.{BlockedMayFollow, CommitMayFollow, EachMayFollow, FollowOn, MayFollow, PublishMayFollow, ReportMayFollow}
 use Rattle.pol_history.specs.Reports.{IsLastReport, IsReport, Reports, last_report, map_at, size_at}
-use Rattle.pol_history.proofs.Cuts.{state-take}
+use Rattle.pol_history.proofs.Cuts.{state-cut, state-take}
 use Rattle.pol_history.proofs.LastReports.{IsFound, Tells, found, told}
 use Rattle.pol_history.proofs.Lists.{get_cases, get_seam, get_take}
 
@@ -38,6 +38,12 @@ pub size-take : (options : Options) (n : ℕ) (history : List HistoryEvent) (end
     → size_at options history endpoint revision ≡ size_at options (take n history) endpoint revision
 size-take options n history endpoint revision within =
     ap (λ (s : State). option_map (map_size options s) (live_endpoint endpoint s)) (state-take options n history revision within)
+
+-- the maps of a beginning are those of the history
+pub map-front : (options : Options) (front back : List HistoryEvent) (endpoint : EndpointId) (revision : ℕ) → revision ≤ revision_of front
+    → map_at options (front ++ back) endpoint revision ≡ map_at options front endpoint revision
+map-front options front back endpoint revision within =
+    ap (λ (s : State). option_map (policy_map options s) (live_endpoint endpoint s)) (state-cut options front back revision within)
 
 take_within : (history : List HistoryEvent) (i : ℕ) → i < length history → length (take i history) ≡ i
 take_within history i below = length-take-le i history (omega arith)

@@ -6,3 +6,8 @@ pub mod LegalEvents
 pub mod Lives
 pub mod Names
 pub mod Steps
+pub mod Published
+pub mod Grown
+pub mod Schedule
+pub mod Contents
+pub mod Looks

@@ -20,7 +20,8 @@ use Rattle.pol_history.specs.declared.machine.Event.{Event}
 use Rattle.pol_history.specs.declared.machine.Event.TheVariants as step
 use Rattle.pol_history.specs.Commits.{Lives, commits_in, live_endpoint, revision_of, same_endpoint, state_after, state_now}
 use Rattle.pol_history.specs.Legal.{IsLegal}
-use Rattle.pol_history.specs.Machine.{Machine, AreOfPassZero, Taken, commit_of, endpoint_id, endpoint_in, history_of_steps, is_reported, machine_from, machine_start, report_table, report_taken, report_unless, step_commit, step_finish, step_of, step_take, taken_now, with_event, with_taken}
+use Rattle.pol_history.specs.Machine.{Machine, AreOfPassZero, HasSteps, Taken, commit_of, endpoint_id, endpoint_in, history_of_steps, is_reported, machine_from, machine_start, report_table, report_taken, report_unless, step_commit, step_finish, step_of, step_take, taken_now, with_event, with_taken}
+use Rattle.pol_history.specs.MachineKeeps.{IsSound, IsTaken}
 use Rattle.pol_history.specs.MayFollow.{MayFollow, ReportMayFollow}
 use Rattle.pol_history.specs.Reports.{fits_limit, last_report, published_before}
 use Rattle.pol_history.proofs.Cuts.{revision-append, revision-take, state-cut, state-now}
@@ -46,19 +47,6 @@ pub last-bounds : (options : Options) (history : List HistoryEvent) (endpoint : 
 last-bounds options history endpoint legal = last_bounds options history endpoint (last_report endpoint history) legal (told history endpoint)
 
 -- ---- what was taken
-
--- The endpoint was live in the slot at the revision, and each report of it came before that revision's commits.
-pub record IsTaken (options : Options) (history : List HistoryEvent) (slot : ℕ) (taken : Taken) : Type 0 where
-  pub committed : taken.revision ≤ revision_of history
-  pub row : Endpoint
-  pub live : live_endpoint taken.endpoint (state_after options history taken.revision) ≡ Some row
-  pub in_slot : row.slot ≡ slot
-  pub newer : IfSome (last_report taken.endpoint history) (λ last. last.commits ≤ taken.revision)
-
-pub record IsSound (options : Options) (m : Machine) : Type 0 where
-  pub legal : IsLegal options m.history
-  pub by_zero : AreOfPassZero m.history
-  pub taken : (slot : ℕ) (taken : Taken) → m.taken slot ≡ Some taken → IsTaken options m.history slot taken
 
 -- an event that is no report of the endpoint leaves what was taken
 taken_later : (options : Options) (history : List HistoryEvent) (new : HistoryEvent) (slot : ℕ) (taken : Taken)
@@ -283,3 +271,9 @@ start_sound options = record {
   by_zero = record { each = λ i pass number request there. absurd (cc) };
   taken = λ slot taken there. absurd (cc);
 }
+
+-- a history that steps give is legal
+pub steps_legal : (options : Options) (history : List HistoryEvent) → HasSteps options history → IsLegal options history × AreOfPassZero history
+steps_legal options history given =
+    let sound = steps_keep options machine_start given.steps (start_sound options) in
+    (subst (λ (h : List HistoryEvent). IsLegal options h) given.give sound.legal, subst AreOfPassZero given.give sound.by_zero)

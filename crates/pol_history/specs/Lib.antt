@@ -4,5 +4,7 @@ pub mod Legal
 pub mod MayFollow
 pub mod Look
 pub mod Machine
+pub mod MachineKeeps
 pub mod Grows
 pub mod Calls
+pub mod Content

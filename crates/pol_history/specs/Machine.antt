@@ -136,6 +136,11 @@ machine_from options m (next ∷ later) = machine_from options (step_of options 
 abbrev pub machine_after : Options → List Event → Machine
 machine_after options steps = machine_from options machine_start steps
 
--- the history of steps
+-- the history that steps give
 abbrev pub history_of_steps : Options → List Event → List HistoryEvent
 history_of_steps options steps = (machine_after options steps).history
+
+-- some steps give the history
+pub record HasSteps (options : Options) (history : List HistoryEvent) : Type 0 where
+  pub steps : List Event
+  pub give : history_of_steps options steps ≡ history

@@ -29,6 +29,17 @@ pub record IsLastReport (history : List HistoryEvent) (n i : ℕ) (endpoint : En
   pub among : i < n
   pub none_after : (later other : ℕ) → i < later → later < n → IsReport history later endpoint other → ⊥
 
+-- event i of the history publishes a map of the endpoint at that revision
+pub record IsPublish (history : List HistoryEvent) (i : ℕ) (endpoint : EndpointId) (revision : ℕ) : Type 0 where
+  pub table : List MapEntry
+  pub there : slice_get history i ≡ Some (event.Publish endpoint revision table)
+
+-- the endpoint's last published map is of that revision
+pub record IsLastPublish (history : List HistoryEvent) (endpoint : EndpointId) (revision : ℕ) : Type 0 where
+  pub place : ℕ
+  pub publish : IsPublish history place endpoint revision
+  pub none_after : (later other : ℕ) → place < later → IsPublish history later endpoint other → ⊥
+
 -- ---- by a fold
 
 -- the revision of the last published map, where a report was made before
