@@ -11,3 +11,4 @@ pub mod Grown
 pub mod Schedule
 pub mod Contents
 pub mod Looks
+pub mod Small

@@ -8,3 +8,5 @@ pub mod MachineKeeps
 pub mod Grows
 pub mod Calls
 pub mod Content
+pub mod ExampleEvents
+pub mod SmallHistories

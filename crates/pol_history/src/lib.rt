@@ -2,6 +2,7 @@
 #![tactic(auto)]
 
 mod event;
+pub mod examples;
 pub mod laws;
 mod machine;
 
