@@ -1,5 +1,5 @@
 -- The content that a history makes: the revision, the live endpoints and the last published maps.
-use Rattle.std.proofs.Common.{zero, suc, ◌≡◌, ◌≢◌, ℕ, ◌+◌, ◌≤◌, ◌⊎◌, inl, inr, not, Bool, true, false, cond, List, [], ◌∷◌, ◌++◌, length, find, filter, insert, count_by, nat_lt, bytes_eq, Option, None, Some, option_map, refl, sym, ap, ◌∙◌, subst, arith, append-nil}
+use Rattle.std.proofs.Common.{zero, suc, ◌≡◌, ℕ, ◌+◌, ◌≤◌, not, Bool, true, false, cond, List, [], ◌∷◌, ◌++◌, find, filter, insert, count_by, nat_lt, bytes_eq, Option, None, Some, option_map, refl, sym, ap, ◌∙◌, subst, arith, append-nil}
 use Rattle.std.specs.Cmp.Lexicographic.{bytes_decides}
 use Rattle.std.specs.List.{list_any}
 use Rattle.std.proofs.lemmas.Bool.{both_ways, false_from_ne_true, or_parts}
@@ -19,7 +19,7 @@ use Rattle.pol_history.specs.declared.event.HistoryEvent.{HistoryEvent}
 use Rattle.pol_history.specs.declared.event.HistoryEvent.TheVariants as event
 use Rattle.pol_history.specs.declared.event.LastReport.{LastReport}
 use Rattle.pol_history.specs.Commits.{commits_in, revision_of, same_endpoint, state_now}
-use Rattle.pol_history.specs.Content.{Content, PublishedMap, content_after, content_from, content_of, live_after, no_content, with_live}
+use Rattle.pol_history.specs.Content.{Content, PublishedMap, content_after, content_from, content_of, live_after, no_content}
 use Rattle.pol_history.specs.Legal.{IsLegal}
 use Rattle.pol_history.specs.MayFollow.{MayFollow}
 use Rattle.pol_history.specs.Reports.{last_published, last_report, map_at, published_before, report_after}
@@ -211,8 +211,7 @@ table_if options history endpoint false new published here others map is = other
 table_later : (options : Options) (history : List HistoryEvent) (new : HistoryEvent) (endpoint : EndpointId) (published : Option PublishedMap)
     → HasTable options history endpoint published → HasTable options (history ++ new ∷ []) endpoint published
 table_later options history new endpoint published so_far map is =
-    let before = so_far map is in
-    (
+    let before = so_far map is in (
       omega (arith, before.0, revision-append history (new ∷ [])),
       map-front options history (new ∷ []) endpoint map.revision before.0 ∙ before.1,
     )

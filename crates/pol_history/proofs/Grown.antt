@@ -1,5 +1,5 @@
 -- The reports of one endpoint in a legal history are of ever later revisions.
-use Rattle.std.proofs.Common.{◌≡◌, ℕ, zero, suc, ◌<◌, ◌≤◌, inl, inr, List, length, take, slice_get, Option, None, Some, refl, ap, sym, ◌∙◌, subst, arith}
+use Rattle.std.proofs.Common.{◌≡◌, ℕ, zero, suc, ◌<◌, ◌≤◌, inl, inr, List, length, take, Option, None, Some, refl, sym, subst, arith}
 use Rattle.std.proofs.lemmas.Bool.{cases_lt, cases_order}
 use Rattle.std.proofs.lemmas.List.{length-take-le}
 use Rattle.pol_mapkey.specs.Entries.{Entry as MapEntry}
@@ -25,7 +25,7 @@ module _ (options : Options) (history : List HistoryEvent) (legal : IsLegal opti
   by_last i j r s less first second before (Some last) tells =
       let long : length (take j history) ≡ j = length-take-le j history (omega (arith, report_within history j endpoint s second)) in
       let latest = last_of_take history j tells.place endpoint last.revision
-          (subst (λ (n : ℕ). IsLastReport (take j history) n tells.place endpoint last.revision) long tells.report) in
+      (subst (λ (n : ℕ). IsLastReport (take j history) n tells.place endpoint last.revision) long tells.report) in
       let newer : last.revision < s = legal.newer j tells.place endpoint s last.revision second latest in
       elim (cases_order i tells.place) [
         | inl same ↦
@@ -69,7 +69,7 @@ module _ (options : Options) (history : List HistoryEvent) (legal : IsLegal opti
   bound_by i j r s less first second (Some last) tells =
       let long : length (take j history) ≡ j = length-take-le j history (omega (arith, report_within history j endpoint s second)) in
       let latest = last_of_take history j tells.place endpoint last.revision
-          (subst (λ (n : ℕ). IsLastReport (take j history) n tells.place endpoint last.revision) long tells.report) in
+      (subst (λ (n : ℕ). IsLastReport (take j history) n tells.place endpoint last.revision) long tells.report) in
       let enough = legal.no_older_commits j tells.place endpoint s last.revision second latest in
       elim (cases_lt tells.place i) [
         | inl later ↦ absurd (latest.none_after i r later less first)

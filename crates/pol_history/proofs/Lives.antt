@@ -1,6 +1,5 @@
 -- An endpoint that is live at a revision was live at each one before, since it was added.
 use Rattle.std.proofs.Common.{◌≡◌, ◌≢◌, ℕ, zero, suc, ◌≤◌, ◌<◌, ◌-◌, Bool, true, false, cond, not, List, [], ◌∷◌, length, take, drop, find, filter, insert, count_by, nat_lt, bytes_eq, ◌++◌, Option, None, Some, refl, ap, sym, ◌∙◌, subst, arith, length-take}
-use Rattle.std.specs.List.{slice_get}
 use Rattle.std.proofs.lemmas.List.{take-append-drop, take-take}
 use Rattle.std.proofs.lemmas.Option.{slice_get_within}
 use Rattle.std.proofs.lemmas.Slice.Eq.{bytes_eq-Decides}

@@ -1,5 +1,5 @@
 -- Looks in longer histories are no older, and the bounds of an endpoint's last report.
-use Rattle.std.proofs.Common.{◌≡◌, ℕ, ◌+◌, ◌<◌, ◌≤◌, inl, inr, List, [], ◌∷◌, ◌++◌, length, take, drop, IfSome, Option, None, Some, refl, sym, ap, ◌∙◌, subst, arith, append_assoc}
+use Rattle.std.proofs.Common.{◌≡◌, ℕ, ◌≤◌, inl, inr, List, ◌++◌, length, take, drop, IfSome, Option, None, Some, refl, sym, ap, ◌∙◌, subst, arith, append_assoc}
 use Rattle.std.specs.List.{slice_get}
 use Rattle.std.proofs.lemmas.Bool.{cases_order}
 use Rattle.std.proofs.lemmas.List.{take-append-drop, take-append-le, take-take}
@@ -17,11 +17,11 @@ use Rattle.pol_history.specs.declared.event.EndpointId.{EndpointId}
 use Rattle.pol_history.specs.declared.event.HistoryEvent.{HistoryEvent}
 use Rattle.pol_history.specs.declared.event.HistoryEvent.TheVariants as event
 use Rattle.pol_history.specs.declared.event.LastReport.{LastReport}
-use Rattle.pol_history.specs.Commits.{Lives, live_endpoint, revision_of, state_after, state_now}
+use Rattle.pol_history.specs.Commits.{Lives, revision_of, state_after, state_now}
 use Rattle.pol_history.specs.Grows.{Grows, PassView}
 use Rattle.pol_history.specs.Legal.{IsLegal}
-use Rattle.pol_history.specs.Look.{FindsSince, Found, Looked, NoEndpoint, NotYet, look, look_live, look_published}
-use Rattle.pol_history.specs.Reports.{IsLastPublish, IsPublish, last_published, last_report}
+use Rattle.pol_history.specs.Look.{FindsSince, Found, look, look_live, look_published}
+use Rattle.pol_history.specs.Reports.{IsLastPublish, last_published, last_report}
 use Rattle.pol_history.proofs.Cuts.{revision-take}
 use Rattle.pol_history.proofs.Grown.{newest}
 use Rattle.pol_history.proofs.LastReports.{Tells, told}

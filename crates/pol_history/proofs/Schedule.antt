@@ -1,6 +1,6 @@
 -- Each legal history with all its commits by pass 0 is the history of steps: before a commit those slots are taken whose
 -- maps at the present revision are reported later, and a report is a finish.
-use Rattle.std.proofs.Common.{zero, suc, ◌≡◌, ◌≢◌, ℕ, ◌+◌, ◌==◌, ◌<◌, ◌≤◌, ◌⊎◌, inl, inr, eqb, not, Bool, true, false, cond, if◌then◌else◌, List, [], ◌∷◌, ◌++◌, length, map, take, IfSome, Option, None, Some, option_map, refl, sym, ap, ◌∙◌, subst, arith, append_assoc, append-nil, length-append}
+use Rattle.std.proofs.Common.{zero, suc, ◌≡◌, ◌≢◌, ℕ, ◌+◌, ◌==◌, ◌<◌, ◌≤◌, inl, inr, not, Bool, true, false, if◌then◌else◌, List, [], ◌∷◌, ◌++◌, length, map, take, IfSome, Option, None, Some, option_map, refl, sym, ap, ◌∙◌, subst, arith, append_assoc, append-nil, length-append}
 use Rattle.std.specs.List.{cons_option, filter_map, slice_get}
 use Rattle.std.proofs.Math.Seq.{take-length}
 use Rattle.std.proofs.lemmas.Bool.{cases_lt, cases_order, eqb-true}
@@ -8,7 +8,6 @@ use Rattle.std.proofs.lemmas.Bool.Decides.{eqb_tells}
 use Rattle.std.proofs.lemmas.List.{take-append-le}
 use Rattle.pol_data.proofs.Members.{In}
 use Rattle.pol_mapkey.specs.Entries.{Entry as MapEntry}
-use Rattle.pol_model.specs.Fault.{fault_of}
 use Rattle.pol_model.specs.PolicyMap.{policy_map, map_size}
 use Rattle.pol_model.specs.State.{State}
 use Rattle.pol_model.specs.declared.answer.Fault.{Fault}
@@ -21,17 +20,17 @@ use Rattle.pol_history.specs.declared.event.HistoryEvent.TheVariants as event
 use Rattle.pol_history.specs.declared.event.LastReport.{LastReport}
 use Rattle.pol_history.specs.declared.machine.Event.{Event}
 use Rattle.pol_history.specs.declared.machine.Event.TheVariants as step
-use Rattle.pol_history.specs.Commits.{commits_by, commits_in, live_endpoint, revision_of, state_after, state_now}
+use Rattle.pol_history.specs.Commits.{commits_by, live_endpoint, revision_of, state_after, state_now}
 use Rattle.pol_history.specs.Legal.{IsLegal}
-use Rattle.pol_history.specs.Machine.{Machine, AreOfPassZero, HasSteps, Taken, commit_of, endpoint_id, endpoint_in, history_of_steps, is_reported, machine_from, machine_start, report_table, report_taken, report_unless, step_commit, step_finish, step_of, step_take, taken_now}
+use Rattle.pol_history.specs.Machine.{Machine, AreOfPassZero, HasSteps, Taken, endpoint_id, endpoint_in, history_of_steps, is_reported, machine_from, report_table, report_taken, report_unless, step_commit, step_finish, step_of, step_take, taken_now}
 use Rattle.pol_history.specs.MayFollow.{BlockedMayFollow, CommitMayFollow, MayFollow, PublishMayFollow, ReportMayFollow}
-use Rattle.pol_history.specs.Reports.{IsReport, Reports, fits_limit, last_report, map_at, size_at}
+use Rattle.pol_history.specs.Reports.{IsReport, Reports, fits_limit, last_report}
 use Rattle.pol_history.proofs.Grown.{commits_bound}
 use Rattle.pol_history.proofs.Cuts.{revision-append, revision-grows, state-cut, state-now}
 use Rattle.pol_history.proofs.LastReports.{one_revision}
 use Rattle.pol_history.proofs.LegalEvents.{legal_front, legal_last}
 use Rattle.pol_history.proofs.Lists.{get_behind, get_seam, no_element}
-use Rattle.pol_history.proofs.Lives.{lives-then, lives-back}
+use Rattle.pol_history.proofs.Lives.{lives-then}
 use Rattle.pol_history.proofs.Names.{live-id, live-in, one_in_slot, slot-found}
 
 -- ---- machines, by their parts
@@ -318,9 +317,9 @@ added_early : (options : Options) (front : List HistoryEvent) (new : HistoryEven
     → (i : ℕ) (endpoint : EndpointId) (revision : ℕ) → IsReport back i endpoint revision → endpoint.added ≤ revision
 added_early options front new back legal i endpoint revision report =
     legal.since_added (length front + suc i) endpoint revision (behind front (new ∷ back) (suc i) endpoint revision (later report))
-    where
-      later : IsReport back i endpoint revision → IsReport (new ∷ back) (suc i) endpoint revision
-      later r = record { event = r.event; there = r.there; reports = r.reports }
+  where
+    later : IsReport back i endpoint revision → IsReport (new ∷ back) (suc i) endpoint revision
+    later r = record { event = r.event; there = r.there; reports = r.reports }
 
 -- ---- a report
 
@@ -370,14 +369,14 @@ module _ (options : Options) (front : List HistoryEvent) (new : HistoryEvent) (b
       let live_now = still_live options front new other its (omega (arith, old)) its_live in
       let later : IsReport (new ∷ back) (suc i) other at = record { event = report.event; there = report.there; reports = report.reports } in
       let apart : its.slot ≢ row.slot = (λ same.
-          let one = one_slot options front other endpoint its row live_now live same in
-          let again : IsReport (front ++ new ∷ back) (length front + suc i) endpoint at =
-          subst (λ (e : EndpointId). IsReport (front ++ new ∷ back) (length front + suc i) e at) one (behind front (new ∷ back) (suc i) other at later) in
-          let bound = commits_bound options (front ++ new ∷ back) legal endpoint (length front + 0) (length front + suc i) revision at (omega arith)
-              (behind front (new ∷ back) 0 endpoint revision here) again in
-          let all : revision_of (take (length front + 0) (front ++ new ∷ back)) ≡ revision_of front =
-          ap (λ (n : ℕ). revision_of (take n (front ++ new ∷ back))) (omega arith) ∙ ap revision_of (front_of front (new ∷ back)) in
-          omega (arith, bound, all)) in
+      let one = one_slot options front other endpoint its row live_now live same in
+      let again : IsReport (front ++ new ∷ back) (length front + suc i) endpoint at =
+      subst (λ (e : EndpointId). IsReport (front ++ new ∷ back) (length front + suc i) e at) one (behind front (new ∷ back) (suc i) other at later) in
+      let bound = commits_bound options (front ++ new ∷ back) legal endpoint (length front + 0) (length front + suc i) revision at (omega arith)
+      (behind front (new ∷ back) 0 endpoint revision here) again in
+      let all : revision_of (take (length front + 0) (front ++ new ∷ back)) ≡ revision_of front =
+      ap (λ (n : ℕ). revision_of (take n (front ++ new ∷ back))) (omega arith) ∙ ap revision_of (front_of front (new ∷ back)) in
+      omega (arith, bound, all)) in
       spent_other row.slot its.slot (first_taken front row now taken) apart
       ∙ first_other now its.slot apart
       ∙ pending (suc i) other at its later before live_now
@@ -408,7 +407,7 @@ module _ (options : Options) (front back : List HistoryEvent) (taken : ℕ → O
       let first = first_taken front row now taken in
       let is = first_here options front new back taken legal pending endpoint revision (refl, refl) refl may.report row live now refl in
       let finish = finished options front first endpoint revision row may.report live is table true
-          (known options front first endpoint revision row may.report live is (policy_map options) table may.canonical) may.fits in
+      (known options front first endpoint revision row may.report live is (policy_map options) table may.canonical) may.fits in
       record {
         now = spent row.slot first;
         is = ap (λ (o : Option Endpoint). machine_from options (machine front taken) (finish_of front revision o)) live
@@ -430,7 +429,7 @@ module _ (options : Options) (front back : List HistoryEvent) (taken : ℕ → O
       let size : length table ≡ count = known options front first endpoint revision row may.report live is (map_size options) count may.size in
       let too_many : fits_limit options.map_max (length table) ≡ false = ap (fits_limit options.map_max) size ∙ not_fits (fits_limit options.map_max count) may.too_many in
       let finish = finished options front first endpoint revision row may.report live is table false refl too_many
-          ∙ ap (λ (n : ℕ). machine (front ++ event.Blocked endpoint revision n ∷ []) (spent row.slot first)) size in
+      ∙ ap (λ (n : ℕ). machine (front ++ event.Blocked endpoint revision n ∷ []) (spent row.slot first)) size in
       record {
         now = spent row.slot first;
         is = ap (λ (o : Option Endpoint). machine_from options (machine front taken) (finish_of front revision o)) live
@@ -511,7 +510,7 @@ module _ (options : Options) (front back : List HistoryEvent) (taken : ℕ → O
         | inr more ↦
             let now : revision ≡ revision_of front = omega arith in
             let inside = in_filter_map (slot_for options front) back i report.event row.slot report.there
-                (asked options front report.event endpoint revision row report.reports now live_now) in
+            (asked options front report.event endpoint revision row report.reports now live_now) in
             takes_in options front row.slot row (slot-found options front row (live-in options front endpoint row live_now)) slots taken inside
             ∙ ap (λ (e : EndpointId). Some (taken_of e (revision_of front))) (live-id options front endpoint row live_now)
             ∙ ap (λ (n : ℕ). Some (taken_of endpoint n)) (sym now)
@@ -550,8 +549,8 @@ plays options front (new ∷ back) taken legal by_zero pending =
     let whole : front ++ new ∷ back ≡ (front ++ new ∷ []) ++ back = sym (append_assoc front (new ∷ []) back) in
     let legal_then = subst (λ (h : List HistoryEvent). IsLegal options h) whole legal in
     let here = played options front new back taken legal
-        (λ pass number request same. by_zero.each (length front) pass number request (get_seam front new back ∙ ap Some same))
-        pending (legal_last options front new (legal_front options (front ++ new ∷ []) back legal_then)) in
+    (λ pass number request same. by_zero.each (length front) pass number request (get_seam front new back ∙ ap Some same))
+    pending (legal_last options front new (legal_front options (front ++ new ∷ []) back legal_then)) in
     ap (λ (m : Machine). m.history) (steps_append options (machine front taken) (steps_of options front new back) (steps_from options (front ++ new ∷ []) back))
     ∙ ap (λ (m : Machine). (machine_from options m (steps_from options (front ++ new ∷ []) back)).history) here.is
     ∙ plays options (front ++ new ∷ []) back here.now legal_then (subst AreOfPassZero whole by_zero) here.pending

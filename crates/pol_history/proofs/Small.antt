@@ -1,10 +1,7 @@
 -- What the events of a small legal history tell.
-use Rattle.std.proofs.Common.{◌≡◌, ℕ, false, true, List, [], ◌∷◌, take, None, Some, arith}
-use Rattle.std.specs.List.{slice_get}
+use Rattle.std.proofs.Common.{◌≡◌, ℕ, [], ◌∷◌, None, Some}
 use Rattle.pol_addr.specs.Address.{addr_of_octets}
-use Rattle.pol_model.specs.declared.options.Options.{Options}
 use Rattle.pol_model.specs.declared.row.Endpoint.{Endpoint}
-use Rattle.pol_history.specs.declared.event.HistoryEvent.{HistoryEvent}
 use Rattle.pol_history.specs.ExampleEvents.{web}
 
 -- the endpoint's row: without labels, in the first slot

@@ -1,5 +1,5 @@
 -- Reports of an endpoint: that its map was published, or that it is too large to be.
-use Rattle.std.specs.Prelude.{◌≡◌, ℕ, ◌+◌, ◌<◌, nat_le, Bool, true, if◌then◌else◌, List, [], ◌∷◌, length, slice_get, Option, None, Some, option_map}
+use Rattle.std.specs.Prelude.{◌≡◌, ℕ, ◌+◌, ◌<◌, nat_le, Bool, true, if◌then◌else◌, List, [], ◌∷◌, slice_get, Option, None, Some, option_map}
 use Rattle.pol_mapkey.specs.Entries.{Entry as MapEntry}
 use Rattle.pol_model.specs.PolicyMap.{policy_map, map_size}
 use Rattle.pol_model.specs.declared.options.Options.{Options}

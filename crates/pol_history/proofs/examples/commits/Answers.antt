@@ -1,4 +1,4 @@
-use Rattle.std.proofs.Common.{◌≡◌, [], ◌∷◌, refl, arith}
+use Rattle.std.proofs.Common.{◌≡◌, refl, arith}
 use Rattle.pol_model.specs.declared.answer.Fault.TheVariants.{DuplicateEndpoint}
 use Rattle.pol_model.specs.declared.options.Mode.TheVariants.{Always}
 use Rattle.pol_model.specs.declared.request.Request.TheVariants.{SetMode}

@@ -1,4 +1,4 @@
-use Rattle.std.proofs.Common.{◌≡◌, [], ◌∷◌, refl, arith}
+use Rattle.std.proofs.Common.{[], ◌∷◌, refl, arith}
 use Rattle.std.proofs.lemmas.Bool.{false≢true}
 use Rattle.pol_history.specs.ExampleEvents.{all_in, all_out, at_most, blocked, open_map, publish}
 use Rattle.pol_history.specs.SmallHistories as history

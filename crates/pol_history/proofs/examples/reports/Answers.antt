@@ -1,4 +1,4 @@
-use Rattle.std.proofs.Common.{◌≤◌, ◌<◌, [], ◌∷◌, refl, arith}
+use Rattle.std.proofs.Common.{◌≤◌, ◌<◌, [], refl, arith}
 use Rattle.pol_history.specs.ExampleEvents.{at_most, open_map, publish}
 use Rattle.pol_history.specs.SmallHistories as history
 use Rattle.pol_history.proofs.LegalEvents.{legal_follows}
