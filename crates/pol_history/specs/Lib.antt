@@ -7,6 +7,8 @@ pub mod Machine
 pub mod MachineKeeps
 pub mod Grows
 pub mod Calls
+pub mod Regenerate
 pub mod Content
 pub mod ExampleEvents
 pub mod SmallHistories
+pub mod SmallRuns

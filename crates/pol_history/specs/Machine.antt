@@ -135,6 +135,14 @@ machine_from options m (next ∷ later) = machine_from options (step_of options 
 abbrev pub machine_after : Options → List Event → Machine
 machine_after options steps = machine_from options machine_start steps
 
+-- the replies to steps
+abbrev pub replies_from : Options → Machine → List Event → List Reply
+replies_from options m [] = []
+replies_from options m (next ∷ later) = (step_of options m next).0 ∷ replies_from options (step_of options m next).1 later
+
+abbrev pub replies_to : Options → List Event → List Reply
+replies_to options steps = replies_from options machine_start steps
+
 -- the history that steps give
 abbrev pub history_of_steps : Options → List Event → List HistoryEvent
 history_of_steps options steps = (machine_after options steps).history

@@ -1,7 +1,10 @@
-//! Small histories: a legal one, and some that are not, each for one reason.
+//! Small histories: a legal one, and some that are not, each for one reason. And small runs of the machine.
+ghost use Rattle.std.specs.Prelude.{◌≡◌};
 ghost use Rattle.pol_history.specs.ExampleEvents.{at_most};
 ghost use Rattle.pol_history.specs.Legal.{IsLegal};
+ghost use Rattle.pol_history.specs.Machine.{replies_to};
 ghost use Rattle.pol_history.specs.SmallHistories as history;
+ghost use Rattle.pol_history.specs.SmallRuns as runs;
 
 /// Two passes, a map that is too large, one that is published, and an endpoint that comes back.
 pub fn legal()
@@ -32,4 +35,11 @@ pub fn maps()
     ensures above_the_limit { IsLegal (at_most 1) history.map_above_the_limit → ⊥ }
     ensures other_count { IsLegal (at_most 1) history.other_count → ⊥ }
     ensures blocked_that_fits { IsLegal (at_most 2) history.blocked_that_fits → ⊥ }
+{}
+
+/// What the machine replies, step by step ('profile').
+pub fn replies()
+    ensures taken_before { replies_to (at_most 16384) runs.taken_before ≡ runs.taken_before_replies }
+    ensures too_large { replies_to (at_most 1) runs.too_large ≡ runs.too_large_replies }
+    ensures taken_again { replies_to (at_most 2) runs.taken_again ≡ runs.taken_again_replies }
 {}
