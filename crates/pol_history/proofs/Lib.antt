@@ -1,0 +1,14 @@
+pub mod Lists
+pub mod Cuts
+pub mod Same
+pub mod LastReports
+pub mod LegalEvents
+pub mod Lives
+pub mod Names
+pub mod Steps
+pub mod Published
+pub mod Grown
+pub mod Schedule
+pub mod Contents
+pub mod Looks
+pub mod Small

@@ -1,0 +1,27 @@
+-- How what a pass has seen grows in a call.
+use Rattle.std.specs.Prelude.{◌≡◌, ℕ, List, [], ◌++◌}
+use mathlib.Core.List.{IsPrefix}
+use Rattle.pol_model.specs.declared.options.Options.{Options}
+use Rattle.pol_model.specs.declared.request.Request.{Request}
+use Rattle.pol_history.specs.declared.event.HistoryEvent.{HistoryEvent}
+use Rattle.pol_history.specs.Commits.{commits_by}
+use Rattle.pol_history.specs.Legal.{IsLegal}
+
+-- what a pass has: the events that it has seen, and the requests that it committed
+pub record PassView : Type 0 where
+  pub history : List HistoryEvent
+  pub mine : List Request
+
+-- what a new pass has
+abbrev pub nothing_yet : PassView
+nothing_yet = record { history = []; mine = [] }
+
+-- the history goes on and is legal, and the pass committed these requests
+pub record Grows (options : Options) (old new : PassView) (own : List Request) : Type 0 where
+  pub goes_on : IsPrefix old.history new.history
+  pub legal : IsLegal options new.history
+  pub mine : new.mine ≡ old.mine ++ own
+
+-- the commits of the pass in what it has seen are the requests that it committed, no more and no fewer
+pub record HasItsCommits (pass : ℕ) (view : PassView) : Type 0 where
+  pub commits : commits_by pass view.history ≡ view.mine
