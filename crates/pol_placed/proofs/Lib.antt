@@ -1,1 +1,3 @@
 pub mod PlayingOn
+pub mod PhaseLines
+pub mod Phased

@@ -2,3 +2,4 @@ pub mod Placed
 pub mod HistoryOfRun
 pub mod LawOfRuns
 pub mod Session
+pub mod Phases
