@@ -1,16 +1,16 @@
 -- Where a line stands in its phase: the phase, and how many lines of its session stand before it there.
-use Rattle.std.proofs.Common.{zero, suc, ◌≡◌, ℕ, ◌+◌, ◌==◌, ◌<◌, ◌≤◌, ◌⊎◌, inl, inr, Bool, true, false, cond, if◌then◌else◌, List, [], ◌∷◌, ◌++◌, length, take, Option, None, Some, Ok, Err, refl, sym, ap, ◌∙◌, subst, arith, length-append}
-use Rattle.std.specs.List.{cons_option, filter_map, slice_get}
-use Rattle.std.proofs.lemmas.Bool.{cases_Bool, eq-eqb}
+use Rattle.std.proofs.Common.{zero, suc, ◌≡◌, ℕ, ◌+◌, ◌==◌, ◌<◌, ◌≤◌, Bool, true, false, cond, if◌then◌else◌, List, [], ◌∷◌, ◌++◌, length, take, Option, None, Some, Ok, Err, refl, ap, ◌∙◌, arith, length-append}
+use Rattle.std.specs.List.{cons_option, slice_get}
+use Rattle.std.proofs.lemmas.Bool.{eq-eqb}
 use Rattle.std.proofs.lemmas.List.{take-take}
 use Rattle.std.proofs.lemmas.Option.{slice_get_within}
 use Rattle.pol_answer.specs.declared.answer.Answer.{Answer}
 use Rattle.pol_script.specs.declared.command.Command.{Command}
 use Rattle.pol_script.specs.declared.command.Command.TheVariants as command
 use Rattle.pol_run.specs.ByIndex.{IsOf, is_phase}
-use Rattle.pol_run.specs.Spots.{Line, Reading, session_of, shares}
+use Rattle.pol_run.specs.Spots.{Line, Reading, session_of}
 use Rattle.pol_history.proofs.Lists.{get_behind, get_take, no_element}
-use Rattle.pol_placed.specs.Phases.{command_of, lines_in, played_in}
+use Rattle.pol_placed.specs.Phases.{command_of, played_in}
 
 -- the phase of line i, from 0
 abbrev pub phase_at : ℕ → List Line → ℕ

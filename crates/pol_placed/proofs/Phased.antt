@@ -1,15 +1,15 @@
 -- Lines that were played phase by phase are placed.
-use Rattle.std.proofs.Common.{zero, suc, ◌≡◌, ℕ, ◌+◌, ◌-◌, ◌<◌, ◌≤◌, ◌⊎◌, inl, inr, List, [], ◌∷◌, ◌++◌, length, take, Option, None, Some, Ok, refl, sym, ap, ◌∙◌, subst, arith, append-nil, append_assoc, length-append}
+use Rattle.std.proofs.Common.{zero, suc, ◌≡◌, ℕ, ◌+◌, ◌-◌, ◌<◌, ◌≤◌, inl, inr, List, [], ◌∷◌, ◌++◌, length, take, Option, None, Some, Ok, refl, sym, ap, ◌∙◌, subst, arith, append-nil, append_assoc, length-append}
 use Rattle.std.specs.List.{slice_get}
 use Rattle.std.proofs.Math.Seq.{take-length}
 use Rattle.std.proofs.lemmas.Bool.{cases_lt}
-use Rattle.std.proofs.lemmas.List.{take-append-le, take-take}
+use Rattle.std.proofs.lemmas.List.{take-append-le}
 use mathlib.Core.List.{IsPrefix}
 use Rattle.pol_model.specs.declared.options.Options.{Options}
 use Rattle.pol_answer.specs.declared.answer.Answer.{Answer}
 use Rattle.pol_script.specs.declared.command.Command.{Command}
 use Rattle.pol_script.specs.declared.command.Command.TheVariants as command
-use Rattle.pol_run.specs.ByIndex.{AreOfOneSession, ComesBefore, IsLine, IsOf, IsPhaseBetween, is_phase}
+use Rattle.pol_run.specs.ByIndex.{AreOfOneSession, ComesBefore}
 use Rattle.pol_run.specs.Spots.{Line, Reading, session_of}
 use Rattle.pol_history.specs.declared.event.HistoryEvent.{HistoryEvent}
 use Rattle.pol_history.proofs.Lists.{no_element}
@@ -113,8 +113,8 @@ module _ (options : Options) (history : List HistoryEvent) (lines : List Line) (
   later_start phase zero = let same : phase ≡ phase + 0 = omega arith in subst (λ (p : ℕ). IsPrefix (played.starts phase) (played.starts p)) same ([], append-nil (played.starts phase))
   later_start phase (suc more) =
       let here = prefix_join (played.starts (phase + more)) (played.ends (phase + more) 0) (played.starts (phase + more + 1))
-          (plays_grow options (played.pass_of 0) (played.starts (phase + more)) (played.ends (phase + more) 0) (played_in (phase + more) 0 lines) (played.plays (phase + more) 0))
-          (played.meets (phase + more) 0) in
+      (plays_grow options (played.pass_of 0) (played.starts (phase + more)) (played.ends (phase + more) 0) (played_in (phase + more) 0 lines) (played.plays (phase + more) 0))
+      (played.meets (phase + more) 0) in
       let same : phase + more + 1 ≡ phase + suc more = omega arith in
       subst (λ (p : ℕ). IsPrefix (played.starts phase) (played.starts p)) same
       (prefix_join (played.starts phase) (played.starts (phase + more)) (played.starts (phase + more + 1)) (later_start phase more) here)
