@@ -1,0 +1,14 @@
+pub mod Sums
+pub mod Places
+pub mod Published
+pub mod Grown
+pub mod Looks
+pub mod Numbers
+pub mod SessionCounts
+pub mod Bounds
+pub mod Between
+pub mod Live
+pub mod Shown
+pub mod Syncs
+pub mod Law
+pub mod Held

@@ -1,2 +1,4 @@
 //! Lines of a run that are placed in one history, and what follows for the run.
 #![tactic(auto)]
+
+pub mod laws;
