@@ -1,8 +1,7 @@
 -- Each line that a history places was answered between the revisions of its two beginnings.
-use Rattle.std.proofs.Common.{◌≡◌, ℕ, suc, ◌+◌, ◌<◌, ◌≤◌, inl, inr, List, length, take, slice_get, Option, None, Some, Ok, Err, refl, ap, sym, ◌∙◌, subst, arith}
+use Rattle.std.proofs.Common.{◌≡◌, ℕ, suc, ◌+◌, ◌<◌, ◌≤◌, inl, inr, List, length, take, slice_get, Option, Some, Ok, refl, ap, sym, ◌∙◌, arith}
 use Rattle.std.proofs.lemmas.Bool.{cases_order}
 use Rattle.std.proofs.lemmas.List.{length-take-le, take-take}
-use Rattle.std.specs.List.{AllByRecursion, Contains}
 use Rattle.pol_model.specs.Committed.{identity_given}
 use Rattle.pol_model.specs.State.{State}
 use Rattle.pol_model.specs.declared.answer.FullSlot.{FullSlot}
@@ -13,7 +12,7 @@ use Rattle.pol_answer.specs.declared.answer.Answer.{Answer}
 use Rattle.pol_answer.specs.declared.answer.Answer.TheVariants as answer
 use Rattle.pol_script.specs.declared.command.Command.TheVariants as command
 use Rattle.pol_run.specs.Spots.{Line, Reading}
-use Rattle.pol_run.specs.ByIndex.{IsLine, IsOf, Prints}
+use Rattle.pol_run.specs.ByIndex.{IsLine, Prints}
 use Rattle.pol_run.proofs.Lists.{every_contained}
 use Rattle.pol_history.specs.declared.event.EndpointId.{EndpointId}
 use Rattle.pol_history.specs.declared.event.HistoryEvent.{HistoryEvent}

@@ -1,12 +1,12 @@
 -- Lines that were answered between two revisions each: what a run says of numbers follows from the order of these.
-use Rattle.std.proofs.Common.{◌≡◌, ℕ, ◌+◌, ◌<◌, ◌≤◌, inl, inr, List, length, take, Option, Ok, refl, ap, sym, ◌∙◌, subst, arith}
+use Rattle.std.proofs.Common.{◌≡◌, ℕ, ◌<◌, ◌≤◌, inl, inr, List, length, take, Ok, refl, arith}
 use Rattle.std.specs.Prelude.{count_by}
 use Rattle.pol_model.specs.declared.request.Request.{Request}
 use Rattle.pol_answer.specs.declared.answer.Answer.{Answer}
 use Rattle.pol_answer.specs.declared.answer.Answer.TheVariants as answer
 use Rattle.pol_script.specs.declared.command.Command.TheVariants as command
 use Rattle.pol_run.specs.Spots.{Line, Reading}
-use Rattle.pol_run.specs.ByIndex.{IsLine, is_ok, is_ok_at, Prints, AreOfOneSession, ComesBefore, IsReached, IsSinceSeen}
+use Rattle.pol_run.specs.ByIndex.{is_ok, is_ok_at, Prints, ComesBefore, IsReached, IsSinceSeen}
 use Rattle.pol_placed.specs.Placed.{IsLineOf}
 use Rattle.pol_placed.proofs.Numbers.{IsOkAt, EachOnce, few_ok, ok_once, ok_of_first}
 

@@ -1,7 +1,7 @@
 -- What the history holds of the lines that it places: the run's commits by the passes of the sessions, the map of each
 -- verdict, the report of each row, and one of each endpoint that a `synced` line speaks for.
 use Rattle.std.proofs.lemmas.List.{length-take}
-use Rattle.std.proofs.Common.{◌≡◌, ℕ, ◌+◌, ◌≤◌, inl, inr, List, take, slice_get, Option, Some, Ok, refl, ap, sym, ◌∙◌, subst, arith}
+use Rattle.std.proofs.Common.{◌≡◌, ℕ, ◌≤◌, inl, inr, List, take, Some, Ok, refl, ap, sym, ◌∙◌, subst, arith}
 use Rattle.std.specs.List.{Contains}
 use Rattle.pol_mapkey.specs.declared.Word.{Word}
 use Rattle.pol_model.specs.Endpoints.{endpoint_of}
@@ -9,30 +9,27 @@ use Rattle.pol_model.specs.State.{State}
 use Rattle.pol_model.specs.declared.answer.FullSlot.{FullSlot}
 use Rattle.pol_model.specs.declared.options.Options.{Options}
 use Rattle.pol_model.specs.declared.request.Query.{Query}
-use Rattle.pol_model.specs.declared.request.Request.{Request}
 use Rattle.pol_model.specs.declared.row.Endpoint.{Endpoint}
 use Rattle.pol_answer.specs.declared.answer.Answer.TheVariants as answer
 use Rattle.pol_script.specs.declared.command.Command.TheVariants as command
 use Rattle.pol_run.specs.ByIndex.{IsLine}
-use Rattle.pol_run.specs.History.{history_of}
 use Rattle.pol_run.specs.InShort.{LivesAfter}
-use Rattle.pol_run.specs.Spots.{Line, Reading, spots_of}
+use Rattle.pol_run.specs.Spots.{Line, Reading}
 use Rattle.pol_run.proofs.Lists.{every_contained}
-use Rattle.pol_run.proofs.ShortNumbers.{short_history}
 use Rattle.pol_history.specs.declared.event.EndpointId.{EndpointId}
 use Rattle.pol_history.specs.declared.event.HistoryEvent.{HistoryEvent}
 use Rattle.pol_history.specs.Calls.{Counts, IsRow}
-use Rattle.pol_history.specs.Commits.{Lives, commits_in, live_endpoint, revision_of, state_after, state_now}
+use Rattle.pol_history.specs.Commits.{Lives, commits_in, revision_of, state_after, state_now}
 use Rattle.pol_history.specs.Legal.{IsLegal}
-use Rattle.pol_history.proofs.Cuts.{revision-grows, revision-take, state-now, state-take}
+use Rattle.pol_history.proofs.Cuts.{revision-take, state-now}
 use Rattle.pol_history.proofs.LegalEvents.{report_of_take}
 use Rattle.pol_history.proofs.Lives.{added-within}
 use Rattle.pol_history.proofs.Same.{live-parts, live-whole}
-use Rattle.pol_placed.specs.HistoryOfRun.{HasBlocked, HasPublished, HasReport, IsCommitOf, IsHistoryOf}
+use Rattle.pol_placed.specs.HistoryOfRun.{HasBlocked, HasPublished, HasReport}
 use Rattle.pol_placed.specs.LawOfRuns.{HistoriesHoldTheRun}
-use Rattle.pol_placed.specs.Placed.{IsLineOf, IsPlaced}
+use Rattle.pol_placed.specs.Placed.{IsPlaced}
 use Rattle.pol_placed.proofs.Between.{commit_at}
-use Rattle.pol_placed.proofs.Law.{placed_in_short, short_requests}
+use Rattle.pol_placed.proofs.Law.{short_requests}
 use Rattle.pol_placed.proofs.Live.{live_before, live_of_first, live_there, one_row}
 use Rattle.pol_placed.proofs.Looks.{id_of, tells_look}
 use Rattle.pol_placed.proofs.Places.{at_first}

@@ -1,6 +1,6 @@
 -- The law of runs: lines that a legal history places are a run of the policy machine, in short and so in full.
 use Rattle.std.specs.List.{zip}
-use Rattle.std.proofs.Common.{◌≡◌, ℕ, ◌+◌, ◌-◌, ◌<◌, ◌≤◌, inl, inr, List, length, take, slice_get, Option, None, Some, Ok, Err, refl, ap, sym, ◌∙◌, subst, arith}
+use Rattle.std.proofs.Common.{◌≡◌, ℕ, ◌-◌, ◌≤◌, List, take, slice_get, Option, None, Some, Ok, Err, refl, ap, sym, ◌∙◌, subst, arith}
 use Rattle.pol_mapkey.specs.declared.Word.{Word}
 use Rattle.pol_model.specs.Endpoints.{endpoint_of}
 use Rattle.pol_model.specs.Fault.{fault_of}
@@ -15,36 +15,30 @@ use Rattle.pol_model.specs.declared.request.Query.{Query}
 use Rattle.pol_model.specs.declared.request.Request.{Request}
 use Rattle.pol_model.specs.declared.row.Endpoint.{Endpoint}
 use Rattle.pol_model.specs.Explain.{explain_of}
-use Rattle.pol_script.specs.Lines.{lines_of}
 use Rattle.pol_answer.specs.declared.answer.Answer.{Answer}
 use Rattle.pol_answer.specs.declared.answer.Answer.TheVariants as answer
 use Rattle.pol_script.specs.declared.command.Command.TheVariants as command
-use Rattle.pol_run.specs.Run.{IsRun, IsRunOf, readings_of}
+use Rattle.pol_run.specs.Run.{readings_of}
 use Rattle.pol_run.specs.Spots.{Line, Reading, spots_of}
 use Rattle.pol_run.specs.ByIndex.{ComesBefore, IsLine, IsReached, IsSinceSeen, Prints}
 use Rattle.pol_run.specs.InShort.{AreExact, HasFault, IsExplained, IsFoundByScan, IsKth, IsRunInShort, IsUnpublished, LivesAfter, LivesNone, Says, ShowsMap, after_commits}
 use Rattle.pol_run.specs.History.{history_of}
 use Rattle.pol_run.proofs.FromShort.{run_from_short}
 use Rattle.pol_run.proofs.ShortNumbers.{short_history}
-use Rattle.pol_history.specs.declared.event.EndpointId.{EndpointId}
 use Rattle.pol_history.specs.declared.event.HistoryEvent.{HistoryEvent}
-use Rattle.pol_history.specs.declared.event.HistoryEvent.TheVariants as event
-use Rattle.pol_history.specs.Calls.{IsAbsent, IsRefused, IsTraced}
-use Rattle.pol_history.specs.Commits.{commits_in, revision_of, state_after, state_now}
+use Rattle.pol_history.specs.Commits.{commits_in, revision_of, state_after}
 use Rattle.pol_history.specs.Legal.{IsLegal}
 use Rattle.pol_history.proofs.Cuts.{revision-grows, state-take, state-then}
 use Rattle.pol_history.proofs.LegalEvents.{legal_take}
 use Rattle.pol_history.proofs.Lists.{get_take}
 use Rattle.pol_placed.specs.LawOfRuns.{PlacedAnswersAreARun, PlacedLinesAreARun}
-use Rattle.pol_placed.specs.Placed.{Allows, IsLineOf, IsPlaced}
+use Rattle.pol_placed.specs.Placed.{IsLineOf, IsPlaced}
 use Rattle.pol_placed.proofs.Between.{are_bounded, commit_at, high_of, low_of}
 use Rattle.pol_placed.proofs.Bounds.{AreBounded, carried, ok_ascend, reached, since_seen}
 use Rattle.pol_placed.proofs.Grown.{newest, published_report}
 use Rattle.pol_placed.proofs.Live.{fits_within, live_then, one_row, published_fits, reported}
-use Rattle.pol_placed.proofs.Looks.{IsFound, IsNone, IsNotYet, TellsLook, id_of, tells_look}
-use Rattle.pol_placed.proofs.Numbers.{IsOkAt}
+use Rattle.pol_placed.proofs.Looks.{TellsLook, id_of, tells_look}
 use Rattle.pol_placed.proofs.Places.{at_first, commit-kth}
-use Rattle.pol_placed.proofs.Published.{PublishesAt}
 use Rattle.pol_placed.proofs.Shown.{IsShown, showing_session, shown, verdict_row}
 use Rattle.pol_placed.proofs.Syncs.{are_exact}
 

@@ -1,6 +1,6 @@
 -- Endpoints that are live after the first events of a history, and their maps.
-use Rattle.std.proofs.Common.{◌≡◌, ℕ, ◌<◌, ◌≤◌, not, IsTrue, List, length, take, slice_get, Option, None, Some, option_map, refl, ap, sym, ◌∙◌, subst, arith}
-use Rattle.std.proofs.lemmas.Bool.{leb-true, leb-false, not-true}
+use Rattle.std.proofs.Common.{◌≡◌, ℕ, ◌≤◌, IsTrue, List, length, take, slice_get, Option, Some, option_map, refl, ap, sym, ◌∙◌, subst}
+use Rattle.std.proofs.lemmas.Bool.{leb-true}
 use Rattle.pol_mapkey.specs.Entries.{Entry as MapEntry}
 use Rattle.pol_model.specs.Endpoints.{endpoint_of}
 use Rattle.pol_model.specs.PolicyMap.{map_size, policy_map}
@@ -11,9 +11,9 @@ use Rattle.pol_run.specs.InShort.{LivesAfter}
 use Rattle.pol_history.specs.declared.event.EndpointId.{EndpointId}
 use Rattle.pol_history.specs.declared.event.HistoryEvent.{HistoryEvent}
 use Rattle.pol_history.specs.declared.event.HistoryEvent.TheVariants as event
-use Rattle.pol_history.specs.Commits.{Lives, commits_in, live_endpoint, revision_of, state_after, state_now}
+use Rattle.pol_history.specs.Commits.{commits_in, live_endpoint, revision_of, state_after, state_now}
 use Rattle.pol_history.specs.Legal.{IsLegal}
-use Rattle.pol_history.specs.Reports.{IsReport, fits_limit, map_at, size_at}
+use Rattle.pol_history.specs.Reports.{IsReport, fits_limit}
 use Rattle.pol_history.proofs.Cuts.{state-take, state-then}
 use Rattle.pol_history.proofs.Lives.{lives-back, lives-then}
 use Rattle.pol_history.proofs.Same.{live-parts, live-whole}

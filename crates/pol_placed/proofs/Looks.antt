@@ -1,5 +1,5 @@
 -- What an answer to a look-up tells of the history.
-use Rattle.std.proofs.Common.{◌≡◌, ℕ, ◌≤◌, List, Option, None, Some, refl, sym, subst, slice_get}
+use Rattle.std.proofs.Common.{◌≡◌, ℕ, List, Option, None, Some, refl, sym, subst}
 use Rattle.pol_mapkey.specs.Entries.{Entry as MapEntry}
 use Rattle.pol_mapkey.specs.declared.Word.{Word}
 use Rattle.pol_model.specs.Endpoints.{endpoint_of}

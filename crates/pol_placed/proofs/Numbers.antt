@@ -1,16 +1,17 @@
 -- Numbers of `ok` lines: where no two lines carry one, as many lines commit before a line as their numbers allow.
-use Rattle.std.proofs.Common.{◌≡◌, ◌≢◌, ℕ, zero, suc, ◌+◌, ◌<◌, ◌≤◌, ◌==◌, ◌⊎◌, inl, inr, false, IsTrue, List, [], ◌∷◌, length, take, slice_get, Option, None, Some, Ok, refl, ap, sym, ◌∙◌, subst, arith}
+use Rattle.std.proofs.Common.{◌≡◌, ◌≢◌, ℕ, zero, suc, ◌+◌, ◌<◌, ◌≤◌, ◌==◌, inl, inr, IsTrue, List, [], ◌∷◌, length, take, slice_get, Option, Some, Ok, sym, ◌∙◌, subst, arith}
 use Rattle.std.specs.Prelude.{⊤, count_by}
-use Rattle.std.specs.List.{AllByRecursion, cons_option, filter}
+use Rattle.std.specs.List.{AllByRecursion, cons_option}
 use Rattle.std.proofs.lemmas.Bool.{cases_lt, eqb-true}
 use Rattle.pol_model.specs.declared.request.Request.{Request}
 use Rattle.pol_answer.specs.declared.answer.Answer.{Answer}
 use Rattle.pol_answer.specs.declared.answer.Answer.TheVariants as answer
 use Rattle.pol_script.specs.declared.command.Command.TheVariants as command
 use Rattle.pol_run.specs.Spots.{Line, Reading, Spot, phase_after, spots_from, spots_of}
-use Rattle.pol_run.specs.History.{Commit, commit_as, commit_read, commit_at, commits_of}
+use Rattle.pol_run.specs.History.{Commit, commit_as, commit_read, commits_of}
 use Rattle.pol_run.specs.Run.{NumbersDiffer}
 use Rattle.pol_run.specs.ByIndex.{IsLine, is_ok, is_ok_at}
+use Rattle.pol_placed.proofs.Places.{at_first}
 use Rattle.pol_run.proofs.Lists.{every_weaker, filter_none}
 use Rattle.pol_run.proofs.Counting.{carried_once}
 use Rattle.pol_run.proofs.Indices.{IsFrom, from_index, spot_at}
@@ -123,14 +124,7 @@ ok_once lines once within k positive most =
 
 -- ---- the first lines
 
-pub line_of_first : (n : ℕ) (lines : List Line) (i : ℕ) (line : Line) → slice_get (take n lines) i ≡ Some line → (i < n) × (slice_get lines i ≡ Some line)
-line_of_first zero lines i line there = absurd (cc)
-line_of_first (suc n) [] i line there = absurd (cc)
-line_of_first (suc n) (first ∷ lines) zero line there = (omega arith, there)
-line_of_first (suc n) (first ∷ lines) (suc i) line there =
-    let found = line_of_first n lines i line there in (omega (arith, found.0), found.1)
-
 pub ok_of_first : (n : ℕ) (lines : List Line) (i number : ℕ) → IsOkAt (take n lines) i number → (i < n) × IsOkAt lines i number
 ok_of_first n lines i number ok =
-    let found = line_of_first n lines i (Ok (command.Commit ok.session ok.request), answer.Committed number ok.identity) ok.line.there in
+    let found = at_first n i lines (Ok (command.Commit ok.session ok.request), answer.Committed number ok.identity) ok.line.there in
     (found.0, record { session = ok.session; request = ok.request; identity = ok.identity; line = record { there = found.1 } })

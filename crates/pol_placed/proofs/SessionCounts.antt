@@ -1,5 +1,5 @@
 -- A history has as many commits as the lines that it places have `ok` answers: session by session, and so in all.
-use Rattle.std.proofs.Common.{◌≡◌, ◌≢◌, ℕ, zero, suc, ◌+◌, ◌<◌, ◌≤◌, ◌==◌, inl, inr, Bool, true, false, cond, max, IsTrue, List, [], ◌∷◌, length, slice_get, Option, None, Some, Ok, Err, refl, ap, sym, ◌∙◌, subst, arith}
+use Rattle.std.proofs.Common.{◌≡◌, ℕ, zero, suc, ◌+◌, ◌<◌, ◌≤◌, ◌==◌, inl, inr, Bool, true, false, cond, max, IsTrue, List, [], ◌∷◌, length, slice_get, Option, None, Some, Ok, Err, refl, ap, sym, ◌∙◌, subst, arith}
 use Rattle.std.specs.Prelude.{count_by, sum_by}
 use Rattle.std.specs.List.{AllByRecursion, list_any}
 use Rattle.std.proofs.lemmas.Bool.{cases_Bool, eq-eqb, ne_eqb, eqb-true, false≢true, or_cases, or_left, or_right, or_parts, both_ways}
@@ -10,11 +10,11 @@ use Rattle.pol_answer.specs.declared.answer.Answer.{Answer}
 use Rattle.pol_answer.specs.declared.answer.Answer.TheVariants as answer
 use Rattle.pol_script.specs.declared.command.Command.TheVariants as command
 use Rattle.pol_run.specs.Spots.{Line, Reading, session_of, shares}
-use Rattle.pol_run.specs.ByIndex.{IsLine, IsOf, is_ok}
+use Rattle.pol_run.specs.ByIndex.{IsOf, is_ok}
 use Rattle.pol_history.specs.declared.event.HistoryEvent.{HistoryEvent}
 use Rattle.pol_history.specs.declared.event.HistoryEvent.TheVariants as event
-use Rattle.pol_history.specs.Commits.{commits_by, commits_in, request_by, request_in}
-use Rattle.pol_placed.specs.Placed.{IsLineOf, IsPlaced, request_ok, requests_ok}
+use Rattle.pol_history.specs.Commits.{commits_in, request_by, request_in}
+use Rattle.pol_placed.specs.Placed.{IsLineOf, IsPlaced, request_ok}
 use Rattle.pol_placed.proofs.Places.{same_element, no_element}
 use Rattle.pol_placed.proofs.Sums.{sum_to, sum_to-same, sum_to-none, sum_to-one, sum_of_kinds, count_in, length-filter_map, every_at}
 

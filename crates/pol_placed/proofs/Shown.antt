@@ -1,9 +1,8 @@
 -- What a line shows of an endpoint's maps was published before it ended.
-use Rattle.std.proofs.Common.{◌≡◌, ◌≢◌, ℕ, ◌≤◌, inl, inr, List, Contains, take, Option, Some, Ok, Err, refl, ap, sym, ◌∙◌, subst, arith}
+use Rattle.std.proofs.Common.{◌≡◌, ◌≢◌, ℕ, ◌≤◌, inl, inr, List, Contains, take, Ok, Err, refl, ap, sym, ◌∙◌, subst, arith}
 use Rattle.std.specs.Prelude.{⊤}
 use Rattle.pol_mapkey.specs.Entries.{Entry as MapEntry}
 use Rattle.pol_mapkey.specs.declared.Word.{Word}
-use Rattle.pol_model.specs.Endpoints.{endpoint_of}
 use Rattle.pol_model.specs.declared.answer.FullSlot.{FullSlot}
 use Rattle.pol_model.specs.declared.options.Options.{Options}
 use Rattle.pol_model.specs.declared.request.Query.{Query}
@@ -18,7 +17,7 @@ use Rattle.pol_run.proofs.Lists.{every_contained}
 use Rattle.pol_history.specs.declared.event.EndpointId.{EndpointId}
 use Rattle.pol_history.specs.declared.event.HistoryEvent.{HistoryEvent}
 use Rattle.pol_history.specs.Calls.{IsSynced}
-use Rattle.pol_history.specs.Commits.{Lives, commits_in, revision_of, state_after, state_now}
+use Rattle.pol_history.specs.Commits.{commits_in, revision_of, state_after, state_now}
 use Rattle.pol_history.specs.Legal.{IsLegal}
 use Rattle.pol_history.proofs.LegalEvents.{legal_take}
 use Rattle.pol_history.proofs.Same.{live-whole}

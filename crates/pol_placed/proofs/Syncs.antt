@@ -1,30 +1,28 @@
 -- What a placed `synced` line tells is right: its rows are exact, and none is missing.
-use Rattle.std.proofs.Common.{◌≡◌, ℕ, zero, suc, ◌<◌, ◌≤◌, inl, inr, not, IsTrue, List, [], ◌∷◌, take, slice_get, Option, None, Some, Ok, refl, ap, sym, ◌∙◌, subst, arith}
+use Rattle.std.proofs.Common.{◌≡◌, ℕ, zero, suc, ◌<◌, ◌≤◌, inl, inr, not, IsTrue, List, [], ◌∷◌, take, slice_get, Option, None, Some, ap, sym, ◌∙◌, subst, arith}
 use Rattle.std.specs.List.{AllByRecursion, Contains}
 use Rattle.pol_model.specs.PolicyMap.{map_size}
 use Rattle.pol_model.specs.declared.answer.FullSlot.{FullSlot}
 use Rattle.pol_model.specs.declared.options.Options.{Options}
 use Rattle.pol_model.specs.declared.row.Endpoint.{Endpoint}
-use Rattle.pol_answer.specs.declared.answer.Answer.{Answer}
 use Rattle.pol_run.specs.Endpoints.{fits_limit as fits_run}
 use Rattle.pol_run.specs.RightAnswer.{RowsAscend as RowsAscendInRun}
 use Rattle.pol_run.specs.Spots.{Line, Reading}
 use Rattle.pol_run.specs.ByIndex.{IsReached}
-use Rattle.pol_run.specs.InShort.{AreExact, IsAddedAt, IsExact, IsOver, IsOverAfter, LivesAfter}
+use Rattle.pol_run.specs.InShort.{AreExact, IsAddedAt, IsExact, IsOverAfter, LivesAfter}
 use Rattle.pol_run.proofs.Lists.{every_weaker}
 use Rattle.pol_run.proofs.ShortRows.{is_over}
 use Rattle.pol_history.specs.declared.event.EndpointId.{EndpointId}
 use Rattle.pol_history.specs.declared.event.HistoryEvent.{HistoryEvent}
-use Rattle.pol_history.specs.Calls.{HasPublish, HasRow, IsRow, IsRowOf, IsSynced, RowsAscend}
-use Rattle.pol_history.specs.Commits.{Lives, commits_in, revision_of, state_after, state_now}
+use Rattle.pol_history.specs.Calls.{HasPublish, IsRow, IsRowOf, IsSynced, RowsAscend}
+use Rattle.pol_history.specs.Commits.{commits_in, revision_of, state_after, state_now}
 use Rattle.pol_history.specs.Legal.{IsLegal}
-use Rattle.pol_history.specs.Reports.{IsReport, fits_limit}
+use Rattle.pol_history.specs.Reports.{fits_limit}
 use Rattle.pol_history.proofs.LegalEvents.{legal_take, report_of_take}
 use Rattle.pol_history.proofs.Same.{live-whole}
 use Rattle.pol_placed.proofs.Between.{reported_within}
 use Rattle.pol_placed.proofs.Grown.{published_report}
 use Rattle.pol_placed.proofs.Live.{IsReported, blocked_count, fits_within, live_there, live_of_first, one_row, published_fits, reported}
-use Rattle.pol_placed.proofs.Looks.{id_of}
 use Rattle.pol_placed.proofs.Places.{at_first, no_element, same_element}
 
 -- ---- words of both crates
