@@ -12,3 +12,5 @@ pub mod Shown
 pub mod Syncs
 pub mod Law
 pub mod Held
+pub mod Placing
+pub mod Sole

@@ -1,5 +1,6 @@
 -- The commits of a history and their places.
-use Rattle.std.proofs.Common.{◌≡◌, ℕ, zero, suc, ◌+◌, ◌<◌, ◌≤◌, inl, inr, List, [], ◌∷◌, ◌++◌, length, take, drop, slice_get, None, Some, ap, ◌∙◌, arith, length-append}
+use Rattle.std.proofs.Common.{◌≡◌, ℕ, zero, suc, ◌+◌, ◌<◌, ◌≤◌, inl, inr, List, [], ◌∷◌, ◌++◌, length, take, drop, slice_get, None, Some, ap, ◌∙◌, subst, arith, length-append}
+use Rattle.std.specs.List.{AllByRecursion}
 use Rattle.std.proofs.lemmas.Bool.{cases_lt}
 use Rattle.pol_model.specs.declared.request.Request.{Request}
 use Rattle.pol_history.specs.declared.event.HistoryEvent.{HistoryEvent}
@@ -15,6 +16,12 @@ same_element x y same = cc
 
 pub no_element : {X : Type 0} (x : X) → None ≡ Some x → ⊥
 no_element x same = cc
+
+-- what holds of every element holds of one at an index
+pub element_at : {X : Type 0} (P : X → Type 0) (xs : List X) (i : ℕ) (x : X) → AllByRecursion P xs → slice_get xs i ≡ Some x → P x
+element_at P [] i x every there = absurd (no_element x there)
+element_at P (y ∷ xs) zero x every there = subst P (same_element y x there) every.0
+element_at P (y ∷ xs) (suc i) x every there = element_at P xs i x every.1 there
 
 -- the list up to an element, and what is behind it
 split_at : {X : Type 0} (i : ℕ) (xs : List X) (x : X) → slice_get xs i ≡ Some x → xs ≡ take i xs ++ x ∷ drop (suc i) xs

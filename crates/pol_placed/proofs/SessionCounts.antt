@@ -23,10 +23,10 @@ use Rattle.pol_placed.proofs.Sums.{sum_to, sum_to-same, sum_to-none, sum_to-one,
 abbrev is_of : ℕ → Line → Bool
 is_of session line = shares (Some session) (session_of line.0)
 
-abbrev has_line : List Line → ℕ → Bool
+abbrev pub has_line : List Line → ℕ → Bool
 has_line lines session = list_any (is_of session) lines
 
-record HasLine (lines : List Line) (session : ℕ) : Type 0 where
+pub record HasLine (lines : List Line) (session : ℕ) : Type 0 where
   pub i : ℕ
   pub reading : Reading
   pub told : Answer
@@ -51,7 +51,7 @@ session_is session (Err fault) of = absurd of
 shares_itself : (session : ℕ) (o : Option ℕ) → o ≡ Some session → IsTrue (shares (Some session) o)
 shares_itself session o is = subst (λ (x : Option ℕ). IsTrue (shares (Some session) x)) (sym is) (eq-eqb session session refl)
 
-found_line : (lines : List Line) (session : ℕ) → has_line lines session ≡ true → HasLine lines session
+pub found_line : (lines : List Line) (session : ℕ) → has_line lines session ≡ true → HasLine lines session
 found_line [] session has = absurd (false≢true has)
 found_line (line ∷ lines) session has =
     elim (or_cases (is_of session line) (has_line lines session) has) [

@@ -23,7 +23,7 @@ use Rattle.pol_history.proofs.Same.{live-whole}
 use Rattle.pol_placed.proofs.Between.{reported_within}
 use Rattle.pol_placed.proofs.Grown.{published_report}
 use Rattle.pol_placed.proofs.Live.{IsReported, blocked_count, fits_within, live_there, live_of_first, one_row, published_fits, reported}
-use Rattle.pol_placed.proofs.Places.{at_first, no_element, same_element}
+use Rattle.pol_placed.proofs.Places.{at_first, element_at}
 
 -- ---- words of both crates
 
@@ -35,11 +35,6 @@ ascend (row ∷ next ∷ full) rows = (rows.0, ascend (next ∷ full) rows.1)
 too_many : (limit : Option ℕ) (count : ℕ) → IsTrue (not (fits_limit limit count)) → IsTrue (not (fits_run limit count))
 too_many None count over = over
 too_many (Some limit) count over = over
-
-every_row_at : (P : FullSlot → Type 0) (full : List FullSlot) (i : ℕ) (row : FullSlot) → AllByRecursion P full → slice_get full i ≡ Some row → P row
-every_row_at P [] i row every there = absurd (no_element row there)
-every_row_at P (first ∷ full) zero row every there = subst P (same_element first row there) every.0
-every_row_at P (first ∷ full) (suc i) row every there = every_row_at P full i row every.1 there
 
 module _ (options : Options) (history : List HistoryEvent) (legal : IsLegal options history) (old : List HistoryEvent) (n synced : ℕ) where
   -- the endpoint of a row was live at the row's revision
@@ -87,8 +82,8 @@ module _ (options : Options) (history : List HistoryEvent) (legal : IsLegal opti
     apart a b first second added less is_first is_second same one other =
         is.distinct a b first second (record { name = second.name; added = added }) less is_first is_second
         (subst (λ (name : List ℕ). IsRowOf old (take n history) synced (record { name = name; added = added }) first) same
-        (row_of first added (every_row_at (IsRow old (take n history) synced) full a first is.rows is_first) one))
-        (row_of second added (every_row_at (IsRow old (take n history) synced) full b second is.rows is_second) other)
+        (row_of first added (element_at (IsRow old (take n history) synced) full a first is.rows is_first) one))
+        (row_of second added (element_at (IsRow old (take n history) synced) full b second is.rows is_second) other)
 
     -- an endpoint whose map is over the limit has no published map that counts
     not_published : (name : List ℕ) (added : ℕ)

@@ -1,3 +1,4 @@
 pub mod Placed
 pub mod HistoryOfRun
 pub mod LawOfRuns
+pub mod Examples

@@ -1,4 +1,5 @@
 //! Lines of a run that are placed in one history, and what follows for the run.
 #![tactic(auto)]
 
+pub mod examples;
 pub mod laws;
