@@ -1,25 +1,22 @@
 -- A history is legal exactly where each of its events may follow those before it.
-use Rattle.std.proofs.Common.{zero, suc, ◌≡◌, ℕ, ◌<◌, ◌≤◌, inl, inr, not, List, [], ◌∷◌, ◌++◌, length, take, IsTrue, IfSome, Option, None, Some, refl, sym, ap, ◌∙◌, subst, arith, append-nil, append_assoc}
+use Rattle.std.proofs.Common.{zero, suc, ◌≡◌, ℕ, ◌<◌, ◌≤◌, inl, inr, List, [], ◌∷◌, ◌++◌, length, take, IfSome, Option, None, Some, refl, sym, ap, ◌∙◌, subst, arith, append-nil, append_assoc}
 use Rattle.std.specs.List.{slice_get}
 use Rattle.std.proofs.Math.Seq.{take-length}
 use Rattle.std.proofs.lemmas.List.{length-take, length-take-le, take-append-le, take-take}
 use Rattle.std.proofs.lemmas.Option.{slice_get_within}
-use Rattle.pol_mapkey.specs.Entries.{Entry as MapEntry}
-use Rattle.pol_model.specs.Fault.{fault_of}
 use Rattle.pol_model.specs.PolicyMap.{policy_map, map_size}
 use Rattle.pol_model.specs.State.{State}
 use Rattle.pol_model.specs.declared.options.Options.{Options}
-use Rattle.pol_model.specs.declared.request.Request.{Request}
 use Rattle.std.proofs.Common.{option_map}
 use Rattle.pol_history.specs.declared.event.EndpointId.{EndpointId}
 use Rattle.pol_history.specs.declared.event.HistoryEvent.{HistoryEvent}
 use Rattle.pol_history.specs.declared.event.HistoryEvent.TheVariants as event
 use Rattle.pol_history.specs.declared.event.LastReport.{LastReport}
-use Rattle.pol_history.specs.Commits.{commits_by, live_endpoint, revision_of, state_after, state_now}
+use Rattle.pol_history.specs.Commits.{live_endpoint, revision_of}
 use Rattle.pol_history.specs.Legal.{IsLegal}
-use Rattle.pol_history.specs.MayFollow.{BlockedMayFollow, CommitMayFollow, EachMayFollow, FollowOn, MayFollow, PublishMayFollow, ReportMayFollow}
+use Rattle.pol_history.specs.MayFollow.{EachMayFollow, FollowOn, MayFollow, ReportMayFollow}
 use Rattle.pol_history.specs.Reports.{IsLastReport, IsReport, Reports, last_report, map_at, size_at}
-use Rattle.pol_history.proofs.Cuts.{state-take}
+use Rattle.pol_history.proofs.Cuts.{state-cut, state-take}
 use Rattle.pol_history.proofs.LastReports.{IsFound, Tells, found, told}
 use Rattle.pol_history.proofs.Lists.{get_cases, get_seam, get_take}
 
@@ -38,6 +35,12 @@ pub size-take : (options : Options) (n : ℕ) (history : List HistoryEvent) (end
     → size_at options history endpoint revision ≡ size_at options (take n history) endpoint revision
 size-take options n history endpoint revision within =
     ap (λ (s : State). option_map (map_size options s) (live_endpoint endpoint s)) (state-take options n history revision within)
+
+-- the maps of a beginning are those of the history
+pub map-front : (options : Options) (front back : List HistoryEvent) (endpoint : EndpointId) (revision : ℕ) → revision ≤ revision_of front
+    → map_at options (front ++ back) endpoint revision ≡ map_at options front endpoint revision
+map-front options front back endpoint revision within =
+    ap (λ (s : State). option_map (policy_map options s) (live_endpoint endpoint s)) (state-cut options front back revision within)
 
 take_within : (history : List HistoryEvent) (i : ℕ) → i < length history → length (take i history) ≡ i
 take_within history i below = length-take-le i history (omega arith)

@@ -6,3 +6,9 @@ pub mod LegalEvents
 pub mod Lives
 pub mod Names
 pub mod Steps
+pub mod Published
+pub mod Grown
+pub mod Schedule
+pub mod Contents
+pub mod Looks
+pub mod Small

@@ -1,6 +1,9 @@
 -- Elements by index, beginnings of a list, and lists that grow at the end.
-use Rattle.std.proofs.Common.{zero, suc, ◌≡◌, ℕ, ◌<◌, ◌≤◌, ◌⊎◌, inl, inr, List, [], ◌∷◌, ◌++◌, length, take, Some, refl, sym, subst, arith, append-nil, append_assoc}
+use Rattle.std.proofs.Common.{zero, suc, ◌≡◌, ℕ, ◌+◌, ◌<◌, ◌⊎◌, inl, inr, List, [], ◌∷◌, ◌++◌, length, take, None, Some, refl, sym, ap, ◌∙◌, subst, arith, append-nil, append_assoc}
 use Rattle.std.specs.List.{slice_get}
+
+pub no_element : {X : Type 0} (x : X) → None ≡ Some x → ⊥
+no_element x same = cc
 
 pub get_front : {X : Type 0} (xs ys : List X) (i : ℕ) → i < length xs → slice_get (xs ++ ys) i ≡ slice_get xs i
 get_front [] ys i below = absurd (omega arith)
@@ -10,6 +13,10 @@ get_front (x ∷ xs) ys (suc i) below = get_front xs ys i (omega (arith, below))
 pub get_seam : {X : Type 0} (xs : List X) (y : X) (ys : List X) → slice_get (xs ++ y ∷ ys) (length xs) ≡ Some y
 get_seam [] y ys = refl
 get_seam (x ∷ xs) y ys = get_seam xs y ys
+
+pub get_behind : {X : Type 0} (xs ys : List X) (i : ℕ) → slice_get (xs ++ ys) (length xs + i) ≡ slice_get ys i
+get_behind [] ys i = let same : 0 + i ≡ i = omega arith in ap (slice_get ys) same
+get_behind (x ∷ xs) ys i = let same : suc (length xs) + i ≡ suc (length xs + i) = omega arith in ap (slice_get (x ∷ xs ++ ys)) same ∙ get_behind xs ys i
 
 pub get_take : {X : Type 0} (n : ℕ) (xs : List X) (i : ℕ) → i < n → slice_get (take n xs) i ≡ slice_get xs i
 get_take zero xs i below = absurd (omega arith)

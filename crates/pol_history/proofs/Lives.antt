@@ -1,6 +1,5 @@
 -- An endpoint that is live at a revision was live at each one before, since it was added.
 use Rattle.std.proofs.Common.{◌≡◌, ◌≢◌, ℕ, zero, suc, ◌≤◌, ◌<◌, ◌-◌, Bool, true, false, cond, not, List, [], ◌∷◌, length, take, drop, find, filter, insert, count_by, nat_lt, bytes_eq, ◌++◌, Option, None, Some, refl, ap, sym, ◌∙◌, subst, arith, length-take}
-use Rattle.std.specs.List.{slice_get}
 use Rattle.std.proofs.lemmas.List.{take-append-drop, take-take}
 use Rattle.std.proofs.lemmas.Option.{slice_get_within}
 use Rattle.std.proofs.lemmas.Slice.Eq.{bytes_eq-Decides}
@@ -48,7 +47,7 @@ kept_step p false true y left all kept is others = simp is others
 kept_step p false false y left all kept is others = others
 
 -- a filter that keeps all that passes
-found_kept : {X : Type 0} (p q : X → Bool) (xs : List X) → ((x : X) → p x ≡ true → q x ≡ true) → find p (filter q xs) ≡ find p xs
+pub found_kept : {X : Type 0} (p q : X → Bool) (xs : List X) → ((x : X) → p x ≡ true → q x ≡ true) → find p (filter q xs) ≡ find p xs
 found_kept p q [] kept = refl
 found_kept p q (y ∷ ys) kept = kept_step p (p y) (q y) y (filter q ys) ys (kept y) refl (found_kept p q ys kept)
 
@@ -60,7 +59,7 @@ lost_step p false true y left lost is others = simp is others
 lost_step p false false y left lost is others = others
 
 -- a filter that keeps nothing that passes
-found_lost : {X : Type 0} (p q : X → Bool) (xs : List X) → ((x : X) → p x ≡ true → q x ≡ false) → find p (filter q xs) ≡ None
+pub found_lost : {X : Type 0} (p q : X → Bool) (xs : List X) → ((x : X) → p x ≡ true → q x ≡ false) → find p (filter q xs) ≡ None
 found_lost p q [] lost = refl
 found_lost p q (y ∷ ys) lost = lost_step p (p y) (q y) y (filter q ys) (lost y) refl (found_lost p q ys lost)
 
@@ -71,7 +70,7 @@ found_filtered p q xs e false alike found = absurd (let none = found_lost p q xs
 
 -- ---- endpoints
 
-named_alike : (name removed : List ℕ) (endpoint : Endpoint) → bytes_eq endpoint.name name ≡ true
+pub named_alike : (name removed : List ℕ) (endpoint : Endpoint) → bytes_eq endpoint.name name ≡ true
     → not (bytes_eq endpoint.name removed) ≡ not (bytes_eq name removed)
 named_alike name removed endpoint is =
     ap (λ (n : List ℕ). not (bytes_eq n removed)) ((bytes_eq-Decides endpoint.name name).0 is)

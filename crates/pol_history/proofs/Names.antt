@@ -1,10 +1,9 @@
 -- The endpoints of a legal history's states: each is found by its name and by its slot.
-use Rattle.std.proofs.Common.{◌≡◌, ℕ, ◌==◌, not, List, [], ◌∷◌, ◌++◌, map, find, count_by, nat_lt, append-nil, Some, None, refl, sym, ap, ◌∙◌, subst, bytes_eq}
+use Rattle.std.proofs.Common.{◌≡◌, ℕ, ◌==◌, not, List, [], ◌∷◌, ◌++◌, map, count_by, nat_lt, append-nil, Some, None, refl, sym, ap, ◌∙◌, subst, bytes_eq}
 use Rattle.std.specs.Cmp.Lexicographic.{bytes_decides}
-use Rattle.std.specs.List.{IsDistinct, slice_get}
+use Rattle.std.specs.List.{IsDistinct}
 use Rattle.pol_data.proofs.Members.{In}
-use Rattle.pol_model.specs.After.{after, after_all, new_endpoint, start, state_of}
-use Rattle.pol_model.specs.Endpoints.{endpoint_of}
+use Rattle.pol_model.specs.After.{after, new_endpoint, state_of}
 use Rattle.pol_model.specs.Fault.{fault_of}
 use Rattle.pol_model.specs.State.{State}
 use Rattle.pol_model.specs.declared.options.Options.{Options}

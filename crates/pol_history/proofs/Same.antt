@@ -21,10 +21,10 @@ is-same a = and_from (bytes_eq a.name a.name) (a.added == a.added) ((bytes_eq-De
 
 pub same_cases : (a b : EndpointId) → ((same_endpoint a b ≡ true) × (a ≡ b)) ⊎ ((same_endpoint a b ≡ false) × (a ≢ b))
 same_cases a b = by_test (same_endpoint a b) refl
-    where
-      by_test : (test : Bool) → same_endpoint a b ≡ test → ((same_endpoint a b ≡ true) × (a ≡ b)) ⊎ ((same_endpoint a b ≡ false) × (a ≢ b))
-      by_test true is = inl (is, same-is a b is)
-      by_test false is = inr (is, (λ same. let again : same_endpoint a b ≡ true = subst (λ (c : EndpointId). same_endpoint a c ≡ true) same (is-same a) in absurd (cc)))
+  where
+    by_test : (test : Bool) → same_endpoint a b ≡ test → ((same_endpoint a b ≡ true) × (a ≡ b)) ⊎ ((same_endpoint a b ≡ false) × (a ≢ b))
+    by_test true is = inl (is, same-is a b is)
+    by_test false is = inr (is, (λ same. let again : same_endpoint a b ≡ true = subst (λ (c : EndpointId). same_endpoint a c ≡ true) same (is-same a) in absurd (cc)))
 
 -- ---- live endpoints
 
@@ -45,9 +45,9 @@ live-parts endpoint s row is = added_parts endpoint.added (endpoint_of endpoint.
 added_whole : (added : ℕ) (found : Option Endpoint) (row : Endpoint) → found ≡ Some row → row.added ≡ added → if_added added found ≡ Some row
 added_whole added found row is same =
     subst (λ (o : Option Endpoint). if_added added o ≡ Some row) (sym is) (subst (λ (n : ℕ). if_added n (Some row) ≡ Some row) same (if_itself row))
-    where
-      if_itself : (row : Endpoint) → if_added row.added (Some row) ≡ Some row
-      if_itself row = elim (eqb_tells row.added row.added) [ inl h ↦ rw (h.0) refl | inr h ↦ absurd (h.1 refl) ]
+  where
+    if_itself : (row : Endpoint) → if_added row.added (Some row) ≡ Some row
+    if_itself row = elim (eqb_tells row.added row.added) [ inl h ↦ rw (h.0) refl | inr h ↦ absurd (h.1 refl) ]
 
 pub live-whole : (endpoint : EndpointId) (s : State) (row : Endpoint) → endpoint_of endpoint.name s.endpoints ≡ Some row → row.added ≡ endpoint.added
     → live_endpoint endpoint s ≡ Some row

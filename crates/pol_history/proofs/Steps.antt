@@ -1,6 +1,5 @@
 -- Each step of the machine keeps its history legal.
-use Rattle.std.proofs.Common.{◌≡◌, ◌≢◌, ℕ, ◌==◌, ◌<◌, ◌≤◌, ◌⊎◌, inl, inr, eqb, not, Bool, true, false, cond, List, [], ◌∷◌, ◌++◌, length, take, IfSome, IsTrue, Option, None, Some, option_map, refl, sym, ap, ◌∙◌, subst, arith, length-take}
-use Rattle.std.specs.List.{slice_get}
+use Rattle.std.proofs.Common.{◌≡◌, ◌≢◌, ℕ, ◌==◌, ◌<◌, ◌≤◌, ◌⊎◌, inl, inr, eqb, not, Bool, true, false, cond, List, [], ◌∷◌, ◌++◌, length, take, IfSome, Option, None, Some, option_map, refl, sym, ap, ◌∙◌, subst, arith, length-take}
 use Rattle.std.proofs.lemmas.Bool.{cases_lt, eqb-true}
 use Rattle.std.proofs.lemmas.Bool.Decides.{eqb_tells}
 use Rattle.pol_mapkey.specs.Entries.{Entry as MapEntry}
@@ -18,13 +17,14 @@ use Rattle.pol_history.specs.declared.event.HistoryEvent.TheVariants as event
 use Rattle.pol_history.specs.declared.event.LastReport.{LastReport}
 use Rattle.pol_history.specs.declared.machine.Event.{Event}
 use Rattle.pol_history.specs.declared.machine.Event.TheVariants as step
-use Rattle.pol_history.specs.Commits.{Lives, commits_in, live_endpoint, revision_of, same_endpoint, state_after, state_now}
+use Rattle.pol_history.specs.Commits.{commits_in, live_endpoint, revision_of, same_endpoint, state_after, state_now}
 use Rattle.pol_history.specs.Legal.{IsLegal}
-use Rattle.pol_history.specs.Machine.{Machine, AreOfPassZero, Taken, commit_of, endpoint_id, endpoint_in, history_of_steps, is_reported, machine_from, machine_start, report_table, report_taken, report_unless, step_commit, step_finish, step_of, step_take, taken_now, with_event, with_taken}
+use Rattle.pol_history.specs.Machine.{Machine, AreOfPassZero, HasSteps, Taken, commit_of, endpoint_id, endpoint_in, is_reported, machine_from, machine_start, report_table, report_taken, report_unless, step_commit, step_finish, step_of, step_take, taken_now, with_event, with_taken}
+use Rattle.pol_history.specs.MachineKeeps.{IsSound, IsTaken}
 use Rattle.pol_history.specs.MayFollow.{MayFollow, ReportMayFollow}
 use Rattle.pol_history.specs.Reports.{fits_limit, last_report, published_before}
 use Rattle.pol_history.proofs.Cuts.{revision-append, revision-take, state-cut, state-now}
-use Rattle.pol_history.proofs.LastReports.{IsLast, Tells, last_report-more, told}
+use Rattle.pol_history.proofs.LastReports.{Tells, last_report-more, told}
 use Rattle.pol_history.proofs.LegalEvents.{each_legal, legal_more}
 use Rattle.pol_history.proofs.Lists.{get_cases}
 use Rattle.pol_history.proofs.Lives.{added-within, lives-back, lives-then}
@@ -46,19 +46,6 @@ pub last-bounds : (options : Options) (history : List HistoryEvent) (endpoint : 
 last-bounds options history endpoint legal = last_bounds options history endpoint (last_report endpoint history) legal (told history endpoint)
 
 -- ---- what was taken
-
--- The endpoint was live in the slot at the revision, and each report of it came before that revision's commits.
-pub record IsTaken (options : Options) (history : List HistoryEvent) (slot : ℕ) (taken : Taken) : Type 0 where
-  pub committed : taken.revision ≤ revision_of history
-  pub row : Endpoint
-  pub live : live_endpoint taken.endpoint (state_after options history taken.revision) ≡ Some row
-  pub in_slot : row.slot ≡ slot
-  pub newer : IfSome (last_report taken.endpoint history) (λ last. last.commits ≤ taken.revision)
-
-pub record IsSound (options : Options) (m : Machine) : Type 0 where
-  pub legal : IsLegal options m.history
-  pub by_zero : AreOfPassZero m.history
-  pub taken : (slot : ℕ) (taken : Taken) → m.taken slot ≡ Some taken → IsTaken options m.history slot taken
 
 -- an event that is no report of the endpoint leaves what was taken
 taken_later : (options : Options) (history : List HistoryEvent) (new : HistoryEvent) (slot : ℕ) (taken : Taken)
@@ -83,13 +70,13 @@ slots_apart options history slot other a b first second same =
           let both = live-parts a.endpoint (state_after options history b.revision) second.row again in
           let within = added-within options (take b.revision (commits_in history)) a.endpoint.name second.row both.0 in
           let back = lives-back options history a.endpoint first.row b.revision a.revision (omega arith)
-              (omega (arith, both.1, within.1, length-take b.revision (commits_in history))) first.live in
+          (omega (arith, both.1, within.1, length-take b.revision (commits_in history))) first.live in
           (cc)
       | inr later ↦
           let both = live-parts a.endpoint (state_after options history a.revision) first.row first.live in
           let within = added-within options (take a.revision (commits_in history)) a.endpoint.name first.row both.0 in
           let back = lives-back options history a.endpoint second.row a.revision b.revision (omega arith)
-              (omega (arith, both.1, within.1, length-take a.revision (commits_in history))) again in
+          (omega (arith, both.1, within.1, length-take a.revision (commits_in history))) again in
           (cc)
     ] in
     sym first.in_slot ∙ ap (λ (r : Endpoint). r.slot) one ∙ second.in_slot
@@ -211,15 +198,15 @@ module _ (options : Options) (m : Machine) (sound : IsSound options m) (slot : �
     by_zero = zero_more m.history new sound.by_zero zero;
     taken = λ other its there. others_keep other its there (eqb_tells other slot);
   }
-      where
-        others_keep : (other : ℕ) (its : Taken) → (with_taken slot None m).taken other ≡ Some its
-            → ((eqb other slot ≡ true) × (other ≡ slot)) ⊎ ((eqb other slot ≡ false) × (other ≢ slot)) → IsTaken options (m.history ++ new ∷ []) other its
-        others_keep other its there (inl same) = absurd (let none : None ≡ Some its = (rw same.0 at there) in cc)
-        others_keep other its there (inr differ) =
-            let kept : m.taken other ≡ Some its = (rw differ.0 at there) in
-            let is = sound.taken other its kept in
-            taken_later options m.history new other its
-            (others its.endpoint (λ same. differ.1 (slots_apart options m.history other slot its taken is is_taken same))) is
+    where
+      others_keep : (other : ℕ) (its : Taken) → (with_taken slot None m).taken other ≡ Some its
+          → ((eqb other slot ≡ true) × (other ≡ slot)) ⊎ ((eqb other slot ≡ false) × (other ≢ slot)) → IsTaken options (m.history ++ new ∷ []) other its
+      others_keep other its there (inl same) = absurd (let none : None ≡ Some its = (rw same.0 at there) in cc)
+      others_keep other its there (inr differ) =
+          let kept : m.taken other ≡ Some its = (rw differ.0 at there) in
+          let is = sound.taken other its kept in
+          taken_later options m.history new other its
+          (others its.endpoint (λ same. differ.1 (slots_apart options m.history other slot its taken is is_taken same))) is
 
   -- the map is published or blocked, as it fits
   table_keeps : (table : List MapEntry) (b : Bool) → fits_limit options.map_max (length table) ≡ b
@@ -283,3 +270,9 @@ start_sound options = record {
   by_zero = record { each = λ i pass number request there. absurd (cc) };
   taken = λ slot taken there. absurd (cc);
 }
+
+-- a history that steps give is legal
+pub steps_legal : (options : Options) (history : List HistoryEvent) → HasSteps options history → IsLegal options history × AreOfPassZero history
+steps_legal options history given =
+    let sound = steps_keep options machine_start given.steps (start_sound options) in
+    (subst (λ (h : List HistoryEvent). IsLegal options h) given.give sound.legal, subst AreOfPassZero given.give sound.by_zero)

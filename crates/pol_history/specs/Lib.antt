@@ -4,5 +4,11 @@ pub mod Legal
 pub mod MayFollow
 pub mod Look
 pub mod Machine
+pub mod MachineKeeps
 pub mod Grows
 pub mod Calls
+pub mod Regenerate
+pub mod Content
+pub mod ExampleEvents
+pub mod SmallHistories
+pub mod SmallRuns

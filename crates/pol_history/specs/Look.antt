@@ -1,5 +1,5 @@
 -- What a look-up finds in a history.
-use Rattle.std.specs.Prelude.{ℕ, List, Option, None, Some}
+use Rattle.std.specs.Prelude.{◌≡◌, ℕ, ◌≤◌, List, Option, None, Some}
 use Rattle.pol_mapkey.specs.declared.Word.{Word}
 use Rattle.pol_model.specs.Endpoints.{endpoint_of}
 use Rattle.pol_model.specs.Remote.{verdict_for}
@@ -34,3 +34,10 @@ look_live options history query (Some row) =
 -- an address stands there for what it was at that revision.
 abbrev pub look : Options → List HistoryEvent → Query → Looked
 look options history query = look_live options history query (endpoint_of query.endpoint (state_now options history).endpoints)
+
+-- a look-up finds a map of the revision or a later one
+pub record FindsSince (options : Options) (history : List HistoryEvent) (query : Query) (revision : ℕ) : Type 0 where
+  pub newer : ℕ
+  pub word : Word
+  pub found : look options history query ≡ Found newer word
+  pub no_older : revision ≤ newer

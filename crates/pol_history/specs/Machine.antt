@@ -7,7 +7,6 @@ use Rattle.pol_model.specs.Fault.{fault_of}
 use Rattle.pol_model.specs.PolicyMap.{policy_map}
 use Rattle.pol_model.specs.declared.answer.Fault.{Fault}
 use Rattle.pol_model.specs.declared.options.Options.{Options}
-use Rattle.pol_model.specs.declared.request.Query.{Query}
 use Rattle.pol_model.specs.declared.request.Request.{Request}
 use Rattle.pol_model.specs.declared.row.Endpoint.{Endpoint}
 use Rattle.pol_history.specs.declared.event.EndpointId.{EndpointId}
@@ -136,6 +135,19 @@ machine_from options m (next ∷ later) = machine_from options (step_of options 
 abbrev pub machine_after : Options → List Event → Machine
 machine_after options steps = machine_from options machine_start steps
 
--- the history of steps
+-- the replies to steps
+abbrev pub replies_from : Options → Machine → List Event → List Reply
+replies_from options m [] = []
+replies_from options m (next ∷ later) = (step_of options m next).0 ∷ replies_from options (step_of options m next).1 later
+
+abbrev pub replies_to : Options → List Event → List Reply
+replies_to options steps = replies_from options machine_start steps
+
+-- the history that steps give
 abbrev pub history_of_steps : Options → List Event → List HistoryEvent
 history_of_steps options steps = (machine_after options steps).history
+
+-- some steps give the history
+pub record HasSteps (options : Options) (history : List HistoryEvent) : Type 0 where
+  pub steps : List Event
+  pub give : history_of_steps options steps ≡ history

@@ -1,5 +1,5 @@
 -- Reports of an endpoint: that its map was published, or that it is too large to be.
-use Rattle.std.specs.Prelude.{◌≡◌, ℕ, ◌+◌, ◌<◌, nat_le, Bool, true, if◌then◌else◌, List, [], ◌∷◌, length, slice_get, Option, None, Some, option_map}
+use Rattle.std.specs.Prelude.{◌≡◌, ℕ, ◌+◌, ◌<◌, nat_le, Bool, true, if◌then◌else◌, List, [], ◌∷◌, slice_get, Option, None, Some, option_map}
 use Rattle.pol_mapkey.specs.Entries.{Entry as MapEntry}
 use Rattle.pol_model.specs.PolicyMap.{policy_map, map_size}
 use Rattle.pol_model.specs.declared.options.Options.{Options}
@@ -28,6 +28,17 @@ pub record IsLastReport (history : List HistoryEvent) (n i : ℕ) (endpoint : En
   pub report : IsReport history i endpoint revision
   pub among : i < n
   pub none_after : (later other : ℕ) → i < later → later < n → IsReport history later endpoint other → ⊥
+
+-- event i of the history publishes a map of the endpoint at that revision
+pub record IsPublish (history : List HistoryEvent) (i : ℕ) (endpoint : EndpointId) (revision : ℕ) : Type 0 where
+  pub table : List MapEntry
+  pub there : slice_get history i ≡ Some (event.Publish endpoint revision table)
+
+-- the endpoint's last published map is of that revision
+pub record IsLastPublish (history : List HistoryEvent) (endpoint : EndpointId) (revision : ℕ) : Type 0 where
+  pub place : ℕ
+  pub publish : IsPublish history place endpoint revision
+  pub none_after : (later other : ℕ) → place < later → IsPublish history later endpoint other → ⊥
 
 -- ---- by a fold
 
