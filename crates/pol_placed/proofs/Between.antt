@@ -25,7 +25,7 @@ use Rattle.pol_history.proofs.Cuts.{revision-grows, revision-take, state-take}
 use Rattle.pol_history.proofs.LegalEvents.{legal_take}
 use Rattle.pol_placed.specs.Placed.{Allows, IsLineOf, IsPlaced}
 use Rattle.pol_placed.proofs.Bounds.{AreBounded}
-use Rattle.pol_placed.proofs.Grown.{published_report}
+use Rattle.pol_history.proofs.Grown.{published_report}
 use Rattle.pol_placed.proofs.Looks.{TellsLook, tells_look, id_of}
 use Rattle.pol_placed.proofs.Numbers.{IsOkAt, EachOnce}
 use Rattle.pol_placed.proofs.Places.{at_first, revision-next, no_earlier, same_element}

@@ -33,7 +33,7 @@ use Rattle.pol_placed.proofs.Law.{short_requests}
 use Rattle.pol_placed.proofs.Live.{live_before, live_of_first, live_there, one_row}
 use Rattle.pol_placed.proofs.Looks.{id_of, tells_look}
 use Rattle.pol_placed.proofs.Places.{at_first}
-use Rattle.pol_placed.proofs.Published.{PublishesAt}
+use Rattle.pol_history.proofs.Published.{PublishesAt}
 use Rattle.pol_placed.proofs.Shown.{verdict_row}
 
 module _ (options : Options) (history : List HistoryEvent) (lines : List Line) (legal : IsLegal options history) (placed : IsPlaced options history lines) where

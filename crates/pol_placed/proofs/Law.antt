@@ -35,7 +35,7 @@ use Rattle.pol_placed.specs.LawOfRuns.{PlacedAnswersAreARun, PlacedLinesAreARun}
 use Rattle.pol_placed.specs.Placed.{IsLineOf, IsPlaced}
 use Rattle.pol_placed.proofs.Between.{are_bounded, commit_at, high_of, low_of}
 use Rattle.pol_placed.proofs.Bounds.{AreBounded, carried, ok_ascend, reached, since_seen}
-use Rattle.pol_placed.proofs.Grown.{newest, published_report}
+use Rattle.pol_history.proofs.Grown.{newest, published_report}
 use Rattle.pol_placed.proofs.Live.{fits_within, live_then, one_row, published_fits, reported}
 use Rattle.pol_placed.proofs.Looks.{TellsLook, id_of, tells_look}
 use Rattle.pol_placed.proofs.Places.{at_first, commit-kth}
@@ -83,7 +83,7 @@ module _ (options : Options) (history : List HistoryEvent) (lines : List Line) (
         let was = shown options history lines legal placed its.0 j other answer name row seen (high i) of
         (revision-grows (placed.after j) (placed.after i) history (omega (arith, order, grows))) lives
         (placed.allowed its.0 j other answer of) shows in
-        let first = at_first (placed.after j) was.place history _ was.there in
+        let first = at_first (placed.after j) was.place history (event.Publish (id_of name row) was.revision was.table) was.there in
         record {
           place = was.place;
           revision = was.revision;

@@ -1,7 +1,5 @@
 pub mod Sums
 pub mod Places
-pub mod Published
-pub mod Grown
 pub mod Looks
 pub mod Numbers
 pub mod SessionCounts

@@ -19,7 +19,7 @@ use Rattle.pol_history.proofs.Lives.{lives-back, lives-then}
 use Rattle.pol_history.proofs.Same.{live-parts, live-whole}
 use Rattle.pol_placed.proofs.Looks.{id_of}
 use Rattle.pol_placed.proofs.Places.{same_element}
-use Rattle.pol_placed.proofs.Published.{PublishesAt}
+use Rattle.pol_history.proofs.Published.{PublishesAt}
 
 module _ (options : Options) (history : List HistoryEvent) (name : List ℕ) (row : Endpoint) where
   -- an endpoint was live at each revision before, since it was added

@@ -15,7 +15,7 @@ use Rattle.pol_history.specs.Commits.{revision_of, state_after, state_now}
 use Rattle.pol_history.specs.Look.{look, look_live, look_published}
 use Rattle.pol_history.specs.Reports.{last_published}
 use Rattle.pol_placed.specs.Placed.{answer_found}
-use Rattle.pol_placed.proofs.Published.{IsLastPublished, PublishesAt, TellsPublished, told_published}
+use Rattle.pol_history.proofs.Published.{IsLastPublished, PublishesAt, TellsPublished, told_published}
 
 -- the endpoint of a row
 abbrev pub id_of : List ℕ → Endpoint → EndpointId

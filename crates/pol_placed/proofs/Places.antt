@@ -7,15 +7,12 @@ use Rattle.pol_history.specs.declared.event.HistoryEvent.{HistoryEvent}
 use Rattle.pol_history.specs.declared.event.HistoryEvent.TheVariants as event
 use Rattle.pol_history.specs.Commits.{commits_in, revision_of}
 use Rattle.pol_history.proofs.Cuts.{commits-append, revision-grows}
-use Rattle.pol_history.proofs.Lists.{get_seam}
+use Rattle.pol_history.proofs.Lists.{get_seam, no_element}
 
 -- ---- elements of a list
 
 pub same_element : {X : Type 0} (x y : X) → Some x ≡ Some y → x ≡ y
 same_element x y same = cc
-
-pub no_element : {X : Type 0} (x : X) → None ≡ Some x → ⊥
-no_element x same = cc
 
 -- what holds of every element holds of one at an index
 pub element_at : {X : Type 0} (P : X → Type 0) (xs : List X) (i : ℕ) (x : X) → AllByRecursion P xs → slice_get xs i ≡ Some x → P x

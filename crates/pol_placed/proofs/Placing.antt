@@ -18,7 +18,8 @@ use Rattle.pol_history.specs.declared.event.HistoryEvent.{HistoryEvent}
 use Rattle.pol_history.specs.declared.event.HistoryEvent.TheVariants as event
 use Rattle.pol_history.specs.Commits.{commits_by}
 use Rattle.pol_placed.specs.Placed.{Allows, IsLineOf, IsPassOfLine, IsPlaced, requests_ok}
-use Rattle.pol_placed.proofs.Places.{no_element, same_element}
+use Rattle.pol_history.proofs.Lists.{no_element}
+use Rattle.pol_placed.proofs.Places.{same_element}
 use Rattle.pol_placed.proofs.SessionCounts.{found_line, has_line}
 
 passes : {X : Type 0} (p : X → Bool) (xs : List X) (x : X) → list_all p xs ≡ true → Contains xs x → p x ≡ true

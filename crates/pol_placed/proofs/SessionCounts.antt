@@ -15,7 +15,8 @@ use Rattle.pol_history.specs.declared.event.HistoryEvent.{HistoryEvent}
 use Rattle.pol_history.specs.declared.event.HistoryEvent.TheVariants as event
 use Rattle.pol_history.specs.Commits.{commits_in, request_by, request_in}
 use Rattle.pol_placed.specs.Placed.{IsLineOf, IsPlaced, request_ok}
-use Rattle.pol_placed.proofs.Places.{same_element, no_element}
+use Rattle.pol_history.proofs.Lists.{no_element}
+use Rattle.pol_placed.proofs.Places.{same_element}
 use Rattle.pol_placed.proofs.Sums.{sum_to, sum_to-same, sum_to-none, sum_to-one, sum_of_kinds, count_in, length-filter_map, every_at}
 
 -- ---- which sessions have a line

@@ -23,10 +23,10 @@ use Rattle.pol_history.proofs.LegalEvents.{legal_take}
 use Rattle.pol_history.proofs.Same.{live-whole}
 use Rattle.pol_placed.specs.Placed.{Allows, IsLineOf, IsPlaced}
 use Rattle.pol_placed.proofs.Between.{reported_within}
-use Rattle.pol_placed.proofs.Grown.{published_report}
+use Rattle.pol_history.proofs.Grown.{published_report}
 use Rattle.pol_placed.proofs.Live.{live_before, live_then, live_there, live_of_first, one_row}
 use Rattle.pol_placed.proofs.Looks.{IsFound, id_of, tells_look}
-use Rattle.pol_placed.proofs.Published.{PublishesAt}
+use Rattle.pol_history.proofs.Published.{PublishesAt}
 
 -- a map of the endpoint at the revision or a later one was published
 pub record IsShown (history : List HistoryEvent) (endpoint : EndpointId) (seen : ℕ) : Type 0 where

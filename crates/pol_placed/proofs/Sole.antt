@@ -8,7 +8,8 @@ use Rattle.pol_history.specs.declared.event.EndpointId.{EndpointId}
 use Rattle.pol_history.specs.Commits.{Lives}
 use Rattle.pol_history.proofs.Same.{live-parts}
 use Rattle.pol_placed.proofs.Looks.{id_of}
-use Rattle.pol_placed.proofs.Places.{no_element, same_element}
+use Rattle.pol_history.proofs.Lists.{no_element}
+use Rattle.pol_placed.proofs.Places.{same_element}
 
 found_only : (name : List ℕ) (row found : Endpoint) (same : Bool) → bytes_eq row.name name ≡ same → cond same (Some row) None ≡ Some found
     → (row.name ≡ name) × (row ≡ found)

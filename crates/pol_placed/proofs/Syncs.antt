@@ -21,7 +21,7 @@ use Rattle.pol_history.specs.Reports.{fits_limit}
 use Rattle.pol_history.proofs.LegalEvents.{legal_take, report_of_take}
 use Rattle.pol_history.proofs.Same.{live-whole}
 use Rattle.pol_placed.proofs.Between.{reported_within}
-use Rattle.pol_placed.proofs.Grown.{published_report}
+use Rattle.pol_history.proofs.Grown.{published_report}
 use Rattle.pol_placed.proofs.Live.{IsReported, blocked_count, fits_within, live_there, live_of_first, one_row, published_fits, reported}
 use Rattle.pol_placed.proofs.Places.{at_first, element_at}
 

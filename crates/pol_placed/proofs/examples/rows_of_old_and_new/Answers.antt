@@ -12,7 +12,8 @@ use Rattle.pol_run.specs.ExampleLines.{full, one_entry, web}
 use Rattle.pol_run.specs.RightRuns as lines
 use Rattle.pol_run.proofs.Examples.{web_since}
 use Rattle.pol_placed.specs.Examples as history
-use Rattle.pol_placed.proofs.Places.{element_at, no_element, same_element}
+use Rattle.pol_history.proofs.Lists.{no_element}
+use Rattle.pol_placed.proofs.Places.{element_at, same_element}
 use Rattle.pol_placed.proofs.Placing.{placed_so}
 use Rattle.pol_placed.proofs.Sole.{only_live}
 use Rattle.pol_placed.proofs.examples.rows_of_old_and_new.Goals as goal
