@@ -26,6 +26,7 @@ use Rattle.pol_run.specs.History.{history_of}
 use Rattle.pol_run.proofs.FromShort.{run_from_short}
 use Rattle.pol_run.proofs.ShortNumbers.{short_history}
 use Rattle.pol_history.specs.declared.event.HistoryEvent.{HistoryEvent}
+use Rattle.pol_history.specs.declared.event.HistoryEvent.TheVariants as event
 use Rattle.pol_history.specs.Commits.{commits_in, revision_of, state_after}
 use Rattle.pol_history.specs.Legal.{IsLegal}
 use Rattle.pol_history.proofs.Cuts.{revision-grows, state-take, state-then}
