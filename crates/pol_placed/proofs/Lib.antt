@@ -12,3 +12,4 @@ pub mod Law
 pub mod Held
 pub mod Placing
 pub mod Sole
+pub mod PlayingOn

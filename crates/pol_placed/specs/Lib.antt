@@ -1,4 +1,5 @@
 pub mod Placed
+pub mod Session
 pub mod HistoryOfRun
 pub mod LawOfRuns
 pub mod Examples
