@@ -1,1 +1,17 @@
+pub mod Sums
+pub mod Places
+pub mod Looks
+pub mod Numbers
+pub mod SessionCounts
+pub mod Bounds
+pub mod Between
+pub mod Live
+pub mod Shown
+pub mod Syncs
+pub mod Law
+pub mod Held
+pub mod Placing
+pub mod Sole
 pub mod PlayingOn
+pub mod PhaseLines
+pub mod Phased

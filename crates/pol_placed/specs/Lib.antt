@@ -1,4 +1,6 @@
 pub mod Placed
+pub mod Session
+pub mod Phases
 pub mod HistoryOfRun
 pub mod LawOfRuns
-pub mod Session
+pub mod Examples

@@ -1,4 +1,6 @@
 //! Lines of a run that are placed in one history, and what follows for the run.
 #![tactic(auto)]
 
+pub mod examples;
+pub mod laws;
 pub mod sessions;
