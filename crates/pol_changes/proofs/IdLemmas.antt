@@ -1,0 +1,140 @@
+-- Numbers of ascending lists: which a list has, and that lists with the same numbers are one.
+use Rattle.std.proofs.Common.{◌≡◌, ℕ, ◌<◌, ◌==◌, Bool, true, false, not, ◌&&◌, ◌||◌, nat_lt, List, [], ◌∷◌, ◌++◌, filter, fold, refl, sym, ap, subst, ◌∙◌, inl, inr, arith}
+use Rattle.std.specs.List.{AllByRecursion, Contains, dedup, list_any}
+use Rattle.std.specs.List.Sorted.{IsStrictlySortedBy, IsSorted, IsPermutation}
+use Rattle.std.specs.Ordering.{nat_cmp, eq_by_cmp}
+use Rattle.std.specs.declared.cmp.Ordering.TheVariants.{Less}
+use Rattle.std.proofs.lemmas.Bool.{cases_Bool, cases_eq, cases_lt, eqb-true, eq-eqb, ne_eqb, lt-ltb, le-ltb, ltb-true, or_cases}
+use Rattle.std.proofs.lemmas.Cmp.{nat_cmp_total}
+use Rattle.std.proofs.lemmas.List.Folds.{list_any-append}
+use Rattle.std.proofs.lemmas.List.Kept.{IsStrictlySortedBy-filter, IsStrictlySortedBy-dedup, Contains-dedup_nat, Contains-from_dedup}
+use Rattle.std.proofs.lemmas.List.Sorted.{Contains-permutation, IsPermutation-sym}
+use Rattle.std.proofs.lemmas.Map.Views.{any-filter_same}
+use Rattle.pol_data.proofs.Ascending.{same_members}
+use Rattle.pol_data.proofs.Every.{every-append, every-filter}
+use Rattle.pol_data.proofs.Members.{In, In-from_Contains, Contains-from_In, every-from_in}
+use Rattle.pol_changes.specs.Ids.{has, without, placed, union}
+
+abbrev pub Ascends : List ℕ → Type 0
+Ascends ids = IsStrictlySortedBy nat_cmp ids
+
+-- two tests that are true together are one
+pub same_tests : (a b : Bool) → (a ≡ true → b ≡ true) → (b ≡ true → a ≡ true) → a ≡ b
+same_tests true true to back = refl
+same_tests true false to back = sym (to refl)
+same_tests false true to back = back refl
+same_tests false false to back = refl
+
+-- ---- what a list has
+in_from_has : (id : ℕ) (ids : List ℕ) → has id ids ≡ true → In id ids
+in_from_has id [] there = let wrong : ⊥ = cc in wrong
+in_from_has id (own ∷ ids) there =
+    elim (or_cases (own == id) (has id ids) there) [
+      | inl here ↦ inl (eqb-true own id here)
+      | inr later ↦ inr (in_from_has id ids later)
+    ]
+
+has_from_in : (id : ℕ) (ids : List ℕ) → In id ids → has id ids ≡ true
+has_from_in id [] there = elim there [ ]
+has_from_in id (own ∷ ids) (inl same) = rw (eq-eqb own id same) refl
+has_from_in id (own ∷ ids) (inr later) =
+    elim (own == id) as (λ b. (b || has id ids) ≡ true) [ true ↦ refl | false ↦ has_from_in id ids later ]
+
+-- ascending lists that have the same numbers are one list
+pub same_ids : (xs ys : List ℕ) → Ascends xs → Ascends ys → ((id : ℕ) → has id xs ≡ has id ys) → xs ≡ ys
+same_ids xs ys ascend_xs ascend_ys same =
+    same_members nat_cmp_total xs ys ascend_xs ascend_ys
+    (λ id there. in_from_has id ys (sym (same id) ∙ has_from_in id xs there))
+    (λ id there. in_from_has id xs (same id ∙ has_from_in id ys there))
+
+has-filter : (p : ℕ → Bool) (id : ℕ) (ids : List ℕ) → has id (filter p ids) ≡ (p id && has id ids)
+has-filter p id ids = any-filter_same (λ own. own == id) p (p id) (λ own same. ap p (eqb-true own id same)) ids
+
+pub has-without : (id : ℕ) (ids others : List ℕ) → has id (without ids others) ≡ (not (has id others) && has id ids)
+has-without id ids others = has-filter (λ own. not (has own others)) id ids
+
+or_nothing : (b : Bool) → (b || false) ≡ b
+or_nothing true = refl
+or_nothing false = refl
+
+has-placed : (id : ℕ) (ids : List ℕ) (new : ℕ) → has id (placed ids new) ≡ ((new == id) || has id ids)
+has-placed id ids new =
+    let parts : has id (placed ids new) ≡ ((nat_lt id new && has id ids) || ((new == id) || (nat_lt new id && has id ids))) =
+    list_any-append (λ own. own == id) (filter (λ own. nat_lt own new) ids) (new ∷ filter (λ own. nat_lt new own) ids)
+    ∙ (λ i. has-filter (λ own. nat_lt own new) id ids i || ((new == id) || has-filter (λ own. nat_lt new own) id ids i)) in
+    parts ∙ elim (cases_eq new id) [
+      | inl same ↦ rw (eq-eqb new id same, le-ltb id new (omega arith)) refl
+      | inr differs ↦ elim (cases_lt new id) [
+        | inl below ↦ rw (ne_eqb new id differs, lt-ltb new id below, le-ltb id new (omega arith)) refl
+        | inr above ↦ rw (ne_eqb new id differs, lt-ltb id new (omega arith), le-ltb new id (omega arith)) (or_nothing (has id ids))
+      ]
+    ]
+
+or_moves : (a b c : Bool) → ((b || a) || c) ≡ (a || (b || c))
+or_moves true true c = refl
+or_moves true false c = refl
+or_moves false true c = refl
+or_moves false false c = refl
+
+pub has-union : (id : ℕ) (ids others : List ℕ) → has id (union ids others) ≡ (has id ids || has id others)
+has-union id ids [] = sym (or_nothing (has id ids))
+has-union id ids (new ∷ others) =
+    has-union id (placed ids new) others ∙ ap (λ b. b || has id others) (has-placed id ids new) ∙ or_moves (has id ids) (new == id) (has id others)
+
+-- ---- what ascends
+less_cmp : (x y : ℕ) → x < y → nat_cmp x y ≡ Less
+less_cmp x y less = rw (lt-ltb x y less) refl
+
+ascends-append : (xs ys : List ℕ) → Ascends xs → Ascends ys → AllByRecursion (λ x. AllByRecursion (λ y. nat_cmp x y ≡ Less) ys) xs → Ascends (xs ++ ys)
+unfolding IsStrictlySortedBy
+ascends-append [] ys front back across = back
+ascends-append (x ∷ xs) ys front back across =
+    (every-append (λ y. nat_cmp x y ≡ Less) xs ys front.0 across.0, ascends-append xs ys front.1 back across.1)
+
+pub without-ascends : (ids others : List ℕ) → Ascends ids → Ascends (without ids others)
+without-ascends ids others ascend = IsStrictlySortedBy-filter nat_cmp (λ id. not (has id others)) ids ascend
+
+placed-ascends : (ids : List ℕ) (new : ℕ) → Ascends ids → Ascends (placed ids new)
+unfolding IsStrictlySortedBy
+placed-ascends ids new ascend =
+    let above : AllByRecursion (λ y. nat_cmp new y ≡ Less) (filter (λ own. nat_lt new own) ids) =
+    every-filter (λ y. nat_cmp new y ≡ Less) (λ own. nat_lt new own) ids (every-from_in _ ids (λ y _ passes. less_cmp new y (ltb-true new y passes))) in
+    ascends-append (filter (λ own. nat_lt own new) ids) (new ∷ filter (λ own. nat_lt new own) ids)
+    (IsStrictlySortedBy-filter nat_cmp (λ own. nat_lt own new) ids ascend)
+    (above, IsStrictlySortedBy-filter nat_cmp (λ own. nat_lt new own) ids ascend)
+    (every-filter _ (λ own. nat_lt own new) ids (every-from_in _ ids (λ x _ passes. (
+      less_cmp x new (ltb-true x new passes),
+      every-filter (λ y. nat_cmp x y ≡ Less) (λ own. nat_lt new own) ids (every-from_in _ ids (λ y _ later. less_cmp x y (omega (arith, ltb-true x new passes, ltb-true new y later)))),
+    )
+    )))
+
+pub union-ascends : (ids others : List ℕ) → Ascends ids → Ascends (union ids others)
+union-ascends ids [] ascend = ascend
+union-ascends ids (new ∷ others) ascend = union-ascends (placed ids new) others (placed-ascends ids new ascend)
+
+-- ---- a sort and a `dedup` of two lists give their union
+has_all : (xs ys : List ℕ) → ((id : ℕ) → Contains xs id → Contains ys id) → (id : ℕ) → has id xs ≡ true → has id ys ≡ true
+has_all xs ys all id there =
+    has_from_in id ys (In-from_Contains ys id (all id (Contains-from_In xs id (in_from_has id xs there))))
+
+ties : (x y : ℕ) → (x == y) ≡ eq_by_cmp nat_cmp x y
+ties x y =
+    elim (cases_eq x y) [
+      | inl same ↦ rw (eq-eqb x y same, le-ltb x y (omega arith)) refl
+      | inr differs ↦ elim (cases_lt x y) [
+        | inl below ↦ rw (ne_eqb x y differs, lt-ltb x y below) refl
+        | inr above ↦ rw (ne_eqb x y differs, le-ltb x y (omega arith)) refl
+      ]
+    ]
+
+pub union_by_sort : (xs ys sorted : List ℕ) → Ascends xs → IsPermutation (xs ++ ys) sorted → IsSorted nat_cmp sorted → Ascends (dedup (λ a b. a == b) sorted) × (dedup (λ a b. a == b) sorted ≡ union xs ys)
+union_by_sort xs ys sorted ascend moves in_order =
+    let result : List ℕ = dedup (λ a b. a == b) sorted in
+    let ascends : Ascends result = IsStrictlySortedBy-dedup nat_cmp_total (λ x y. ties x y) sorted in_order in (
+      ascends,
+      same_ids result (union xs ys) ascends (union-ascends xs ys ascend) (λ id.
+          same_tests (has id result) (has id (xs ++ ys))
+          (has_all result (xs ++ ys) (λ own there. Contains-permutation sorted (xs ++ ys) own (IsPermutation-sym (xs ++ ys) sorted moves) (Contains-from_dedup (λ a b. a == b) sorted own there)) id)
+          (has_all (xs ++ ys) result (λ own there. Contains-dedup_nat sorted own (Contains-permutation (xs ++ ys) sorted own moves there)) id)
+          ∙ list_any-append (λ own. own == id) xs ys ∙ sym (has-union id xs ys)),
+    )
