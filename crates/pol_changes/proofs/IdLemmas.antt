@@ -12,7 +12,7 @@ use Rattle.std.proofs.lemmas.List.Sorted.{Contains-permutation, IsPermutation-sy
 use Rattle.std.proofs.lemmas.Map.Views.{any-filter_same}
 use Rattle.pol_data.proofs.Ascending.{same_members}
 use Rattle.pol_data.proofs.Every.{every-append, every-filter}
-use Rattle.pol_data.proofs.Members.{In, In-from_Contains, Contains-from_In, every-from_in}
+use Rattle.pol_data.proofs.Members.{In, In-from_Contains, Contains-from_In, every-in, every-from_in}
 use Rattle.pol_changes.specs.Ids.{has, without, placed, union}
 
 abbrev pub Ascends : List ℕ → Type 0
@@ -39,6 +39,13 @@ has_from_in id [] there = elim there [ ]
 has_from_in id (own ∷ ids) (inl same) = rw (eq-eqb own id same) refl
 has_from_in id (own ∷ ids) (inr later) =
     elim (own == id) as (λ b. (b || has id ids) ≡ true) [ true ↦ refl | false ↦ has_from_in id ids later ]
+
+-- what holds of all elements holds of each number that the list has, and the converse
+pub has_of_all : (P : ℕ → Type 0) (ids : List ℕ) → AllByRecursion P ids → (id : ℕ) → has id ids ≡ true → P id
+has_of_all P ids all id there = every-in P ids all id (in_from_has id ids there)
+
+pub all_have : (P : ℕ → Type 0) (ids : List ℕ) → ((id : ℕ) → has id ids ≡ true → P id) → AllByRecursion P ids
+all_have P ids each = every-from_in P ids (λ id there. each id (has_from_in id ids there))
 
 -- ascending lists that have the same numbers are one list
 pub same_ids : (xs ys : List ℕ) → Ascends xs → Ascends ys → ((id : ℕ) → has id xs ≡ has id ys) → xs ≡ ys
@@ -90,6 +97,10 @@ unfolding IsStrictlySortedBy
 ascends-append [] ys front back across = back
 ascends-append (x ∷ xs) ys front back across =
     (every-append (λ y. nat_cmp x y ≡ Less) xs ys front.0 across.0, ascends-append xs ys front.1 back across.1)
+
+pub nothing_ascends : Ascends []
+unfolding IsStrictlySortedBy
+nothing_ascends = tt
 
 pub without-ascends : (ids others : List ℕ) → Ascends ids → Ascends (without ids others)
 without-ascends ids others ascend = IsStrictlySortedBy-filter nat_cmp (λ id. not (has id others)) ids ascend

@@ -1,2 +1,5 @@
-mod IdLemmas
-mod NetLemmas
+pub mod IdLemmas
+pub mod NetLemmas
+pub mod LogLemmas
+pub mod Walk
+pub mod Recording

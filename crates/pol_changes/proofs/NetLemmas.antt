@@ -1,5 +1,5 @@
 -- The net change of a set's changes is the difference of the set after them and before them.
-use Rattle.std.proofs.Common.{◌≡◌, ℕ, Bool, true, false, not, ◌&&◌, ◌||◌, List, [], ◌∷◌, ◌++◌, fold, refl, sym, ap, ◌∙◌}
+use Rattle.std.proofs.Common.{◌≡◌, ℕ, Bool, true, false, not, ◌&&◌, ◌||◌, List, [], ◌∷◌, ◌++◌, fold, refl, sym, ap, subst, ◌∙◌}
 use Rattle.std.specs.List.{AllByRecursion}
 use Rattle.std.proofs.lemmas.List.Sums.{fold-append}
 use Rattle.pol_sets.specs.declared.sets.Move.{Move}
@@ -40,3 +40,129 @@ joined_move first middle last older newer ascend_first ascend_middle ascend_last
   gained = (λ i. union (without (one.gained i) (other.lost i)) (without (other.gained i) (one.lost i))) ∙ joined_side first middle last ascend_first ascend_middle ascend_last;
   lost = (λ i. union (without (one.lost i) (other.gained i)) (without (other.lost i) (one.gained i))) ∙ joined_side last middle first ascend_last ascend_middle ascend_first;
 }
+
+-- ---- a move that fits
+fits_gained : (old lost gained : Bool) → (gained ≡ true → old ≡ false) → gained ≡ (not old && ((not lost && old) || gained))
+fits_gained true lost true new = new refl
+fits_gained true lost false new = refl
+fits_gained false true gained new = refl
+fits_gained false false gained new = refl
+
+fits_lost : (old lost gained : Bool) → (gained ≡ true → old ≡ false) → (lost ≡ true → old ≡ true) → lost ≡ (not ((not lost && old) || gained) && old)
+fits_lost true true true new there = sym (new refl)
+fits_lost true true false new there = refl
+fits_lost true false gained new there = refl
+fits_lost false true gained new there = sym (there refl)
+fits_lost false false true new there = refl
+fits_lost false false false new there = refl
+
+has-moved : (id : ℕ) (ids : List ℕ) (m : Move) → has id (moved ids m) ≡ ((not (has id m.lost) && has id ids) || has id m.gained)
+has-moved id ids m = has-union id (without ids m.lost) m.gained ∙ ap (λ b. b || has id m.gained) (has-without id ids m.lost)
+
+moved-ascends : (ids : List ℕ) (m : Move) → Ascends ids → Ascends (moved ids m)
+moved-ascends ids m ascend = union-ascends (without ids m.lost) m.gained (without-ascends ids m.lost ascend)
+
+fits_move : (ids : List ℕ) (m : Move) → Ascends ids → Fits ids m → IsMove ids (moved ids m) m
+fits_move ids m ascend fits =
+    let new : (id : ℕ) → has id m.gained ≡ true → has id ids ≡ false = has_of_all (λ id. has id ids ≡ false) m.gained fits.gained_new in
+    let there : (id : ℕ) → has id m.lost ≡ true → has id ids ≡ true = has_of_all (λ id. has id ids ≡ true) m.lost fits.lost_old in
+    record {
+      gained = same_ids m.gained (without (moved ids m) ids) fits.gained_ascend (without-ascends (moved ids m) ids (moved-ascends ids m ascend)) (λ id.
+          fits_gained (has id ids) (has id m.lost) (has id m.gained) (new id)
+          ∙ sym (has-without id (moved ids m) ids ∙ ap (λ b. not (has id ids) && b) (has-moved id ids m)));
+      lost = same_ids m.lost (without ids (moved ids m)) fits.lost_ascend (without-ascends ids (moved ids m) ascend) (λ id.
+          fits_lost (has id ids) (has id m.lost) (has id m.gained) (new id) (there id)
+          ∙ sym (has-without id ids (moved ids m) ∙ ap (λ b. not b && has id ids) (has-moved id ids m)));
+    }
+
+-- ---- the net change
+after-ascends : (ids : List ℕ) (cs : List Change) → Ascends ids → Ascends (after_all ids cs)
+after-ascends ids [] ascend = ascend
+after-ascends ids (c ∷ older) ascend = moved-ascends (after_all ids older) (move_of c) (after-ascends ids older ascend)
+
+-- what the walk makes of one more change
+abbrev pub join : Move → Change → Move
+join newer c = joined (move_of c) newer
+
+fold_move : (first last : List ℕ) (cs : List Change) (m : Move) → Ascends first → Ascends last → AllFit first cs → IsMove (after_all first cs) last m → IsMove first last (fold join m cs)
+fold_move first last [] m ascend_first ascend_last fit is = is
+fold_move first last (c ∷ older) m ascend_first ascend_last fit is =
+    let middle = after_all first older in
+    let ascend = after-ascends first older ascend_first in
+    fold_move first last older (joined (move_of c) m) ascend_first ascend_last fit.1
+    (joined_move middle (moved middle (move_of c)) last (move_of c) m ascend (moved-ascends middle (move_of c) ascend) ascend_last (fits_move middle (move_of c) ascend fit.0) is)
+
+nothing_new : (b : Bool) → false ≡ (not b && b)
+nothing_new true = refl
+nothing_new false = refl
+
+still_move : (selector : ℕ) (ids : List ℕ) → Ascends ids → IsMove ids ids (still selector)
+still_move selector ids ascend =
+    let none : [] ≡ without ids ids = same_ids [] (without ids ids) nothing_ascends (without-ascends ids ids ascend) (λ id. nothing_new (has id ids) ∙ sym (has-without id ids ids)) in
+    record { gained = none; lost = none }
+
+pub net_is_exact : NetIsExact
+net_is_exact selector ids cs ascend fit =
+    let after = after-ascends ids cs ascend in
+    fold_move ids (after_all ids cs) cs (still selector) ascend after fit (still_move selector (after_all ids cs) after)
+
+-- ---- two stretches of changes
+after-append : (ids : List ℕ) (newer older : List Change) → after_all ids (newer ++ older) ≡ after_all (after_all ids older) newer
+after-append ids [] older = refl
+after-append ids (c ∷ newer) older = ap (λ own. moved own (move_of c)) (after-append ids newer older)
+
+fit-append : (ids : List ℕ) (newer older : List Change) → AllFit ids (newer ++ older) → AllFit ids older × AllFit (after_all ids older) newer
+fit-append ids [] older fit = (fit, tt)
+fit-append ids (c ∷ newer) older fit =
+    let rest = fit-append ids newer older fit.1 in
+    (rest.0, (subst (λ own. Fits own (move_of c)) (after-append ids newer older) fit.0, rest.1))
+
+fold_selector : (cs : List Change) (m : Move) → (fold join m cs).selector ≡ m.selector
+fold_selector [] m = refl
+fold_selector (c ∷ older) m = fold_selector older (joined (move_of c) m)
+
+same_move : (a b : Move) → a.selector ≡ b.selector → a.gained ≡ b.gained → a.lost ≡ b.lost → a ≡ b
+same_move a b selectors gained lost = λ i. record { selector = selectors i; gained = gained i; lost = lost i }
+
+pub nets_join : NetsJoin
+nets_join selector ids newer older ascend fit =
+    let parts = fit-append ids newer older fit in
+    let middle = after_all ids older in
+    let ascend_middle = after-ascends ids older ascend in
+    let whole = net_is_exact selector ids (newer ++ older) ascend fit in
+    let both = joined_move ids middle (after_all middle newer) (net selector older) (net selector newer) ascend ascend_middle (after-ascends middle newer ascend_middle)
+    (net_is_exact selector ids older ascend parts.0) (net_is_exact selector middle newer ascend_middle parts.1) in
+    let last = after-append ids newer older in
+    same_move (net selector (newer ++ older)) (joined (net selector older) (net selector newer))
+    (fold_selector (newer ++ older) (still selector) ∙ sym (fold_selector newer (still selector)))
+    (whole.gained ∙ ap (λ own. without own ids) last ∙ sym both.gained)
+    (whole.lost ∙ ap (λ own. without ids own) last ∙ sym both.lost)
+
+-- ---- the difference of two sets
+gained_new_bits : (old new : Bool) → (not old && new) ≡ true → old ≡ false
+gained_new_bits true new is = sym is
+gained_new_bits false new is = refl
+
+lost_old_bits : (old new : Bool) → (not new && old) ≡ true → old ≡ true
+lost_old_bits old true is = cc
+lost_old_bits old false is = is
+
+leads_bits : (old new : Bool) → ((not (not new && old) && old) || (not old && new)) ≡ new
+leads_bits true true = refl
+leads_bits true false = refl
+leads_bits false true = refl
+leads_bits false false = refl
+
+pub differences_lead : DifferencesLead
+differences_lead old new m ascend_old ascend_new is =
+    let gained : (id : ℕ) → has id m.gained ≡ (not (has id old) && has id new) = λ id. ap (has id) is.gained ∙ has-without id new old in
+    let lost : (id : ℕ) → has id m.lost ≡ (not (has id new) && has id old) = λ id. ap (has id) is.lost ∙ has-without id old new in (
+      record {
+        gained_ascend = subst Ascends (sym is.gained) (without-ascends new old ascend_new);
+        lost_ascend = subst Ascends (sym is.lost) (without-ascends old new ascend_old);
+        gained_new = all_have (λ id. has id old ≡ false) m.gained (λ id there. gained_new_bits (has id old) (has id new) (sym (gained id) ∙ there));
+        lost_old = all_have (λ id. has id old ≡ true) m.lost (λ id there. lost_old_bits (has id old) (has id new) (sym (lost id) ∙ there));
+      },
+      same_ids (moved old m) new (moved-ascends old m ascend_old) ascend_new (λ id.
+          has-moved id old m ∙ (λ i. (not (lost id i) && has id old) || gained id i) ∙ leads_bits (has id old) (has id new)),
+    )

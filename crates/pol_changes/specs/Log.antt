@@ -26,9 +26,9 @@ recorded log c = record {
   spare = log.spare - 1;
 }
 
--- the change is the selector's, and later than the revision
+-- the change is later than the revision, and the selector's
 abbrev pub is_later_of : ℕ → ℕ → Change → Bool
-is_later_of selector revision c = (c.selector == selector) && nat_lt revision c.revision
+is_later_of selector revision c = nat_lt revision c.revision && (c.selector == selector)
 
 -- the net change of the selector's set since the revision: none below the horizon
 abbrev pub since : Log → ℕ → ℕ → Option Move

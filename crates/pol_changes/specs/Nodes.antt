@@ -1,13 +1,12 @@
 -- What a `ChangeLog` keeps. No public clause cites this module.
-use Rattle.std.specs.Prelude.{◌≡◌, ℕ, ◌-◌, ◌<◌, ◌≤◌, ◌%◌, Bool, ◌==◌, nat_lt, min, List, length, map, filter, take_while}
-use Rattle.std.specs.List.{AllByRecursion}
-use Rattle.pol_arena.specs.Twin.{Entry, Twin, on_chain}
-use Rattle.pol_sets.specs.declared.sets.Move.{Move}
+use Rattle.std.specs.Prelude.{◌≡◌, ℕ, ◌-◌, ◌<◌, ◌≤◌, ◌%◌, ◌==◌, nat_lt, min, if◌then◌else◌, List, length, map, filter}
+use Rattle.std.specs.List.{AllByRecursion, take_while}
+use Rattle.std.specs.Option.{option_map_or}
+use Rattle.pol_arena.specs.Twin.{Entry, Twin, on_chain, oldest, after_drop}
 use Rattle.pol_changes.specs.declared.change.Change.{Change}
 use Rattle.pol_changes.specs.Log.{Log, IsSound}
-use Rattle.pol_changes.specs.Net.{net}
 
--- the values of nodes
+-- the changes of nodes
 abbrev pub values : List (Entry Change) → List Change
 values es = map (λ e. e.value) es
 
@@ -15,7 +14,7 @@ values es = map (λ e. e.value) es
 abbrev pub log_of : Twin Change → ℕ → ℕ → Log
 log_of nodes horizon spare = record { kept = values nodes.ages; horizon = horizon; spare = spare }
 
--- each change is on the chain of its selector's number, and there are nodes and chains for the spare changes
+-- each change is on its selector's chain, and there are nodes and chains for the spare changes
 pub record IsKept (nodes : Twin Change) (count horizon spare : ℕ) : Type 0 where
   pub sound : IsSound (log_of nodes horizon spare)
   pub counted : count ≡ length nodes.ages
@@ -23,7 +22,15 @@ pub record IsKept (nodes : Twin Change) (count horizon spare : ℕ) : Type 0 whe
   pub room : min spare (65536 - count) ≤ nodes.spare
   pub chains : 0 < spare → 65536 ≤ nodes.chains
 
--- the selector's changes later than the revision, as a walk along its chain finds them
-abbrev pub found_on : ℕ → ℕ → ℕ → List (Entry Change) → List Change
-found_on chain selector revision ages =
-    filter (λ c. c.selector == selector) (take_while (λ c. nat_lt revision c.revision) (values (on_chain chain ages)))
+-- the nodes without the oldest, where there are 65,536
+abbrev pub with_place : Twin Change → Twin Change
+with_place nodes = if nat_lt (length nodes.ages) 65536 then nodes else after_drop nodes
+
+-- and the horizon then
+abbrev pub horizon_with_place : Twin Change → ℕ → ℕ
+horizon_with_place nodes horizon =
+    if nat_lt (length nodes.ages) 65536 then horizon else option_map_or (λ e. e.value.revision) (oldest nodes.ages) horizon
+
+-- the selector's changes later than the revision, from the front of these
+abbrev pub found_in : ℕ → ℕ → List (Entry Change) → List Change
+found_in selector revision es = filter (λ c. c.selector == selector) (take_while (λ c. nat_lt revision c.revision) (values es))

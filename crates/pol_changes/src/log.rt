@@ -1,9 +1,9 @@
 //! The log of changes.
 ghost use Rattle.std.specs.Prelude.{◌≡◌, ◌↔◌, ◌+◌, ◌-◌, ◌<◌, ◌≤◌, ◌%◌, length, max, IfOk, IsOk, OnOk, OnErr, IsNone};
-ghost use Rattle.pol_arena.specs.Twin.{oldest, without_oldest};
+ghost use Rattle.pol_arena.specs.Twin.{on_chain};
 ghost use Rattle.pol_changes.specs.Log.{empty_log, newest, recorded, since, IsSound};
 ghost use Rattle.pol_changes.specs.Net.{net};
-ghost use Rattle.pol_changes.specs.Nodes.{found_on};
+ghost use Rattle.pol_changes.specs.Nodes.{with_place, horizon_with_place, found_in};
 
 use crate::Change;
 use crate::net::{joined, still};
@@ -55,7 +55,7 @@ fn net_on_chain(
     selector: u64,
     revision: u64,
 ) -> Result<Move, Memory>
-    ensures { IfOk result (λ m. m ≡ net selector (found_on (selector % 65536) selector revision nodes.now.ages)) }
+    ensures { IfOk result (λ m. m ≡ net selector (found_in selector revision (on_chain (selector % 65536) nodes.now.ages))) }
 {
     let mut net = still(alloc, selector);
     let mut node = nodes.newest(chain_of(selector));
@@ -70,6 +70,21 @@ fn net_on_chain(
         node = nodes.older(at);
     }
     Ok(net)
+}
+
+/// Drops the oldest node where as many are kept as may be, and gives the horizon then.
+fn make_place(nodes: &mut Twin<Change>, count: usize, horizon: u64) -> u64
+    requires counted { count ≡ length nodes.old.ages }
+    ensures nodes { nodes.new ≡ with_place nodes.old }
+    ensures horizon { result ≡ horizon_with_place nodes.old horizon }
+{
+    if count < KEPT {
+        return horizon;
+    }
+    match nodes.drop_oldest() {
+        Some(oldest) => oldest.revision,
+        None => unreachable!(),
+    }
 }
 
 impl ChangeLog {
@@ -111,11 +126,8 @@ impl ChangeLog {
         ensures log { self.new ≡ recorded self.old change }
         ensures sound { IsSound self.new }
     {
-        if self.count < KEPT {
-            self.count += 1;
-        } else if let Some(oldest) = self.nodes.drop_oldest() {
-            self.horizon = oldest.revision;
-        }
+        self.horizon = make_place(&mut self.nodes, self.count, self.horizon);
+        self.count = KEPT.min(self.count + 1);
         self.nodes.push(chain_of(change.selector), change);
         self.spare -= 1;
     }
