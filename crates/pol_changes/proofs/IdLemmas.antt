@@ -1,11 +1,13 @@
 -- Numbers of ascending lists: which a list has, and that lists with the same numbers are one.
 use Rattle.std.proofs.Common.{◌≡◌, ℕ, ◌<◌, ◌==◌, Bool, true, false, not, ◌&&◌, ◌||◌, nat_lt, List, [], ◌∷◌, ◌++◌, filter, fold, refl, sym, ap, subst, ◌∙◌, inl, inr, arith}
 use Rattle.std.specs.List.{AllByRecursion, Contains, dedup, list_any}
+use Rattle.std.specs.List.Retain.{IsFiltered, DiffersFromLast}
 use Rattle.std.specs.List.Sorted.{IsStrictlySortedBy, IsSorted, IsPermutation}
 use Rattle.std.specs.Ordering.{nat_cmp, eq_by_cmp}
 use Rattle.std.specs.declared.cmp.Ordering.TheVariants.{Less}
 use Rattle.std.proofs.lemmas.Bool.{cases_Bool, cases_eq, cases_lt, eqb-true, eq-eqb, ne_eqb, lt-ltb, le-ltb, ltb-true, or_cases}
 use Rattle.std.proofs.lemmas.Cmp.{nat_cmp_total}
+use Rattle.std.proofs.lemmas.List.Filters.{dedup_is}
 use Rattle.std.proofs.lemmas.List.Folds.{list_any-append}
 use Rattle.std.proofs.lemmas.List.Kept.{IsStrictlySortedBy-filter, IsStrictlySortedBy-dedup, Contains-dedup_nat, Contains-from_dedup}
 use Rattle.std.proofs.lemmas.List.Sorted.{Contains-permutation, IsPermutation-sym}
@@ -138,14 +140,26 @@ ties x y =
       ]
     ]
 
-pub union_by_sort : (xs ys sorted : List ℕ) → Ascends xs → IsPermutation (xs ++ ys) sorted → IsSorted nat_cmp sorted → Ascends (dedup (λ a b. a == b) sorted) × (dedup (λ a b. a == b) sorted ≡ union xs ys)
-union_by_sort xs ys sorted ascend moves in_order =
-    let result : List ℕ = dedup (λ a b. a == b) sorted in
-    let ascends : Ascends result = IsStrictlySortedBy-dedup nat_cmp_total (λ x y. ties x y) sorted in_order in (
-      ascends,
-      same_ids result (union xs ys) ascends (union-ascends xs ys ascend) (λ id.
-          same_tests (has id result) (has id (xs ++ ys))
-          (has_all result (xs ++ ys) (λ own there. Contains-permutation sorted (xs ++ ys) own (IsPermutation-sym (xs ++ ys) sorted moves) (Contains-from_dedup (λ a b. a == b) sorted own there)) id)
-          (has_all (xs ++ ys) result (λ own there. Contains-dedup_nat sorted own (Contains-permutation (xs ++ ys) sorted own moves there)) id)
-          ∙ list_any-append (λ own. own == id) xs ys ∙ sym (has-union id xs ys)),
-    )
+module _ (sorted result : List ℕ) (in_order : IsSorted nat_cmp sorted) (filtered : IsFiltered (DiffersFromLast (λ a b. a == b)) [] sorted result) where
+  is_dedup : result ≡ dedup (λ a b. a == b) sorted
+  is_dedup = dedup_is (λ a b. a == b) sorted result filtered
+
+  pub dedup-ascends : Ascends result
+  dedup-ascends = rw is_dedup (IsStrictlySortedBy-dedup nat_cmp_total ties sorted in_order)
+
+  dedup-has : (id : ℕ) → has id result ≡ has id sorted
+  dedup-has id =
+      rw is_dedup
+      (same_tests (has id (dedup (λ a b. a == b) sorted)) (has id sorted)
+      (has_all (dedup (λ a b. a == b) sorted) sorted (Contains-from_dedup (λ a b. a == b) sorted) id)
+      (has_all sorted (dedup (λ a b. a == b) sorted) (Contains-dedup_nat sorted) id))
+
+  pub dedup-union : (xs ys : List ℕ) → Ascends xs → IsPermutation (xs ++ ys) sorted → result ≡ union xs ys
+  dedup-union xs ys ascend moves =
+      same_ids result (union xs ys) dedup-ascends (union-ascends xs ys ascend) (λ id.
+      dedup-has id
+      ∙ same_tests (has id sorted) (has id (xs ++ ys))
+      (has_all sorted (xs ++ ys) (λ own. Contains-permutation sorted (xs ++ ys) own (IsPermutation-sym (xs ++ ys) sorted moves)) id)
+      (has_all (xs ++ ys) sorted (λ own. Contains-permutation (xs ++ ys) sorted own moves) id)
+      ∙ list_any-append (λ own. own == id) xs ys
+      ∙ sym (has-union id xs ys))

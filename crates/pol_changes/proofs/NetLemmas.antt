@@ -7,7 +7,7 @@ use Rattle.pol_changes.specs.declared.change.Change.{Change}
 use Rattle.pol_changes.specs.Ids.{has, without, union}
 use Rattle.pol_changes.specs.Net.{move_of, still, joined, net, moved, after_all}
 use Rattle.pol_changes.specs.Sets.{Fits, AllFit, IsMove, NetIsExact, NetsJoin, DifferencesLead}
-use Rattle.pol_changes.proofs.IdLemmas.{Ascends, same_ids, same_tests, has-without, has-union, without-ascends, union-ascends, has_of_all, all_have}
+use Rattle.pol_changes.proofs.IdLemmas.{Ascends, same_ids, same_tests, has-without, has-union, nothing_ascends, without-ascends, union-ascends, has_of_all, all_have}
 
 -- ---- two moves in turn are one
 joined_bits : (a b c : Bool) → ((not (not c && b) && (not a && b)) || (not (not b && a) && (not b && c))) ≡ (not a && c)
@@ -20,26 +20,52 @@ joined_bits false true false = refl
 joined_bits false false true = refl
 joined_bits false false false = refl
 
+or_swapped : (a b : Bool) → (a || b) ≡ (b || a)
+or_swapped true true = refl
+or_swapped true false = refl
+or_swapped false true = refl
+or_swapped false false = refl
+
 -- what is new from the first to the last is what was new in the middle and stayed, and what came after it
-joined_side : (first middle last : List ℕ) → Ascends first → Ascends middle → Ascends last
-    → union (without (without middle first) (without middle last)) (without (without last middle) (without first middle)) ≡ without last first
-joined_side first middle last ascend_first ascend_middle ascend_last =
-    same_ids _ _
-    (union-ascends _ (without (without last middle) (without first middle)) (without-ascends _ (without middle last) (without-ascends middle first ascend_middle)))
-    (without-ascends last first ascend_last)
-    (λ id.
-    has-union id (without (without middle first) (without middle last)) (without (without last middle) (without first middle))
-    ∙ (λ i. has-without id (without middle first) (without middle last) i || has-without id (without last middle) (without first middle) i)
-    ∙ (λ i. (not (has-without id middle last i) && has-without id middle first i) || (not (has-without id first middle i) && has-without id last middle i))
-    ∙ joined_bits (has id first) (has id middle) (has id last)
-    ∙ sym (has-without id last first))
+module _ (first middle last : List ℕ) (ascend_first : Ascends first) (ascend_middle : Ascends middle) (ascend_last : Ascends last) where
+  abbrev stayed : List ℕ
+  stayed = without (without middle first) (without middle last)
+
+  abbrev came : List ℕ
+  came = without (without last middle) (without first middle)
+
+  joined_has : (id : ℕ) → (has id stayed || has id came) ≡ has id (without last first)
+  joined_has id =
+      (λ i. has-without id (without middle first) (without middle last) i || has-without id (without last middle) (without first middle) i)
+      ∙ (λ i. (not (has-without id middle last i) && has-without id middle first i) || (not (has-without id first middle i) && has-without id last middle i))
+      ∙ joined_bits (has id first) (has id middle) (has id last)
+      ∙ sym (has-without id last first)
+
+  joined_new : union stayed came ≡ without last first
+  joined_new =
+      same_ids (union stayed came) (without last first)
+      (union-ascends stayed came (without-ascends (without middle first) (without middle last) (without-ascends middle first ascend_middle)))
+      (without-ascends last first ascend_last)
+      (λ id. has-union id stayed came ∙ joined_has id)
+
+  joined_back : union came stayed ≡ without last first
+  joined_back =
+      same_ids (union came stayed) (without last first)
+      (union-ascends came stayed (without-ascends (without last middle) (without first middle) (without-ascends last middle ascend_last)))
+      (without-ascends last first ascend_last)
+      (λ id. has-union id came stayed ∙ or_swapped (has id came) (has id stayed) ∙ joined_has id)
 
 joined_move : (first middle last : List ℕ) (older newer : Move) → Ascends first → Ascends middle → Ascends last
     → IsMove first middle older → IsMove middle last newer → IsMove first last (joined older newer)
-joined_move first middle last older newer ascend_first ascend_middle ascend_last one other = record {
-  gained = (λ i. union (without (one.gained i) (other.lost i)) (without (other.gained i) (one.lost i))) ∙ joined_side first middle last ascend_first ascend_middle ascend_last;
-  lost = (λ i. union (without (one.lost i) (other.gained i)) (without (other.lost i) (one.gained i))) ∙ joined_side last middle first ascend_last ascend_middle ascend_first;
-}
+joined_move first middle last older newer ascend_first ascend_middle ascend_last one other =
+    let gained : union (without older.gained newer.lost) (without newer.gained older.lost) ≡ union (without (without middle first) (without middle last)) (without (without last middle) (without first middle)) =
+    λ i. union (without (one.gained i) (other.lost i)) (without (other.gained i) (one.lost i)) in
+    let lost : union (without older.lost newer.gained) (without newer.lost older.gained) ≡ union (without (without first middle) (without last middle)) (without (without middle last) (without middle first)) =
+    λ i. union (without (one.lost i) (other.gained i)) (without (other.lost i) (one.gained i)) in
+    record {
+      gained = gained ∙ joined_new first middle last ascend_first ascend_middle ascend_last;
+      lost = lost ∙ joined_back last middle first ascend_last ascend_middle ascend_first;
+    }
 
 -- ---- a move that fits
 fits_gained : (old lost gained : Bool) → (gained ≡ true → old ≡ false) → gained ≡ (not old && ((not lost && old) || gained))
@@ -49,10 +75,11 @@ fits_gained false true gained new = refl
 fits_gained false false gained new = refl
 
 fits_lost : (old lost gained : Bool) → (gained ≡ true → old ≡ false) → (lost ≡ true → old ≡ true) → lost ≡ (not ((not lost && old) || gained) && old)
-fits_lost true true true new there = sym (new refl)
+fits_lost true true true new there = new refl
 fits_lost true true false new there = refl
 fits_lost true false gained new there = refl
-fits_lost false true gained new there = sym (there refl)
+fits_lost false true true new there = sym (there refl)
+fits_lost false true false new there = sym (there refl)
 fits_lost false false true new there = refl
 fits_lost false false false new there = refl
 

@@ -2,6 +2,7 @@
 use Rattle.std.proofs.Common.{◌≡◌, ℕ, suc, ◌+◌, ◌-◌, ◌<◌, ◌≤◌, ◌%◌, min, List, [], ◌∷◌, length, take, map, Option, Some, None, refl, sym, ap, subst, ◌∙◌, inl, inr, arith}
 use Rattle.std.specs.Prelude.{slice_get, option_map}
 use Rattle.std.specs.Option.{option_map_or}
+use Rattle.std.proofs.Math.Nat.{add-sub_cancel}
 use Rattle.std.proofs.lemmas.Bool.{cases_lt, lt-ltb, le-ltb}
 use Rattle.std.proofs.lemmas.List.{length-map, length-take, take_all, take-map}
 use Rattle.std.proofs.lemmas.Option.{slice_get_past, slice_get-map}
@@ -16,6 +17,19 @@ use Rattle.pol_changes.proofs.LogLemmas.{revision_at, recorded_sound}
 revision_of_value : (horizon : ℕ) (o : Option (Entry Change)) → option_map_or (λ c. c.revision) (option_map (λ e. e.value) o) horizon ≡ option_map_or (λ e. e.value.revision) o horizon
 revision_of_value horizon None = refl
 revision_of_value horizon (Some e) = refl
+
+-- ---- room for the changes to come
+room_left : (spare count nodes : ℕ) → min spare (65536 - count) ≤ nodes → count < 65536 → 1 ≤ spare → min (spare - 1) (65536 - min 65536 (count + 1)) ≤ nodes - 1
+room_left spare count nodes room below some = omega arith
+
+room_full : (spare count nodes : ℕ) → 65536 ≤ count → min (spare - 1) (65536 - min 65536 (count + 1)) ≤ nodes
+room_full spare count nodes full = omega arith
+
+count_more : (count len : ℕ) → count ≡ len → len < 65536 → min 65536 (count + 1) ≡ suc len
+count_more count len same below = omega arith
+
+count_full : (count len taken : ℕ) → count ≡ len → len ≡ 65536 → taken ≡ min 65535 len → min 65536 (count + 1) ≡ suc taken
+count_full count len taken same full is = omega arith
 
 module _ (nodes : Twin Change) (count horizon spare : ℕ) (kept : IsKept nodes count horizon spare) (c : Change) (node : ℕ) where
   -- the nodes after the change
@@ -53,25 +67,22 @@ module _ (nodes : Twin Change) (count horizon spare : ℕ) (kept : IsKept nodes 
   pub kept_after : newest_of horizon (values nodes.ages) ≤ c.revision → 1 ≤ spare → IsKept nodes_after (min 65536 (count + 1)) (horizon_with_place nodes horizon) (spare - 1)
   kept_after order some =
       let sound = subst (λ l. IsSound l) (sym log_after) (recorded_sound (log_of nodes horizon spare) c kept.sound order) in
-      let counted = kept.counted in
-      let room = kept.room in
-      let chains = kept.chains in
+      let chains = λ (_ : 0 < spare - 1). kept.chains some in
       elim (cases_lt (length nodes.ages) 65536) [
         | inl below ↦ record {
           sound = sound;
-          counted = rw (lt-ltb (length nodes.ages) 65536 below) (omega arith);
+          counted = rw (lt-ltb (length nodes.ages) 65536 below) (count_more count (length nodes.ages) kept.counted below);
           placed = rw (lt-ltb (length nodes.ages) 65536 below) (refl, kept.placed);
-          room = rw (lt-ltb (length nodes.ages) 65536 below) (omega arith);
-          chains = rw (lt-ltb (length nodes.ages) 65536 below) (λ _. chains (omega arith));
+          room = rw (lt-ltb (length nodes.ages) 65536 below) (room_left spare count nodes.spare kept.room (rw kept.counted below) some);
+          chains = rw (lt-ltb (length nodes.ages) 65536 below) chains;
         }
         | inr above ↦
             let full : length nodes.ages ≡ 65536 = omega (arith, at_most) in
-            let len = length-take 65535 nodes.ages in
             record {
               sound = sound;
-              counted = rw (le-ltb (length nodes.ages) 65536 above, full) (omega arith);
-              placed = rw (le-ltb (length nodes.ages) 65536 above, full) (refl, every-take (λ (e : Entry Change). e.chain ≡ e.value.selector % 65536) 65535 nodes.ages kept.placed);
-              room = rw (le-ltb (length nodes.ages) 65536 above) (omega arith);
-              chains = rw (le-ltb (length nodes.ages) 65536 above) (λ _. chains (omega arith));
+              counted = rw (le-ltb (length nodes.ages) 65536 above) (count_full count (length nodes.ages) _ kept.counted full (length-take (length nodes.ages - 1) nodes.ages ∙ ap (λ n. min (n - 1) (length nodes.ages)) full));
+              placed = rw (le-ltb (length nodes.ages) 65536 above) (refl, every-take (λ (e : Entry Change). e.chain ≡ e.value.selector % 65536) (length nodes.ages - 1) nodes.ages kept.placed);
+              room = rw (le-ltb (length nodes.ages) 65536 above, add-sub_cancel nodes.spare 1) (room_full spare count nodes.spare (rw kept.counted above));
+              chains = rw (le-ltb (length nodes.ages) 65536 above) chains;
             }
       ]

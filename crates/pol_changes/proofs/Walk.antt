@@ -1,14 +1,17 @@
 -- A walk along a chain, from its newest node to the first that isn't later.
-use Rattle.std.proofs.Common.{◌≡◌, ◌≢◌, ℕ, ◌+◌, ◌<◌, ◌≤◌, ◌%◌, ◌==◌, nat_eq, Bool, true, false, cond, ◌&&◌, nat_lt, List, [], ◌∷◌, length, map, filter, Option, Some, None, refl, sym, ap, subst, ◌∙◌, inl, inr, arith}
+use Rattle.std.proofs.Common.{◌≡◌, ◌≢◌, ℕ, ◌+◌, ◌<◌, ◌≤◌, ◌%◌, ◌==◌, nat_eq, Bool, true, false, cond, fold, ◌&&◌, nat_lt, List, [], ◌∷◌, length, map, filter, Option, Some, None, refl, sym, ap, subst, ◌∙◌, inl, inr, arith}
 use Rattle.std.specs.Prelude.{IfSome, option_map}
-use Rattle.std.specs.List.{AllByRecursion, IsDistinct, find, take_while}
+use Rattle.std.specs.List.{AllByRecursion, IsDistinct, find}
 use Rattle.std.proofs.lemmas.Bool.{cases_Bool, cases_eq, cases_lt, eqb-true, eq-eqb, ne_eqb, lt-ltb, le-ltb}
 use Rattle.std.proofs.lemmas.Option.{same_Some}
-use Rattle.pol_arena.specs.Twin.{Entry, on_chain, newest_on, entry_of, value_of, older_than}
+use Rattle.pol_sets.specs.declared.sets.Move.{Move}
+use Rattle.pol_arena.specs.Twin.{Entry, Twin, IsInUse, IsSound, on_chain, newest_on, entry_of, value_of, older_than}
 use Rattle.pol_changes.specs.declared.change.Change.{Change}
-use Rattle.pol_changes.specs.Log.{is_later_of, newest_of, InOrder}
-use Rattle.pol_changes.specs.Nodes.{values, found_in}
+use Rattle.pol_changes.specs.Log.{is_later_of, since, newest_of, InOrder}
+use Rattle.pol_changes.specs.Nodes.{values, log_of, found_in, IsKept}
+use Rattle.pol_changes.specs.Net.{net}
 use Rattle.pol_changes.proofs.LogLemmas.{none_later}
+use Rattle.pol_changes.proofs.NetLemmas.{join}
 
 -- the entries of a chain from a node on
 abbrev pub from_node : Option ℕ → List (Entry Change) → List (Entry Change)
@@ -126,3 +129,38 @@ found_by_scan selector revision horizon (e ∷ es) placed order =
           ne_eqb e.value.selector selector (λ same. differs (placed.0 ∙ ap (λ own. own % 65536) same)) in
           rw (ne_eqb e.chain (selector % 65536) differs, other, and_nothing (nat_lt revision e.value.revision)) rest
     ]
+
+-- ---- the walk's invariant: what is found from here on, joined to the net change so far, is the whole net change
+pub record IsAhead (nodes : Twin Change) (selector revision : ℕ) (next : Option ℕ) (so_far : Move) : Type 0 where
+  pub sound : IsSound nodes
+  pub used : IfSome next (IsInUse nodes)
+  pub whole : fold join so_far (found_in selector revision (from_node next nodes.ages)) ≡ net selector (found_in selector revision (on_chain (selector % 65536) nodes.ages))
+
+module _ (nodes : Twin Change) (selector revision node : ℕ) (c : Change) (so_far : Move) (ahead : IsAhead nodes selector revision (Some node) so_far) (is : value_of node nodes.ages ≡ Some c) where
+  pub ahead_taken : revision < c.revision → c.selector ≡ selector → IfSome (older_than node nodes.ages) (IsInUse nodes) → IsAhead nodes selector revision (older_than node nodes.ages) (join so_far c)
+  ahead_taken later own used = record {
+    sound = ahead.sound;
+    used = used;
+    whole = sym (ap (fold join so_far) (walk_takes selector revision node nodes.ages c ahead.sound.distinct is later own)) ∙ ahead.whole;
+  }
+
+  pub ahead_passed : revision < c.revision → c.selector ≢ selector → IfSome (older_than node nodes.ages) (IsInUse nodes) → IsAhead nodes selector revision (older_than node nodes.ages) so_far
+  ahead_passed later other used = record {
+    sound = ahead.sound;
+    used = used;
+    whole = sym (ap (fold join so_far) (walk_passes selector revision node nodes.ages c ahead.sound.distinct is later other)) ∙ ahead.whole;
+  }
+
+  pub ahead_stopped : c.revision ≤ revision → so_far ≡ net selector (found_in selector revision (on_chain (selector % 65536) nodes.ages))
+  ahead_stopped past =
+      sym (ap (fold join so_far) (walk_stops selector revision node nodes.ages c ahead.sound.distinct is past)) ∙ ahead.whole
+
+pub ahead_ended : (nodes : Twin Change) (selector revision : ℕ) (so_far : Move) → IsAhead nodes selector revision None so_far → so_far ≡ net selector (found_in selector revision (on_chain (selector % 65536) nodes.ages))
+ahead_ended nodes selector revision so_far ahead = ahead.whole
+
+-- what the walk finds is the log's answer
+pub since_found : (nodes : Twin Change) (count horizon spare selector revision : ℕ) → IsKept nodes count horizon spare → horizon ≤ revision
+    → Some (net selector (found_in selector revision (on_chain (selector % 65536) nodes.ages))) ≡ since (log_of nodes horizon spare) selector revision
+since_found nodes count horizon spare selector revision kept within =
+    rw (le-ltb revision horizon within)
+    (ap (λ cs. Some (net selector cs)) (found_by_scan selector revision horizon nodes.ages kept.placed kept.sound.in_order))

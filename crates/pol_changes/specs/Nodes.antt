@@ -1,6 +1,6 @@
 -- What a `ChangeLog` keeps. No public clause cites this module.
-use Rattle.std.specs.Prelude.{◌≡◌, ℕ, ◌-◌, ◌<◌, ◌≤◌, ◌%◌, ◌==◌, nat_lt, min, if◌then◌else◌, List, length, map, filter}
-use Rattle.std.specs.List.{AllByRecursion, take_while}
+use Rattle.std.specs.Prelude.{◌≡◌, ℕ, ◌-◌, ◌<◌, ◌≤◌, ◌%◌, ◌==◌, nat_lt, min, if◌then◌else◌, List, [], ◌∷◌, length, map}
+use Rattle.std.specs.List.{AllByRecursion}
 use Rattle.std.specs.Option.{option_map_or}
 use Rattle.pol_arena.specs.Twin.{Entry, Twin, on_chain, oldest, after_drop}
 use Rattle.pol_changes.specs.declared.change.Change.{Change}
@@ -31,6 +31,10 @@ abbrev pub horizon_with_place : Twin Change → ℕ → ℕ
 horizon_with_place nodes horizon =
     if nat_lt (length nodes.ages) 65536 then horizon else option_map_or (λ e. e.value.revision) (oldest nodes.ages) horizon
 
--- the selector's changes later than the revision, from the front of these
+-- the selector's changes from the front of these on, up to the first that isn't later than the revision
 abbrev pub found_in : ℕ → ℕ → List (Entry Change) → List Change
-found_in selector revision es = filter (λ c. c.selector == selector) (take_while (λ c. nat_lt revision c.revision) (values es))
+found_in selector revision [] = []
+found_in selector revision (e ∷ es) =
+    if nat_lt revision e.value.revision
+    then (if e.value.selector == selector then e.value ∷ found_in selector revision es else found_in selector revision es)
+    else []

@@ -1,5 +1,8 @@
 //! Net changes.
 ghost use Rattle.std.specs.Prelude.{◌≡◌, ◌<◌, ◌^◌, IfOk};
+ghost use Rattle.std.specs.List.Sorted.{IsStrictlySortedBy};
+ghost use Rattle.std.specs.Ordering.{nat_cmp};
+ghost use Rattle.pol_sets.specs.IdSet.{IsIdSet};
 ghost use Rattle.pol_changes.specs.Ids.{without, union};
 ghost use Rattle.pol_changes.specs.Net.{move_of, still, joined};
 
@@ -10,15 +13,27 @@ use std::alloc::Global;
 
 /// The numbers of a set that another doesn't have.
 fn without(alloc: Global, ids: &IdSet, others: &IdSet) -> Result<Vec<u32>, Memory>
-    ensures { IfOk result (λ left. left.items ≡ without ids.now others.now) }
+    ensures left { IfOk result (λ left. left.items ≡ without ids.now others.now) }
+    ensures set { IsIdSet ids.now }
 {
-    let mut left = Vec::new(alloc);
-    for id in ids.as_slice() {
-        if !others.contains(*id) {
-            left.push(*id)?;
-        }
-    }
-    Ok(left)
+    Ok(
+        ids.as_slice()
+            .iter()
+            .copied()
+            .filter(|id| !others.contains(*id))
+            .collect(alloc)?,
+    )
+}
+
+/// The numbers of both lists. Where both ascend the sort is one merge.
+fn union(mut ids: Vec<u32>, others: &[u32]) -> Result<IdSet, Memory>
+    requires { IsStrictlySortedBy nat_cmp ids.items }
+    ensures { IfOk result (λ all. all ≡ union ids.items others.now) }
+{
+    ids.extend_from_slice(others)?;
+    ids.sort()?;
+    ids.dedup();
+    Ok(IdSet::from_ascending(ids))
 }
 
 /// What one side of an older move and of a newer one leaves, where each lacks what the other side of the other has.
@@ -31,13 +46,8 @@ fn joined_side(
 ) -> Result<IdSet, Memory>
     ensures { IfOk result (λ ids. ids ≡ union (without older.now undone.now) (without newer.now redone.now)) }
 {
-    let mut ids = without(alloc, older, undone)?;
-    let others = without(alloc, newer, redone)?;
-    ids.extend_from_slice(others.as_slice())?;
-    // Two ascending stretches: the sort is one merge.
-    ids.sort()?;
-    ids.dedup();
-    Ok(IdSet::from_ascending(ids))
+    let kept = without(alloc, older, undone)?;
+    union(kept, without(alloc, newer, redone)?.as_slice())
 }
 
 /// Nothing moved.

@@ -1,0 +1,12 @@
+use Rattle.std.proofs.Common.{length, ◌%◌, fold}
+use Rattle.pol_arena.specs.Twin.{on_chain}
+use Rattle.pol_changes.specs.Net.{net}
+use Rattle.pol_changes.specs.Nodes.{found_in}
+use Rattle.pol_changes.proofs.Walk.{from_node, IsAhead}
+use Rattle.pol_changes.proofs.log.net_on_chain.Given as goal
+
+abbrev pub invariant-loop-node : goal.invariant-loop-node
+invariant-loop-node l = IsAhead l.nodes l.selector l.revision l.node l.net
+
+abbrev pub decreases-loop-node : goal.decreases-loop-node
+decreases-loop-node l = length (from_node l.node l.nodes.ages)
