@@ -1,5 +1,6 @@
+pub mod Differences
 pub mod IdLemmas
-pub mod NetLemmas
 pub mod LogLemmas
-pub mod Walk
+pub mod NetLemmas
 pub mod Recording
+pub mod Walk

@@ -103,7 +103,7 @@ fits_move ids m ascend fits =
     }
 
 -- ---- the net change
-after-ascends : (ids : List ℕ) (cs : List Change) → Ascends ids → Ascends (after_all ids cs)
+pub after-ascends : (ids : List ℕ) (cs : List Change) → Ascends ids → Ascends (after_all ids cs)
 after-ascends ids [] ascend = ascend
 after-ascends ids (c ∷ older) ascend = moved-ascends (after_all ids older) (move_of c) (after-ascends ids older ascend)
 
@@ -134,11 +134,11 @@ net_is_exact selector ids cs ascend fit =
     fold_move ids (after_all ids cs) cs (still selector) ascend after fit (still_move selector (after_all ids cs) after)
 
 -- ---- two stretches of changes
-after-append : (ids : List ℕ) (newer older : List Change) → after_all ids (newer ++ older) ≡ after_all (after_all ids older) newer
+pub after-append : (ids : List ℕ) (newer older : List Change) → after_all ids (newer ++ older) ≡ after_all (after_all ids older) newer
 after-append ids [] older = refl
 after-append ids (c ∷ newer) older = ap (λ own. moved own (move_of c)) (after-append ids newer older)
 
-fit-append : (ids : List ℕ) (newer older : List Change) → AllFit ids (newer ++ older) → AllFit ids older × AllFit (after_all ids older) newer
+pub fit-append : (ids : List ℕ) (newer older : List Change) → AllFit ids (newer ++ older) → AllFit ids older × AllFit (after_all ids older) newer
 fit-append ids [] older fit = (fit, tt)
 fit-append ids (c ∷ newer) older fit =
     let rest = fit-append ids newer older fit.1 in

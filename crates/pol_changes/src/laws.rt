@@ -1,5 +1,5 @@
 //! Laws of the log and of net changes, over the definitions alone.
-ghost use Rattle.pol_changes.specs.Recorded.{LogsKeepLast, KeptChangesTell};
+ghost use Rattle.pol_changes.specs.Recorded.{LogsKeepLast, KeptChangesTell, SinceTellsDifference};
 ghost use Rattle.pol_changes.specs.Sets.{NetIsExact, NetsJoin, DifferencesLead};
 
 /// A log keeps the last 65,536 of all changes that were ever recorded, and all where there are fewer. Its horizon is the
@@ -27,4 +27,10 @@ pub fn net_changes_join()
 /// The difference of two sets is a move that fits the one and leads to the other.
 pub fn a_difference_leads_from_set_to_set()
     ensures { DifferencesLead }
+{}
+
+/// What a log tells since a revision is which numbers the set has now and didn't have then, and which it had then and
+/// hasn't now: where its changes, from a set at the start on, each gained what it didn't have and lost what it had.
+pub fn a_log_tells_how_a_set_differs()
+    ensures { SinceTellsDifference }
 {}

@@ -1,5 +1,5 @@
 //! What a log of few changes tells, and one of 65,537.
-ghost use Rattle.std.specs.Prelude.{◌≡◌, ◌≤◌, ◌<◌, ◌^◌, ◌+◌, OnOk};
+ghost use Rattle.std.specs.Prelude.{◌≡◌, IfOk};
 ghost use Rattle.pol_changes.specs.Log.{newest};
 
 use crate::{Change, ChangeLog};
