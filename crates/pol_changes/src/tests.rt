@@ -4,7 +4,7 @@ ghost use Rattle.pol_changes.specs.Log.{newest};
 
 use crate::{Change, ChangeLog};
 use pol_data::Memory;
-use pol_sets::{IdSet, Move};
+use pol_sets::IdSet;
 use std::alloc::Global;
 use std::test::Fail;
 
@@ -27,10 +27,13 @@ fn came(alloc: Global, selector: u64, revision: u64) -> Result<Change, Memory>
     })
 }
 
-/// That number 257 went from it.
-fn went(alloc: Global, selector: u64, revision: u64) -> Result<Change, Memory>
+/// That it came at an odd revision, and went at an even one.
+fn came_or_went(alloc: Global, selector: u64, revision: u64) -> Result<Change, Memory>
     ensures { IfOk result (λ c. c.revision ≡ revision) }
 {
+    if revision % 2 == 1 {
+        return came(alloc, selector, revision);
+    }
     Ok(Change {
         selector,
         revision,
@@ -39,19 +42,13 @@ fn went(alloc: Global, selector: u64, revision: u64) -> Result<Change, Memory>
     })
 }
 
-/// Records that 257 came to the selector's set at each odd revision and went at each even one.
+/// Records so many changes of the selector's set, of the revisions from 1 on.
 fn come_and_go(alloc: Global, log: &mut ChangeLog, selector: u64, turns: u32) -> Result<(), Memory>
     requires { newest log.old ≡ 0 }
 {
     for turn in 0..turns {
-        let revision = u64::from(turn) + 1;
-        let change = if revision % 2 == 1 {
-            came(alloc, selector, revision)?
-        } else {
-            went(alloc, selector, revision)?
-        };
         log.reserve(1)?;
-        log.record(change);
+        log.record(came_or_went(alloc, selector, u64::from(turn) + 1)?);
     }
     Ok(())
 }
