@@ -1,14 +1,13 @@
 -- A log keeps the last of all changes, and they tell the net change since the horizon.
-use Rattle.std.proofs.Common.{◌≡◌, ℕ, zero, suc, ◌<◌, ◌≤◌, ◌==◌, Bool, true, false, cond, ◌&&◌, nat_lt, List, [], ◌∷◌, take, filter, Option, Some, None, refl, sym, ap, subst, ◌∙◌, inl, inr, arith}
+use Rattle.std.proofs.Common.{◌≡◌, ℕ, zero, suc, ◌≤◌, cond, List, [], ◌∷◌, take, filter, Some, refl, sym, ap, ◌∙◌, inl, inr, arith}
 use Rattle.std.specs.Prelude.{slice_get}
 use Rattle.std.specs.Option.{option_map_or}
 use Rattle.std.proofs.lemmas.Bool.{cases_lt, lt-ltb, le-ltb}
 use Rattle.std.proofs.lemmas.List.{length-take}
-use Rattle.pol_sets.specs.declared.sets.Move.{Move}
 use Rattle.pol_changes.specs.declared.change.Change.{Change}
-use Rattle.pol_changes.specs.Log.{Log, empty_log, recorded, is_later_of, newest, newest_of, InOrder, IsSound}
+use Rattle.pol_changes.specs.Log.{Log, recorded, is_later_of, newest, newest_of, InOrder, IsSound}
 use Rattle.pol_changes.specs.Net.{net}
-use Rattle.pol_changes.specs.Recorded.{horizon_of, KeepsLast, LogsKeepLast, KeptChangesTell}
+use Rattle.pol_changes.specs.Recorded.{horizon_of, LogsKeepLast, KeptChangesTell}
 
 -- ---- what is kept
 take_take : (n m : ℕ) (cs : List Change) → n ≤ m → take n (take m cs) ≡ take n cs

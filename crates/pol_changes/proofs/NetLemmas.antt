@@ -1,13 +1,11 @@
 -- The net change of a set's changes is the difference of the set after them and before them.
 use Rattle.std.proofs.Common.{◌≡◌, ℕ, Bool, true, false, not, ◌&&◌, ◌||◌, List, [], ◌∷◌, ◌++◌, fold, refl, sym, ap, subst, ◌∙◌}
-use Rattle.std.specs.List.{AllByRecursion}
-use Rattle.std.proofs.lemmas.List.Sums.{fold-append}
 use Rattle.pol_sets.specs.declared.sets.Move.{Move}
 use Rattle.pol_changes.specs.declared.change.Change.{Change}
 use Rattle.pol_changes.specs.Ids.{has, without, union}
 use Rattle.pol_changes.specs.Net.{move_of, still, joined, net, moved, after_all}
 use Rattle.pol_changes.specs.Sets.{Fits, AllFit, IsMove, NetIsExact, NetsJoin, DifferencesLead}
-use Rattle.pol_changes.proofs.IdLemmas.{Ascends, same_ids, same_tests, has-without, has-union, nothing_ascends, without-ascends, union-ascends, has_of_all, all_have}
+use Rattle.pol_changes.proofs.IdLemmas.{Ascends, same_ids, has-without, has-union, nothing_ascends, without-ascends, union-ascends, has_of_all, all_have}
 
 -- ---- two moves in turn are one
 joined_bits : (a b c : Bool) → ((not (not c && b) && (not a && b)) || (not (not b && a) && (not b && c))) ≡ (not a && c)

@@ -1,5 +1,5 @@
 -- A log before and after one more change.
-use Rattle.std.proofs.Common.{◌≡◌, ℕ, suc, ◌+◌, ◌-◌, ◌<◌, ◌≤◌, ◌%◌, min, List, [], ◌∷◌, length, take, map, Option, Some, None, refl, sym, ap, subst, ◌∙◌, inl, inr, arith}
+use Rattle.std.proofs.Common.{◌≡◌, ℕ, suc, ◌+◌, ◌-◌, ◌<◌, ◌≤◌, ◌%◌, min, ◌∷◌, length, take, Option, Some, None, refl, sym, ap, subst, ◌∙◌, inl, inr, arith}
 use Rattle.std.specs.Prelude.{slice_get, option_map}
 use Rattle.std.specs.Option.{option_map_or}
 use Rattle.std.proofs.Math.Nat.{add-sub_cancel}
@@ -11,7 +11,7 @@ use Rattle.pol_arena.specs.Twin.{Entry, Twin, after_push}
 use Rattle.pol_changes.specs.declared.change.Change.{Change}
 use Rattle.pol_changes.specs.Log.{recorded, newest_of, IsSound}
 use Rattle.pol_changes.specs.Nodes.{values, log_of, IsKept, with_place, horizon_with_place}
-use Rattle.pol_changes.proofs.LogLemmas.{revision_at, recorded_sound}
+use Rattle.pol_changes.proofs.LogLemmas.{recorded_sound}
 
 -- the revision of a node's change
 revision_of_value : (horizon : ℕ) (o : Option (Entry Change)) → option_map_or (λ c. c.revision) (option_map (λ e. e.value) o) horizon ≡ option_map_or (λ e. e.value.revision) o horizon

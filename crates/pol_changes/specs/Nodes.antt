@@ -2,7 +2,7 @@
 use Rattle.std.specs.Prelude.{◌≡◌, ℕ, ◌-◌, ◌<◌, ◌≤◌, ◌%◌, ◌==◌, nat_lt, min, if◌then◌else◌, List, [], ◌∷◌, length, map}
 use Rattle.std.specs.List.{AllByRecursion}
 use Rattle.std.specs.Option.{option_map_or}
-use Rattle.pol_arena.specs.Twin.{Entry, Twin, on_chain, oldest, after_drop}
+use Rattle.pol_arena.specs.Twin.{Entry, Twin, oldest, after_drop}
 use Rattle.pol_changes.specs.declared.change.Change.{Change}
 use Rattle.pol_changes.specs.Log.{Log, IsSound}
 

@@ -1,4 +1,4 @@
-use Rattle.std.proofs.Common.{◌≡◌, ◌<◌, ◌%◌, length, Some, fold, sym, ap, subst, ◌∙◌, arith}
+use Rattle.std.proofs.Common.{◌<◌, ◌%◌, length, Some, fold, ap}
 use Rattle.std.specs.Prelude.{IfSome}
 use Rattle.pol_arena.specs.Twin.{older_than, IsInUse}
 use Rattle.pol_changes.specs.Net.{still}

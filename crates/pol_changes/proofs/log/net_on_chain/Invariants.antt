@@ -1,7 +1,4 @@
-use Rattle.std.proofs.Common.{length, ◌%◌, fold}
-use Rattle.pol_arena.specs.Twin.{on_chain}
-use Rattle.pol_changes.specs.Net.{net}
-use Rattle.pol_changes.specs.Nodes.{found_in}
+use Rattle.std.proofs.Common.{length}
 use Rattle.pol_changes.proofs.Walk.{from_node, IsAhead}
 use Rattle.pol_changes.proofs.log.net_on_chain.Given as goal
 

@@ -1,4 +1,3 @@
-use Rattle.std.proofs.Common.{rules}
 use Rattle.std.specs.List.Sorted.{IsStrictlySortedBy}
 use Rattle.pol_changes.proofs.tests.one.Goals as goal
 

@@ -1,8 +1,8 @@
-use Rattle.std.proofs.Common.{◌≡◌, ◌≤◌, ◌-◌, ◌∙◌, ap, sym, subst, arith}
+use Rattle.std.proofs.Common.{◌≤◌, ◌-◌, ◌∙◌, ap, sym, subst, arith}
 use Rattle.pol_arena.specs.Twin.{after_push}
 use Rattle.pol_changes.specs.Log.{Log, recorded, newest}
 use Rattle.pol_changes.specs.Nodes.{log_of}
-use Rattle.pol_changes.proofs.Recording.{nodes_after, log_after, kept_after}
+use Rattle.pol_changes.proofs.Recording.{log_after, kept_after}
 use Rattle.pol_changes.proofs.log.ChangeLog.record.Goals as goal
 
 pub invariant_of-self : goal.invariant_of-self
