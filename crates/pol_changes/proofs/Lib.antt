@@ -1,3 +1,4 @@
+pub mod Counted
 pub mod Differences
 pub mod IdLemmas
 pub mod LogLemmas

@@ -1,11 +1,13 @@
 -- The net change of a set's changes is the difference of the set after them and before them.
-use Rattle.std.proofs.Common.{◌≡◌, ℕ, Bool, true, false, not, ◌&&◌, ◌||◌, List, [], ◌∷◌, ◌++◌, fold, refl, sym, ap, subst, ◌∙◌}
+use Rattle.std.proofs.Common.{◌≡◌, ℕ, ◌==◌, Bool, true, false, not, ◌&&◌, ◌||◌, cond, ◌+◌, nat_lt, List, [], ◌∷◌, ◌++◌, refl, sym, ap, subst, ◌∙◌, arith}
+use Rattle.std.proofs.lemmas.Bool.{lt-ltb, le-ltb}
+use Rattle.std.proofs.lemmas.List.Sums.{sum_by-append}
 use Rattle.pol_sets.specs.declared.sets.Move.{Move}
 use Rattle.pol_changes.specs.declared.change.Change.{Change}
 use Rattle.pol_changes.specs.Ids.{has, without, union}
-use Rattle.pol_changes.specs.Net.{move_of, still, joined, net, moved, after_all}
+use Rattle.pol_changes.specs.Net.{times, surplus, came, went, net, move_of, joined, moved, after_all}
 use Rattle.pol_changes.specs.Sets.{Fits, AllFit, IsMove, NetIsExact, NetsJoin, DifferencesLead}
-use Rattle.pol_changes.proofs.IdLemmas.{Ascends, same_ids, has-without, has-union, nothing_ascends, without-ascends, union-ascends, has_of_all, all_have}
+use Rattle.pol_changes.proofs.IdLemmas.{Ascends, same_ids, has-without, has-union, has-surplus, surplus-ascends, times_once, without-ascends, union-ascends, has_of_all, all_have}
 
 -- ---- two moves in turn are one
 joined_bits : (a b c : Bool) → ((not (not c && b) && (not a && b)) || (not (not b && a) && (not b && c))) ≡ (not a && c)
@@ -29,29 +31,29 @@ module _ (first middle last : List ℕ) (ascend_first : Ascends first) (ascend_m
   abbrev stayed : List ℕ
   stayed = without (without middle first) (without middle last)
 
-  abbrev came : List ℕ
-  came = without (without last middle) (without first middle)
+  abbrev came_later : List ℕ
+  came_later = without (without last middle) (without first middle)
 
-  joined_has : (id : ℕ) → (has id stayed || has id came) ≡ has id (without last first)
+  joined_has : (id : ℕ) → (has id stayed || has id came_later) ≡ has id (without last first)
   joined_has id =
       (λ i. has-without id (without middle first) (without middle last) i || has-without id (without last middle) (without first middle) i)
       ∙ (λ i. (not (has-without id middle last i) && has-without id middle first i) || (not (has-without id first middle i) && has-without id last middle i))
       ∙ joined_bits (has id first) (has id middle) (has id last)
       ∙ sym (has-without id last first)
 
-  joined_new : union stayed came ≡ without last first
+  joined_new : union stayed came_later ≡ without last first
   joined_new =
-      same_ids (union stayed came) (without last first)
-      (union-ascends stayed came (without-ascends (without middle first) (without middle last) (without-ascends middle first ascend_middle)))
+      same_ids (union stayed came_later) (without last first)
+      (union-ascends stayed came_later (without-ascends (without middle first) (without middle last) (without-ascends middle first ascend_middle)))
       (without-ascends last first ascend_last)
-      (λ id. has-union id stayed came ∙ joined_has id)
+      (λ id. has-union id stayed came_later ∙ joined_has id)
 
-  joined_back : union came stayed ≡ without last first
+  joined_back : union came_later stayed ≡ without last first
   joined_back =
-      same_ids (union came stayed) (without last first)
-      (union-ascends came stayed (without-ascends (without last middle) (without first middle) (without-ascends last middle ascend_last)))
+      same_ids (union came_later stayed) (without last first)
+      (union-ascends came_later stayed (without-ascends (without last middle) (without first middle) (without-ascends last middle ascend_last)))
       (without-ascends last first ascend_last)
-      (λ id. has-union id came stayed ∙ or_swapped (has id came) (has id stayed) ∙ joined_has id)
+      (λ id. has-union id came_later stayed ∙ or_swapped (has id came_later) (has id stayed) ∙ joined_has id)
 
 joined_move : (first middle last : List ℕ) (older newer : Move) → Ascends first → Ascends middle → Ascends last
     → IsMove first middle older → IsMove middle last newer → IsMove first last (joined older newer)
@@ -66,70 +68,69 @@ joined_move first middle last older newer ascend_first ascend_middle ascend_last
     }
 
 -- ---- a move that fits
-fits_gained : (old lost gained : Bool) → (gained ≡ true → old ≡ false) → gained ≡ (not old && ((not lost && old) || gained))
-fits_gained true lost true new = new refl
-fits_gained true lost false new = refl
-fits_gained false true gained new = refl
-fits_gained false false gained new = refl
-
-fits_lost : (old lost gained : Bool) → (gained ≡ true → old ≡ false) → (lost ≡ true → old ≡ true) → lost ≡ (not ((not lost && old) || gained) && old)
-fits_lost true true true new there = new refl
-fits_lost true true false new there = refl
-fits_lost true false gained new there = refl
-fits_lost false true true new there = sym (there refl)
-fits_lost false true false new there = sym (there refl)
-fits_lost false false true new there = refl
-fits_lost false false false new there = refl
-
 has-moved : (id : ℕ) (ids : List ℕ) (m : Move) → has id (moved ids m) ≡ ((not (has id m.lost) && has id ids) || has id m.gained)
 has-moved id ids m = has-union id (without ids m.lost) m.gained ∙ ap (λ b. b || has id m.gained) (has-without id ids m.lost)
 
 moved-ascends : (ids : List ℕ) (m : Move) → Ascends ids → Ascends (moved ids m)
 moved-ascends ids m ascend = union-ascends (without ids m.lost) m.gained (without-ascends ids m.lost ascend)
 
-fits_move : (ids : List ℕ) (m : Move) → Ascends ids → Fits ids m → IsMove ids (moved ids m) m
-fits_move ids m ascend fits =
-    let new : (id : ℕ) → has id m.gained ≡ true → has id ids ≡ false = has_of_all (λ id. has id ids ≡ false) m.gained fits.gained_new in
-    let there : (id : ℕ) → has id m.lost ≡ true → has id ids ≡ true = has_of_all (λ id. has id ids ≡ true) m.lost fits.lost_old in
-    record {
-      gained = same_ids m.gained (without (moved ids m) ids) fits.gained_ascend (without-ascends (moved ids m) ids (moved-ascends ids m ascend)) (λ id.
-          fits_gained (has id ids) (has id m.lost) (has id m.gained) (new id)
-          ∙ sym (has-without id (moved ids m) ids ∙ ap (λ b. not (has id ids) && b) (has-moved id ids m)));
-      lost = same_ids m.lost (without ids (moved ids m)) fits.lost_ascend (without-ascends ids (moved ids m) ascend) (λ id.
-          fits_lost (has id ids) (has id m.lost) (has id m.gained) (new id) (there id)
-          ∙ sym (has-without id ids (moved ids m) ∙ ap (λ b. not b && has id ids) (has-moved id ids m)));
-    }
+-- ---- what came and what went balance the set before and after
+-- 1 where it is there
+abbrev one_if : Bool → ℕ
+one_if b = cond b 1 0
+
+moved_bits : (old lost gained : Bool) → (gained ≡ true → old ≡ false) → (lost ≡ true → old ≡ true) → one_if gained + one_if old ≡ one_if lost + one_if ((not lost && old) || gained)
+moved_bits true true true new there = let wrong : true ≡ false = new refl in cc
+moved_bits true true false new there = refl
+moved_bits true false true new there = let wrong : true ≡ false = new refl in cc
+moved_bits true false false new there = refl
+moved_bits false true gained new there = let wrong : false ≡ true = there refl in cc
+moved_bits false false true new there = refl
+moved_bits false false false new there = refl
+
+fits_balance : (id : ℕ) (ids : List ℕ) (m : Move) → Fits ids m → times id m.gained + one_if (has id ids) ≡ times id m.lost + one_if (has id (moved ids m))
+fits_balance id ids m fits =
+    rw (times_once id m.gained fits.gained_ascend, times_once id m.lost fits.lost_ascend, has-moved id ids m)
+    (moved_bits (has id ids) (has id m.lost) (has id m.gained)
+    (has_of_all (λ own. has own ids ≡ false) m.gained fits.gained_new id)
+    (has_of_all (λ own. has own ids ≡ true) m.lost fits.lost_old id))
+
+times-append : (id : ℕ) (xs ys : List ℕ) → times id (xs ++ ys) ≡ times id xs + times id ys
+times-append id xs ys = sum_by-append (λ own. cond (own == id) 1 0) xs ys
+
+sums_balance : (came more went less first middle last : ℕ) → more + first ≡ less + middle → came + middle ≡ went + last → (came + more) + first ≡ (went + less) + last
+sums_balance came more went less first middle last older newer = omega arith
+
+balance : (id : ℕ) (ids : List ℕ) (cs : List Change) → AllFit ids cs → times id (came cs) + one_if (has id ids) ≡ times id (went cs) + one_if (has id (after_all ids cs))
+balance id ids [] fit = refl
+balance id ids (c ∷ older) fit =
+    rw (times-append id c.gained (came older), times-append id c.lost (went older))
+    (sums_balance (times id c.gained) (times id (came older)) (times id c.lost) (times id (went older)) (one_if (has id ids)) (one_if (has id (after_all ids older))) (one_if (has id (after_all ids (c ∷ older))))
+    (balance id ids older fit.1) (fits_balance id (after_all ids older) (move_of c) fit.0))
+
+more_bits : (old new : Bool) (came went : ℕ) → came + one_if old ≡ went + one_if new → nat_lt went came ≡ (not old && new)
+more_bits true true came went same = le-ltb went came (omega arith)
+more_bits true false came went same = le-ltb went came (omega arith)
+more_bits false true came went same = lt-ltb went came (omega arith)
+more_bits false false came went same = le-ltb went came (omega arith)
 
 -- ---- the net change
 pub after-ascends : (ids : List ℕ) (cs : List Change) → Ascends ids → Ascends (after_all ids cs)
 after-ascends ids [] ascend = ascend
 after-ascends ids (c ∷ older) ascend = moved-ascends (after_all ids older) (move_of c) (after-ascends ids older ascend)
 
--- what the walk makes of one more change
-abbrev pub join : Move → Change → Move
-join newer c = joined (move_of c) newer
-
-fold_move : (first last : List ℕ) (cs : List Change) (m : Move) → Ascends first → Ascends last → AllFit first cs → IsMove (after_all first cs) last m → IsMove first last (fold join m cs)
-fold_move first last [] m ascend_first ascend_last fit is = is
-fold_move first last (c ∷ older) m ascend_first ascend_last fit is =
-    let middle = after_all first older in
-    let ascend = after-ascends first older ascend_first in
-    fold_move first last older (joined (move_of c) m) ascend_first ascend_last fit.1
-    (joined_move middle (moved middle (move_of c)) last (move_of c) m ascend (moved-ascends middle (move_of c) ascend) ascend_last (fits_move middle (move_of c) ascend fit.0) is)
-
-nothing_new : (b : Bool) → false ≡ (not b && b)
-nothing_new true = refl
-nothing_new false = refl
-
-still_move : (selector : ℕ) (ids : List ℕ) → Ascends ids → IsMove ids ids (still selector)
-still_move selector ids ascend =
-    let none : [] ≡ without ids ids = same_ids [] (without ids ids) nothing_ascends (without-ascends ids ids ascend) (λ id. nothing_new (has id ids) ∙ sym (has-without id ids ids)) in
-    record { gained = none; lost = none }
+surplus_is : (first last came_ids went_ids : List ℕ) → Ascends last → ((id : ℕ) → times id came_ids + one_if (has id first) ≡ times id went_ids + one_if (has id last)) → surplus came_ids went_ids ≡ without last first
+surplus_is first last came_ids went_ids ascend each =
+    same_ids (surplus came_ids went_ids) (without last first) (surplus-ascends came_ids went_ids) (without-ascends last first ascend) (λ id.
+    has-surplus id came_ids went_ids
+    ∙ more_bits (has id first) (has id last) (times id came_ids) (times id went_ids) (each id)
+    ∙ sym (has-without id last first))
 
 pub net_is_exact : NetIsExact
-net_is_exact selector ids cs ascend fit =
-    let after = after-ascends ids cs ascend in
-    fold_move ids (after_all ids cs) cs (still selector) ascend after fit (still_move selector (after_all ids cs) after)
+net_is_exact selector ids cs ascend fit = record {
+  gained = surplus_is ids (after_all ids cs) (came cs) (went cs) (after-ascends ids cs ascend) (λ id. balance id ids cs fit);
+  lost = surplus_is (after_all ids cs) ids (went cs) (came cs) ascend (λ id. sym (balance id ids cs fit));
+}
 
 -- ---- two stretches of changes
 pub after-append : (ids : List ℕ) (newer older : List Change) → after_all ids (newer ++ older) ≡ after_all (after_all ids older) newer
@@ -141,10 +142,6 @@ fit-append ids [] older fit = (fit, tt)
 fit-append ids (c ∷ newer) older fit =
     let rest = fit-append ids newer older fit.1 in
     (rest.0, (subst (λ own. Fits own (move_of c)) (after-append ids newer older) fit.0, rest.1))
-
-fold_selector : (cs : List Change) (m : Move) → (fold join m cs).selector ≡ m.selector
-fold_selector [] m = refl
-fold_selector (c ∷ older) m = fold_selector older (joined (move_of c) m)
 
 same_move : (a b : Move) → a.selector ≡ b.selector → a.gained ≡ b.gained → a.lost ≡ b.lost → a ≡ b
 same_move a b selectors gained lost = λ i. record { selector = selectors i; gained = gained i; lost = lost i }
@@ -159,7 +156,7 @@ nets_join selector ids newer older ascend fit =
     (net_is_exact selector ids older ascend parts.0) (net_is_exact selector middle newer ascend_middle parts.1) in
     let last = after-append ids newer older in
     same_move (net selector (newer ++ older)) (joined (net selector older) (net selector newer))
-    (fold_selector (newer ++ older) (still selector) ∙ sym (fold_selector newer (still selector)))
+    refl
     (whole.gained ∙ ap (λ own. without own ids) last ∙ sym both.gained)
     (whole.lost ∙ ap (λ own. without ids own) last ∙ sym both.lost)
 

@@ -1,17 +1,17 @@
 -- A walk along a chain, from its newest node to the first that isn't later.
-use Rattle.std.proofs.Common.{◌≡◌, ◌≢◌, ℕ, ◌<◌, ◌≤◌, ◌%◌, ◌==◌, nat_eq, Bool, true, false, cond, fold, ◌&&◌, nat_lt, List, [], ◌∷◌, length, map, filter, Option, Some, None, refl, sym, ap, subst, ◌∙◌, inl, inr, arith}
+use Rattle.std.proofs.Common.{◌≡◌, ◌≢◌, ℕ, ◌<◌, ◌≤◌, ◌%◌, ◌==◌, nat_eq, Bool, true, false, cond, fold, ◌&&◌, nat_lt, List, [], ◌∷◌, ◌++◌, length, map, filter, Option, Some, None, refl, sym, ap, subst, ◌∙◌, inl, inr, arith}
 use Rattle.std.specs.Prelude.{IfSome, option_map}
 use Rattle.std.specs.List.{AllByRecursion, IsDistinct, find}
 use Rattle.std.proofs.lemmas.Bool.{cases_eq, cases_lt, eq-eqb, ne_eqb, lt-ltb, le-ltb}
+use Rattle.std.proofs.lemmas.List.{append_assoc, append-nil}
 use Rattle.std.proofs.lemmas.Option.{same_Some}
 use Rattle.pol_sets.specs.declared.sets.Move.{Move}
 use Rattle.pol_arena.specs.Twin.{Entry, Twin, IsInUse, IsSound, on_chain, newest_on, entry_of, value_of, older_than}
 use Rattle.pol_changes.specs.declared.change.Change.{Change}
 use Rattle.pol_changes.specs.Log.{is_later_of, since, newest_of, InOrder}
 use Rattle.pol_changes.specs.Nodes.{values, log_of, found_in, IsKept}
-use Rattle.pol_changes.specs.Net.{net}
+use Rattle.pol_changes.specs.Net.{came, went, net}
 use Rattle.pol_changes.proofs.LogLemmas.{none_later}
-use Rattle.pol_changes.proofs.NetLemmas.{join}
 
 -- the entries of a chain from a node on
 abbrev pub from_node : Option ℕ → List (Entry Change) → List (Entry Change)
@@ -130,33 +130,52 @@ found_by_scan selector revision horizon (e ∷ es) placed order =
           rw (ne_eqb e.chain (selector % 65536) differs, other, and_nothing (nat_lt revision e.value.revision)) rest
     ]
 
--- ---- the walk's invariant: what is found from here on, joined to the net change so far, is the whole net change
-pub record IsAhead (nodes : Twin Change) (selector revision : ℕ) (next : Option ℕ) (so_far : Move) : Type 0 where
+-- ---- the walk's invariant: what came and went so far, and what is found from here on, is all that came and went
+pub record IsAhead (nodes : Twin Change) (selector revision : ℕ) (next : Option ℕ) (came_so_far went_so_far : List ℕ) : Type 0 where
   pub sound : IsSound nodes
   pub used : IfSome next (IsInUse nodes)
-  pub whole : fold join so_far (found_in selector revision (from_node next nodes.ages)) ≡ net selector (found_in selector revision (on_chain (selector % 65536) nodes.ages))
+  pub all_came : came_so_far ++ came (found_in selector revision (from_node next nodes.ages)) ≡ came (found_in selector revision (on_chain (selector % 65536) nodes.ages))
+  pub all_went : went_so_far ++ went (found_in selector revision (from_node next nodes.ages)) ≡ went (found_in selector revision (on_chain (selector % 65536) nodes.ages))
 
-module _ (nodes : Twin Change) (selector revision node : ℕ) (c : Change) (so_far : Move) (ahead : IsAhead nodes selector revision (Some node) so_far) (is : value_of node nodes.ages ≡ Some c) where
-  pub ahead_taken : revision < c.revision → c.selector ≡ selector → IfSome (older_than node nodes.ages) (IsInUse nodes) → IsAhead nodes selector revision (older_than node nodes.ages) (join so_far c)
-  ahead_taken later own used = record {
-    sound = ahead.sound;
-    used = used;
-    whole = sym (ap (fold join so_far) (walk_takes selector revision node nodes.ages c ahead.sound.distinct is later own)) ∙ ahead.whole;
-  }
+-- the net change by what came and went
+pub record IsThere (nodes : Twin Change) (selector revision : ℕ) (came_ids went_ids : List ℕ) : Type 0 where
+  pub all_came : came_ids ≡ came (found_in selector revision (on_chain (selector % 65536) nodes.ages))
+  pub all_went : went_ids ≡ went (found_in selector revision (on_chain (selector % 65536) nodes.ages))
 
-  pub ahead_passed : revision < c.revision → c.selector ≢ selector → IfSome (older_than node nodes.ages) (IsInUse nodes) → IsAhead nodes selector revision (older_than node nodes.ages) so_far
-  ahead_passed later other used = record {
-    sound = ahead.sound;
-    used = used;
-    whole = sym (ap (fold join so_far) (walk_passes selector revision node nodes.ages c ahead.sound.distinct is later other)) ∙ ahead.whole;
-  }
+module _ (nodes : Twin Change) (selector revision node : ℕ) (c : Change) (came_ids went_ids : List ℕ) (ahead : IsAhead nodes selector revision (Some node) came_ids went_ids) (is : value_of node nodes.ages ≡ Some c) where
+  pub ahead_taken : revision < c.revision → c.selector ≡ selector → IfSome (older_than node nodes.ages) (IsInUse nodes) → IsAhead nodes selector revision (older_than node nodes.ages) (came_ids ++ c.gained) (went_ids ++ c.lost)
+  ahead_taken later own used =
+      let found = walk_takes selector revision node nodes.ages c ahead.sound.distinct is later own in
+      record {
+        sound = ahead.sound;
+        used = used;
+        all_came = append_assoc came_ids c.gained _ ∙ ap (λ cs. came_ids ++ came cs) (sym found) ∙ ahead.all_came;
+        all_went = append_assoc went_ids c.lost _ ∙ ap (λ cs. went_ids ++ went cs) (sym found) ∙ ahead.all_went;
+      }
 
-  pub ahead_stopped : c.revision ≤ revision → so_far ≡ net selector (found_in selector revision (on_chain (selector % 65536) nodes.ages))
+  pub ahead_passed : revision < c.revision → c.selector ≢ selector → IfSome (older_than node nodes.ages) (IsInUse nodes) → IsAhead nodes selector revision (older_than node nodes.ages) came_ids went_ids
+  ahead_passed later other used =
+      let found = walk_passes selector revision node nodes.ages c ahead.sound.distinct is later other in
+      record {
+        sound = ahead.sound;
+        used = used;
+        all_came = ap (λ cs. came_ids ++ came cs) (sym found) ∙ ahead.all_came;
+        all_went = ap (λ cs. went_ids ++ went cs) (sym found) ∙ ahead.all_went;
+      }
+
+  pub ahead_stopped : c.revision ≤ revision → IsThere nodes selector revision came_ids went_ids
   ahead_stopped past =
-      sym (ap (fold join so_far) (walk_stops selector revision node nodes.ages c ahead.sound.distinct is past)) ∙ ahead.whole
+      let found = walk_stops selector revision node nodes.ages c ahead.sound.distinct is past in
+      record {
+        all_came = sym (append-nil came_ids) ∙ ap (λ cs. came_ids ++ came cs) (sym found) ∙ ahead.all_came;
+        all_went = sym (append-nil went_ids) ∙ ap (λ cs. went_ids ++ went cs) (sym found) ∙ ahead.all_went;
+      }
 
-pub ahead_ended : (nodes : Twin Change) (selector revision : ℕ) (so_far : Move) → IsAhead nodes selector revision None so_far → so_far ≡ net selector (found_in selector revision (on_chain (selector % 65536) nodes.ages))
-ahead_ended nodes selector revision so_far ahead = ahead.whole
+pub ahead_ended : (nodes : Twin Change) (selector revision : ℕ) (came_ids went_ids : List ℕ) → IsAhead nodes selector revision None came_ids went_ids → IsThere nodes selector revision came_ids went_ids
+ahead_ended nodes selector revision came_ids went_ids ahead = record {
+  all_came = sym (append-nil came_ids) ∙ ahead.all_came;
+  all_went = sym (append-nil went_ids) ∙ ahead.all_went;
+}
 
 -- what the walk finds is the log's answer
 pub since_found : (nodes : Twin Change) (count horizon spare selector revision : ℕ) → IsKept nodes count horizon spare → horizon ≤ revision

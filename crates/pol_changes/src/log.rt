@@ -6,7 +6,7 @@ ghost use Rattle.pol_changes.specs.Net.{net};
 ghost use Rattle.pol_changes.specs.Nodes.{with_place, horizon_with_place, found_in};
 
 use crate::Change;
-use crate::net::{joined, still};
+use crate::net::net_of;
 use pol_arena::Twin;
 use pol_data::Memory;
 use pol_sets::Move;
@@ -57,7 +57,8 @@ fn net_on_chain(
 ) -> Result<Move, Memory>
     ensures { IfOk result (λ m. m ≡ net selector (found_in selector revision (on_chain (selector % 65536) nodes.now.ages))) }
 {
-    let mut net = still(alloc, selector);
+    let mut came = Vec::new(alloc);
+    let mut went = Vec::new(alloc);
     let mut node = nodes.newest(chain_of(selector));
     while let Some(at) = node {
         let change = nodes.get(at);
@@ -65,11 +66,12 @@ fn net_on_chain(
             break;
         }
         if change.selector == selector {
-            net = joined(alloc, change, &net)?;
+            came.extend_from_slice(change.gained.as_slice())?;
+            went.extend_from_slice(change.lost.as_slice())?;
         }
         node = nodes.older(at);
     }
-    Ok(net)
+    net_of(alloc, selector, came, went)
 }
 
 /// Drops the oldest node where as many are kept as may be, and gives the horizon then.

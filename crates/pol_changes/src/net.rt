@@ -1,85 +1,77 @@
 //! Net changes.
-ghost use Rattle.std.specs.Prelude.{◌≡◌, ◌<◌, ◌^◌, IfOk};
-ghost use Rattle.std.specs.List.Sorted.{IsStrictlySortedBy};
+ghost use Rattle.std.specs.Prelude.{◌≡◌, ◌<◌, nat_lt, IfOk, count_by, filter};
+ghost use Rattle.std.specs.List.Sorted.{IsSorted};
 ghost use Rattle.std.specs.Ordering.{nat_cmp};
-ghost use Rattle.pol_sets.specs.IdSet.{IsIdSet};
-ghost use Rattle.pol_changes.specs.Ids.{without, union};
-ghost use Rattle.pol_changes.specs.Net.{move_of, still, joined};
+ghost use Rattle.pol_changes.specs.Net.{times, surplus};
 
-use crate::Change;
 use pol_data::Memory;
 use pol_sets::{IdSet, Move};
 use std::alloc::Global;
 
-/// The numbers of a set that another doesn't have.
-fn without(alloc: Global, ids: &IdSet, others: &IdSet) -> Result<Vec<u32>, Memory>
-    ensures left { IfOk result (λ left. left.items ≡ without ids.now others.now) }
-    ensures set { IsIdSet ids.now }
+/// How many numbers of a sorted list are below a bound.
+fn count_below(ids: &[u32], bound: u64) -> usize
+    requires { IsSorted nat_cmp ids.now }
+    ensures { result ≡ count_by (λ id. nat_lt id bound) ids.now }
+{
+    ids.partition_point(|id| u64::from(*id) < bound)
+}
+
+/// How often a number stands in a sorted list.
+fn times(ids: &[u32], id: u32) -> usize
+    requires { IsSorted nat_cmp ids.now }
+    ensures { result ≡ times id ids.now }
+{
+    count_below(ids, u64::from(id) + 1) - count_below(ids, u64::from(id))
+}
+
+/// Whether a number stands more often in the one sorted list than in the other.
+fn is_more_often(ids: &[u32], others: &[u32], id: u32) -> bool
+    requires ids_sorted { IsSorted nat_cmp ids.now }
+    requires others_sorted { IsSorted nat_cmp others.now }
+    ensures { result ≡ nat_lt (times id others.now) (times id ids.now) }
+{
+    times(others, id) < times(ids, id)
+}
+
+/// The elements of a sorted list that stand there more often than in another one.
+fn more_often(alloc: Global, ids: &[u32], others: &[u32]) -> Result<Vec<u32>, Memory>
+    requires ids_sorted { IsSorted nat_cmp ids.now }
+    requires others_sorted { IsSorted nat_cmp others.now }
+    ensures { IfOk result (λ more. more.items ≡ filter (λ id. nat_lt (times id others.now) (times id ids.now)) ids.now) }
 {
     Ok(
-        ids.as_slice()
-            .iter()
+        ids.iter()
             .copied()
-            .filter(|id| !others.contains(*id))
+            .filter(|id| is_more_often(ids, others, *id))
             .collect(alloc)?,
     )
 }
 
-/// The numbers of both lists. Where both ascend the sort is one merge.
-fn union(mut ids: Vec<u32>, others: &[u32]) -> Result<IdSet, Memory>
-    requires { IsStrictlySortedBy nat_cmp ids.items }
-    ensures { IfOk result (λ all. all ≡ union ids.items others.now) }
+/// The numbers that stand more often in the one sorted list than in the other.
+fn surplus(alloc: Global, ids: &[u32], others: &[u32]) -> Result<IdSet, Memory>
+    requires ids_sorted { IsSorted nat_cmp ids.now }
+    requires others_sorted { IsSorted nat_cmp others.now }
+    ensures { IfOk result (λ more. more ≡ surplus ids.now others.now) }
 {
-    ids.extend_from_slice(others)?;
-    ids.sort()?;
-    ids.dedup();
-    Ok(IdSet::from_ascending(ids))
+    let mut more = more_often(alloc, ids, others)?;
+    more.dedup();
+    Ok(IdSet::from_ascending(more))
 }
 
-/// What one side of an older move and of a newer one leaves, where each lacks what the other side of the other has.
-fn joined_side(
+/// The net change where all these numbers came and all those went, in any order. The one error is want of memory.
+pub(crate) fn net_of(
     alloc: Global,
-    older: &IdSet,
-    undone: &IdSet,
-    newer: &IdSet,
-    redone: &IdSet,
-) -> Result<IdSet, Memory>
-    ensures { IfOk result (λ ids. ids ≡ union (without older.now undone.now) (without newer.now redone.now)) }
+    selector: u64,
+    mut came: Vec<u32>,
+    mut went: Vec<u32>,
+) -> Result<Move, Memory>
+    ensures { IfOk result (λ net. net ≡ record { selector = selector; gained = surplus came.items went.items; lost = surplus went.items came.items }) }
 {
-    let kept = without(alloc, older, undone)?;
-    union(kept, without(alloc, newer, redone)?.as_slice())
-}
-
-/// Nothing moved.
-pub(crate) fn still(alloc: Global, selector: u64) -> Move
-    ensures { result ≡ still selector }
-{
-    Move {
-        selector,
-        gained: IdSet::new(alloc),
-        lost: IdSet::new(alloc),
-    }
-}
-
-/// The change, and then the move. The one error is want of memory.
-pub(crate) fn joined(alloc: Global, change: &Change, newer: &Move) -> Result<Move, Memory>
-    ensures { IfOk result (λ net. net ≡ joined (move_of change.now) newer.now) }
-{
+    came.sort()?;
+    went.sort()?;
     Ok(Move {
-        selector: newer.selector,
-        gained: joined_side(
-            alloc,
-            &change.gained,
-            &newer.lost,
-            &newer.gained,
-            &change.lost,
-        )?,
-        lost: joined_side(
-            alloc,
-            &change.lost,
-            &newer.gained,
-            &newer.lost,
-            &change.gained,
-        )?,
+        selector,
+        gained: surplus(alloc, came.as_slice(), went.as_slice())?,
+        lost: surplus(alloc, went.as_slice(), came.as_slice())?,
     })
 }
