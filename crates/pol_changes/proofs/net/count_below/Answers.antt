@@ -1,4 +1,4 @@
-use Rattle.std.proofs.Common.{nat_lt, sym, rules, arith}
+use Rattle.std.proofs.Common.{nat_lt, sym, rules}
 use Rattle.std.proofs.lemmas.List.Sorted.{IsNonDecreasingBy-from_sort, IsPartitionPoint-from_clause, IsPartitionedBy-ltb}
 use Rattle.pol_changes.proofs.Counted.{count_to_point}
 use Rattle.pol_changes.proofs.net.count_below.Goals as goal

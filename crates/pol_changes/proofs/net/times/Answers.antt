@@ -1,4 +1,4 @@
-use Rattle.std.proofs.Common.{◌≡◌, ◌+◌, nat_lt, count_by, arith}
+use Rattle.std.proofs.Common.{arith}
 use Rattle.pol_changes.proofs.Counted.{below_next}
 use Rattle.pol_changes.proofs.net.times.Goals as goal
 
