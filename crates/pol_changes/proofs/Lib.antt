@@ -1,0 +1,7 @@
+pub mod Counted
+pub mod Differences
+pub mod IdLemmas
+pub mod LogLemmas
+pub mod NetLemmas
+pub mod Recording
+pub mod Walk

@@ -1,0 +1,6 @@
+pub mod Ids
+pub mod Log
+pub mod Net
+pub mod Nodes
+pub mod Recorded
+pub mod Sets
