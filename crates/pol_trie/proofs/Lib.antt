@@ -1,0 +1,11 @@
+mod KeyOrder
+mod Prefixes
+mod Trees
+mod Stand
+mod Putting
+mod Walking
+mod Seeking
+mod Calls
+mod Sizes
+mod Listing
+mod Kinds

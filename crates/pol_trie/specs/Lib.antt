@@ -1,0 +1,6 @@
+pub mod PortMap
+pub mod PolicyMap
+pub mod Tree
+pub mod Links
+pub mod Standing
+pub mod KeySet

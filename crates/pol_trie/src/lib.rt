@@ -1,0 +1,13 @@
+//! The policy map that a look-up walks.
+//!
+//! For a direction and an identity the map keeps the kind of the key for every protocol, and for each protocol a binary
+//! trie of port prefixes, whose nodes stand in a pool by index. A look-up goes down for the identity and for
+//! identity 0.
+#![tactic(auto)]
+
+mod key_set;
+mod node;
+mod ports;
+mod put;
+mod take;
+mod walk;
