@@ -8,4 +8,6 @@ mod Seeking
 mod Calls
 mod Sizes
 mod Listing
-mod Kinds
+mod KeyKinds
+mod RootLemmas
+mod Reading

@@ -4,3 +4,4 @@ pub mod Tree
 pub mod Links
 pub mod Standing
 pub mod KeySet
+pub mod Roots

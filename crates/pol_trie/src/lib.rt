@@ -9,5 +9,9 @@ mod key_set;
 mod node;
 mod ports;
 mod put;
+mod root;
 mod take;
+mod trie;
 mod walk;
+
+pub use trie::PolicyTrie;
