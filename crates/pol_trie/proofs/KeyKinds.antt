@@ -92,11 +92,11 @@ taken_as m new port e q = ap (λ x. map.get x q) e ∙ get-taken m port q
 
 -- no keys
 pub no_kinds : (s : KeySet) → s.every ≡ None → s.tcp ≡ map.empty → s.udp ≡ map.empty → s.sctp ≡ map.empty → (proto : KeyProto) (port : PortPrefix) → kind_of s proto port ≡ None
-no_kinds s every tcp udp sctp Every port = ap (λ x. if same_prefix empty_prefix port then x else None) every ∙ nothing (same_prefix empty_prefix port)
+no_kinds s every tcp udp sctp Every port = ap (λ x. if same_prefix empty_prefix port then x else None) every ∙ nothing (same_prefix empty_prefix port) None
   where
-    nothing : (b : Bool) → (if b then None else None) ≡ None
-    nothing true = refl
-    nothing false = refl
+    nothing : (b : Bool) (n : Option Kind) → (if b then n else n) ≡ n
+    nothing true n = refl
+    nothing false n = refl
 no_kinds s every tcp udp sctp Tcp port = ap (λ m. map.get m port) tcp ∙ map.get-empty prefix_cmp port
 no_kinds s every tcp udp sctp Udp port = ap (λ m. map.get m port) udp ∙ map.get-empty prefix_cmp port
 no_kinds s every tcp udp sctp Sctp port = ap (λ m. map.get m port) sctp ∙ map.get-empty prefix_cmp port

@@ -10,4 +10,5 @@ mod Sizes
 mod Listing
 mod KeyKinds
 mod RootLemmas
+mod RootCalls
 mod Reading

@@ -43,18 +43,25 @@ both_true true true t = (tt, tt)
 both_true true false t = absurd t
 both_true false b t = absurd t
 
-module _ {K X : Type 0} (R : K → K → Ordering) (total : IsTotalOrder R) (same : (a b : K) → R a b ≡ Equal → a ≡ b) where
-  less_than : (x : K) (es : List (K × X)) → T (finite.below_all R x es) → (e : K × X) → Contains es e → T (is_lt (R x e.0))
-  less_than x [] below e has = absurd (let l = has.1 in omega arith)
-  less_than x (y ∷ es) below e has =
-      let both = both_true _ _ below in
-      elim (Contains-cases y es e has) [
-        | inl here ↦ (let P : K × X → Type 0 = λ z. T (is_lt (R x z.0)) in subst P here both.0)
-        | inr later ↦ less_than x es both.1 e later
-      ]
+both_from : (a b : Bool) → T a → T b → T (a && b)
+both_from true b s t = t
+both_from false b s t = absurd s
 
-  not_less : (x : K) → T (is_lt (R x x)) → ⊥
-  not_less x t = (let P : Ordering → Type 0 = λ o. T (is_lt o) in subst P (tied_itself total x) t)
+not_less : {K : Type 0} (R : K → K → Ordering) → IsTotalOrder R → (x : K) → T (is_lt (R x x)) → ⊥
+not_less R total x t = (let P : Ordering → Type 0 = λ o. T (is_lt o) in subst P (tied_itself total x) t)
+
+module _ {K X : Type 0} (R : K → K → Ordering) (total : IsTotalOrder R) (same : (a b : K) → R a b ≡ Equal → a ≡ b) where
+  -- the first key is less than each later one
+  less_than : (x : K) (v : X) (es : List (K × X)) → T (finite.is_sorted R ((x, v) ∷ es)) → (e : K × X) → Contains es e → T (is_lt (R x e.0))
+  less_than x v [] sorted e has = absurd (let l = has.1 in omega arith)
+  less_than x v (y ∷ es) sorted e has =
+      let outer = both_true _ _ sorted in
+      let first = both_true _ _ outer.0 in
+      let rest = both_true _ _ outer.1 in
+      elim (Contains-cases y es e has) [
+        | inl here ↦ (let P : K × X → Type 0 = λ z. T (is_lt (R x z.0)) in subst P here first.0)
+        | inr later ↦ less_than x v es (both_from _ _ first.1 rest.1) e later
+      ]
 
   found : (es : List (K × X)) → T (finite.is_sorted R es) → (e : K × X) → Contains es e → finite.find R e.0 es ≡ Some e.1
   found [] sorted e has = absurd (let l = has.1 in omega arith)
@@ -68,7 +75,7 @@ module _ {K X : Type 0} (R : K → K → Ordering) (total : IsTotalOrder R) (sam
               | inl t ↦
                   let is = tied_is R total same e.0 y.0 t in
                   let P : K → Type 0 = λ z. T (is_lt (R z e.0)) in
-                  absurd (not_less e.0 (subst P (sym is) (less_than y.0 es both.0 e later)))
+                  absurd (not_less R total e.0 (subst P (sym is) (less_than y.0 y.1 es sorted e later)))
               | inr f ↦ ap (λ b. cond b (Some y.1) (finite.find R e.0 es)) f ∙ found es both.1 e later
             ]
       ]
@@ -76,16 +83,16 @@ module _ {K X : Type 0} (R : K → K → Ordering) (total : IsTotalOrder R) (sam
   listed : (es : List (K × X)) (q : K) (x : X) → finite.find R q es ≡ Some x → Contains es (q, x)
   listed [] q x is = absurd (cc)
   listed (y ∷ es) q x is =
-      by (eq_by_cmp R q y.0) refl is
+      by (eq_by_cmp R q y.0) refl is (listed es q x)
     where
-      by : (b : Bool) → eq_by_cmp R q y.0 ≡ b → cond b (Some y.1) (finite.find R q es) ≡ Some x → Contains (y ∷ es) (q, x)
-      by true t is =
+      by : (b : Bool) → eq_by_cmp R q y.0 ≡ b → cond b (Some y.1) (finite.find R q es) ≡ Some x → (finite.find R q es ≡ Some x → Contains es (q, x)) → Contains (y ∷ es) (q, x)
+      by true t is later =
           let key = tied_is R total same q y.0 t in
           let value = same_Some y.1 x is in
           let e : y ≡ (q, x) = λ i. (sym key i, value i) in
           let P : K × X → Type 0 = λ z. Contains (y ∷ es) z in
           subst P e (Contains-here y es)
-      by false f is = Contains-later y es (q, x) (listed es q x is)
+      by false f is later = Contains-later y es (q, x) (later is)
 
 entry_found : (m : PolicyMap) (e : Entry) → Contains (finite.entries m) e → finite.get m e.0 ≡ Some e.1
 entry_found m e has = finite.get-entries m e.0 ∙ found key_cmp key_cmp_total key_cmp-same (finite.entries m) (finite.entries_sorted m) e has

@@ -76,11 +76,11 @@ missed_ports root proto key m never = ports_other root proto key never (finite.e
 -- ---- the key for every protocol
 found_every : (root : Root) (key : MapKey) (kind : Option Kind) → root_of key ≡ root → key.proto ≡ Every
     → key_found key (every_entry root kind) ≡ (if same_prefix empty_prefix key.port then kind else None)
-found_every root key None same protos = nothing (same_prefix empty_prefix key.port)
+found_every root key None same protos = nothing (same_prefix empty_prefix key.port) None
   where
-    nothing : (s : Bool) → None ≡ (if s then None else None)
-    nothing true = refl
-    nothing false = refl
+    nothing : (s : Bool) (n : Option Kind) → n ≡ (if s then n else n)
+    nothing true n = refl
+    nothing false n = refl
 found_every root key (Some kind) same protos =
     ap (λ b. cond b (Some kind) None)
     (elim (cases_Bool (same_prefix empty_prefix key.port)) [
@@ -213,16 +213,17 @@ module _ (eq : Root → Root → Bool) (eq-is : (a b : Root) → eq a b ≡ true
       test : Bool
       test = same_key_proto key.proto q.proto && same_prefix key.port q.port
 
-      by : (b : Bool) → eq (root_of key) (root_of q) ≡ b → kind_at eq new q ≡ cond (key_tie q key) value (kind_at eq old q)
-      by true t =
-          let same = eq-is (root_of key) (root_of q) t in
-          ap (option_and_then (λ s. kind_of s q.proto q.port)) (changes (root_of q) ∙ ap (λ b. cond b then_there (lookup (eq (root_of q)) old)) t)
-          ∙ kinds q.proto q.port
-          ∙ ap (λ r. if test then value else option_and_then (λ s. kind_of s q.proto q.port) (lookup (eq r) old)) same
-          ∙ ap (λ b. if b then value else kind_at eq old q) (test_ties same)
-      by false f =
-          ap (option_and_then (λ s. kind_of s q.proto q.port)) (changes (root_of q) ∙ ap (λ b. cond b then_there (lookup (eq (root_of q)) old)) f)
-          ∙ ap (λ b. cond b value (kind_at eq old q)) (sym (key_untied q key (λ e. both_ways _ f (ap (eq (root_of key)) (λ i. root_of (e i)) ∙ eq-self (root_of key)))))
+      protos_same : (a b : KeyProto) → same_key_proto a b ≡ true → a ≡ b
+      protos_same a b t = same_protos a b t
+
+      own : (a : KeyProto) → same_key_proto a a ≡ true
+      own Every = refl
+      own Tcp = refl
+      own Udp = refl
+      own Sctp = refl
+
+      tests : (a b : MapKey) → a ≡ b → (same_key_proto a.proto b.proto && same_prefix a.port b.port) ≡ true
+      tests a b e = and_from _ _ (ap (same_key_proto a.proto) (ap (λ (k : MapKey). k.proto) (sym e)) ∙ own a.proto) (ap (λ (k : MapKey). same_prefix a.port k.port) (sym e) ∙ same_prefix-self a.port)
 
       test_ties : root_of key ≡ root_of q → test ≡ key_tie q key
       test_ties same =
@@ -233,17 +234,16 @@ module _ (eq : Root → Root → Bool) (eq-is : (a b : Root) → eq a b ≡ true
             | inr f ↦ f ∙ sym (key_untied q key (λ e. both_ways _ f (tests key q (sym e))))
           ]
 
-      protos_same : (a b : KeyProto) → same_key_proto a b ≡ true → a ≡ b
-      protos_same a b t = same_protos a b t
-
-      tests : (a b : MapKey) → a ≡ b → (same_key_proto a.proto b.proto && same_prefix a.port b.port) ≡ true
-      tests a b e = and_from _ _ (ap (same_key_proto a.proto) (ap (λ (k : MapKey). k.proto) (sym e)) ∙ own a.proto) (ap (λ (k : MapKey). same_prefix a.port k.port) (sym e) ∙ same_prefix-self a.port)
-
-      own : (a : KeyProto) → same_key_proto a a ≡ true
-      own Every = refl
-      own Tcp = refl
-      own Udp = refl
-      own Sctp = refl
+      by : (b : Bool) → eq (root_of key) (root_of q) ≡ b → kind_at eq new q ≡ cond (key_tie q key) value (kind_at eq old q)
+      by true t =
+          let same = eq-is (root_of key) (root_of q) t in
+          ap (option_and_then (λ s. kind_of s q.proto q.port)) (changes (root_of q) ∙ ap (λ b. cond b then_there (lookup (eq (root_of q)) old)) t)
+          ∙ kinds q.proto q.port
+          ∙ ap (λ r. if test then value else option_and_then (λ s. kind_of s q.proto q.port) (lookup (eq r) old)) same
+          ∙ ap (λ b. if b then value else kind_at eq old q) (test_ties same)
+      by false f =
+          ap (option_and_then (λ s. kind_of s q.proto q.port)) (changes (root_of q) ∙ ap (λ b. cond b then_there (lookup (eq (root_of q)) old)) f)
+          ∙ ap (λ b. cond b value (kind_at eq old q)) (sym (key_untied q key (λ e. both_ways _ f (ap (eq (root_of key)) (λ i. root_of (e i)) ∙ eq-self (root_of key)))))
 
 same_policies : (m n : PolicyMap) → ((q : MapKey) → finite.get m q ≡ finite.get n q) → m ≡ n
 same_policies = finite.same_map key_cmp_total key_cmp-same

@@ -16,6 +16,7 @@ use std::sync::ledger::Ledger;
 /// The kind of the key for every protocol, if there is one, and the kinds of port prefixes for each protocol.
 #[derive(Drop)]
 pub(crate) struct KeySet {
+    alloc: Global,
     every: Option<Kind>,
     tcp: PortTrie,
     udp: PortTrie,
@@ -31,6 +32,7 @@ impl KeySet {
         ensures { (proto : TheKeyProto) (port : ThePrefix) → kind_of result proto port ≡ None }
     {
         KeySet {
+            alloc,
             every: None,
             tcp: PortTrie::new(alloc),
             udp: PortTrie::new(alloc),
@@ -107,22 +109,25 @@ impl KeySet {
         own.or(self.every)
     }
 
-    /// The same keys once more. The one error is want of memory.
-    pub(crate) fn copy(&self, alloc: Global) -> Result<KeySet, Memory>
-        ensures { IfOk result (λ copy. copy ≡ self.now) }
-    {
-        Ok(KeySet {
-            every: self.every,
-            tcp: self.tcp.copy(alloc)?,
-            udp: self.udp.copy(alloc)?,
-            sctp: self.sctp.copy(alloc)?,
-        })
-    }
-
     /// Whether there is no key.
     pub(crate) fn is_empty(&self) -> bool
         ensures { IsTrue result → (proto : TheKeyProto) (port : ThePrefix) → kind_of self.now proto port ≡ None }
     {
         self.every.is_none() && self.tcp.is_empty() && self.udp.is_empty() && self.sctp.is_empty()
+    }
+}
+
+/// The same keys once more. The one error is want of memory.
+impl Clone for KeySet {
+    ghost is_clone = { λ keys copy. copy ≡ keys };
+
+    fn clone(&self) -> Result<KeySet, Memory> {
+        Ok(KeySet {
+            alloc: self.alloc,
+            every: self.every,
+            tcp: self.tcp.copy(self.alloc)?,
+            udp: self.udp.copy(self.alloc)?,
+            sctp: self.sctp.copy(self.alloc)?,
+        })
     }
 }

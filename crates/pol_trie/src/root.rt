@@ -39,7 +39,7 @@ pub(crate) fn put_key(
         dir: key.dir,
         id: key.id,
     };
-    match roots.get_mut(root) {
+    match roots.get_mut(&root) {
         Some(keys) => {
             let fresh = keys.get(key).is_none();
             keys.set(key, kind)?;
@@ -65,13 +65,13 @@ pub(crate) fn clear_key(roots: &mut IndexMap<Root, KeySet>, key: &MapKey) -> boo
         dir: key.dir,
         id: key.id,
     };
-    let Some(keys) = roots.get_mut(root) else {
+    let Some(keys) = roots.get_mut(&root) else {
         return false;
     };
     let there = keys.get(key).is_some();
     keys.clear(key);
     if keys.is_empty() {
-        roots.swap_remove(root);
+        roots.swap_remove(&root);
     }
     there
 }
@@ -90,24 +90,8 @@ pub(crate) fn longest<L: Ledger>(
     ensures forward { steps.old ≤ steps.new }
     ensures cost { steps.new ≤ steps.old + 18 }
 {
-    match roots.get(root) {
+    match roots.get(&root) {
         Some(keys) => keys.longest(proto, port, steps),
         None => None,
     }
-}
-
-/// The same keys once more. The one error is want of memory.
-pub(crate) fn copy_of(
-    roots: &IndexMap<Root, KeySet>,
-    alloc: Global,
-) -> Result<IndexMap<Root, KeySet>, Memory>
-    requires { IsUnique ⟦<Root as PartialEq>⟧.eq roots.now }
-    ensures unique { IfOk result (IsUnique ⟦<Root as PartialEq>⟧.eq) }
-    ensures equal { IfOk result (λ copies. copies.entries ≡ roots.now.entries) }
-{
-    let mut copies = IndexMap::with_capacity(alloc, roots.len())?;
-    for (root, keys) in roots.iter() {
-        copies.insert(*root, keys.copy(alloc)?)?;
-    }
-    Ok(copies)
 }

@@ -5,7 +5,7 @@ ghost use Rattle.pol_mapkey.specs.Entries.{read_map};
 ghost use Rattle.pol_trie.specs.Roots.{denies, word_of_kinds};
 
 use crate::key_set::KeySet;
-use crate::root::{Root, clear_key, copy_of, longest, put_key};
+use crate::root::{Root, clear_key, longest, put_key};
 use indexmap::IndexMap;
 use pol_data::{Memory, Steps};
 use pol_mapkey::{Kind, MapKey, Word};
@@ -57,7 +57,7 @@ impl PolicyTrie {
         ensures { IfOk result (λ copy. copy ≡ self.now) }
     {
         Ok(PolicyTrie {
-            roots: copy_of(&self.roots, alloc)?,
+            roots: self.roots.clone()?,
             count: self.count,
             alloc,
         })
