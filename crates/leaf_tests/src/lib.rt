@@ -18,3 +18,5 @@ mod policies;
 mod ports;
 #[cfg(test)]
 mod prefix_table;
+#[cfg(test)]
+mod trie;

@@ -12,3 +12,5 @@ mod KeyKinds
 mod RootLemmas
 mod RootCalls
 mod Reading
+mod Counting
+mod Meeting

@@ -38,7 +38,7 @@ use Rattle.pol_trie.proofs.KeyOrder.{key_cmp_total, key_cmp-same, tied_from, tie
 use Rattle.pol_trie.proofs.RootLemmas.{get-policy_of}
 
 -- ---- the entries of a map are what it gives
-both_true : (a b : Bool) → T (a && b) → T a × T b
+pub both_true : (a b : Bool) → T (a && b) → T a × T b
 both_true true true t = (tt, tt)
 both_true true false t = absurd t
 both_true false b t = absurd t
@@ -47,12 +47,12 @@ both_from : (a b : Bool) → T a → T b → T (a && b)
 both_from true b s t = t
 both_from false b s t = absurd s
 
-not_less : {K : Type 0} (R : K → K → Ordering) → IsTotalOrder R → (x : K) → T (is_lt (R x x)) → ⊥
+pub not_less : {K : Type 0} (R : K → K → Ordering) → IsTotalOrder R → (x : K) → T (is_lt (R x x)) → ⊥
 not_less R total x t = (let P : Ordering → Type 0 = λ o. T (is_lt o) in subst P (tied_itself total x) t)
 
 module _ {K X : Type 0} (R : K → K → Ordering) (total : IsTotalOrder R) (same : (a b : K) → R a b ≡ Equal → a ≡ b) where
   -- the first key is less than each later one
-  less_than : (x : K) (v : X) (es : List (K × X)) → T (finite.is_sorted R ((x, v) ∷ es)) → (e : K × X) → Contains es e → T (is_lt (R x e.0))
+  pub less_than : (x : K) (v : X) (es : List (K × X)) → T (finite.is_sorted R ((x, v) ∷ es)) → (e : K × X) → Contains es e → T (is_lt (R x e.0))
   less_than x v [] sorted e has = absurd (let l = has.1 in omega arith)
   less_than x v (y ∷ es) sorted e has =
       let outer = both_true _ _ sorted in
@@ -80,10 +80,10 @@ module _ {K X : Type 0} (R : K → K → Ordering) (total : IsTotalOrder R) (sam
             ]
       ]
 
-  listed : (es : List (K × X)) (q : K) (x : X) → finite.find R q es ≡ Some x → Contains es (q, x)
-  listed [] q x is = absurd (cc)
-  listed (y ∷ es) q x is =
-      by (eq_by_cmp R q y.0) refl is (listed es q x)
+  pub found_listed : (es : List (K × X)) (q : K) (x : X) → finite.find R q es ≡ Some x → Contains es (q, x)
+  found_listed [] q x is = absurd (cc)
+  found_listed (y ∷ es) q x is =
+      by (eq_by_cmp R q y.0) refl is (found_listed es q x)
     where
       by : (b : Bool) → eq_by_cmp R q y.0 ≡ b → cond b (Some y.1) (finite.find R q es) ≡ Some x → (finite.find R q es ≡ Some x → Contains es (q, x)) → Contains (y ∷ es) (q, x)
       by true t is later =
@@ -98,7 +98,7 @@ entry_found : (m : PolicyMap) (e : Entry) → Contains (finite.entries m) e → 
 entry_found m e has = finite.get-entries m e.0 ∙ found key_cmp key_cmp_total key_cmp-same (finite.entries m) (finite.entries_sorted m) e has
 
 entry_listed : (m : PolicyMap) (key : MapKey) (kind : Kind) → finite.get m key ≡ Some kind → Contains (finite.entries m) (key, kind)
-entry_listed m key kind is = listed key_cmp key_cmp_total key_cmp-same (finite.entries m) key kind (sym (finite.get-entries m key) ∙ is)
+entry_listed m key kind is = found_listed key_cmp key_cmp_total key_cmp-same (finite.entries m) key kind (sym (finite.get-entries m key) ∙ is)
 
 one_kind : (m : PolicyMap) → OneKindAKey (finite.entries m)
 one_kind m e f has_e has_f same =

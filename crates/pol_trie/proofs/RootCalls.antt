@@ -36,10 +36,10 @@ same_root-Decides a b =
     Decides-like _ (λ same. λ i. record { dir = same.0 i; id = same.1 i }) (λ e. (ap (λ (r : Root). r.dir) e, ap (λ (r : Root). r.id) e))
     (Decides-and _ _ (direction_eq-Decides a.dir b.dir) (Decides-eqb a.id b.id))
 
-same_root-is : (a b : Root) → same_root a b ≡ true → a ≡ b
+pub same_root-is : (a b : Root) → same_root a b ≡ true → a ≡ b
 same_root-is a b = (same_root-Decides a b).0
 
-same_root-self : (a : Root) → same_root a a ≡ true
+pub same_root-self : (a : Root) → same_root a a ≡ true
 same_root-self a = (same_root-Decides a a).1 refl
 
 abbrev pub Rows : Type 0

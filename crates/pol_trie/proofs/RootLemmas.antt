@@ -51,7 +51,7 @@ tied_ports root proto key port dirs ids protos =
           both_ways _ f (tied_from prefix_cmp prefix_cmp_total prefix_cmp-same key.port port (ap (λ (k : MapKey). k.port) e))) ∙ sym f
     ]
 
-ports_own : (root : Root) (proto : Proto) (key : MapKey) → key.dir ≡ root.dir → key.id ≡ root.id → key.proto ≡ key_proto proto → (es : List (PortPrefix × Kind))
+pub ports_own : (root : Root) (proto : Proto) (key : MapKey) → key.dir ≡ root.dir → key.id ≡ root.id → key.proto ≡ key_proto proto → (es : List (PortPrefix × Kind))
     → key_found key (map (λ e. (port_key root.dir root.id proto e.0, e.1)) es) ≡ finite.find prefix_cmp key.port es
 ports_own root proto key dirs ids protos [] = refl
 ports_own root proto key dirs ids protos (e ∷ es) =
@@ -70,7 +70,7 @@ found_ports : (root : Root) (proto : Proto) (key : MapKey) (m : PortMap) → roo
 found_ports root proto key m same protos =
     ports_own root proto key (ap (λ (r : Root). r.dir) same) (ap (λ (r : Root). r.id) same) protos (finite.entries m) ∙ sym (finite.get-entries m key.port)
 
-missed_ports : (root : Root) (proto : Proto) (key : MapKey) (m : PortMap) → (root_of key ≡ root → key.proto ≡ key_proto proto → ⊥) → key_found key (port_entries root proto m) ≡ None
+pub missed_ports : (root : Root) (proto : Proto) (key : MapKey) (m : PortMap) → (root_of key ≡ root → key.proto ≡ key_proto proto → ⊥) → key_found key (port_entries root proto m) ≡ None
 missed_ports root proto key m never = ports_other root proto key never (finite.entries m)
 
 -- ---- the key for every protocol
@@ -175,7 +175,7 @@ same_protos Sctp Sctp t = refl
 
 -- ---- all of them, where `eq` is equality
 module _ (eq : Root → Root → Bool) (eq-is : (a b : Root) → eq a b ≡ true → a ≡ b) (eq-self : (a : Root) → eq a a ≡ true) where
-  found_nowhere : (key : MapKey) (es : List (Root × KeySet)) → AllByRecursion (λ r. eq (root_of key) r ≡ false) (keys_of es) → key_found key (flat_map entries_of es) ≡ None
+  pub found_nowhere : (key : MapKey) (es : List (Root × KeySet)) → AllByRecursion (λ r. eq (root_of key) r ≡ false) (keys_of es) → key_found key (flat_map entries_of es) ≡ None
   found_nowhere key [] all = refl
   found_nowhere key (e ∷ es) all =
       find-either key_cmp (entries_of e) (flat_map entries_of es) key

@@ -1,5 +1,5 @@
 -- The keys of one direction and identity. No public clause cites this module.
-use Rattle.std.specs.Prelude.{◌≡◌, ℕ, Bool, ◌&&◌, if◌then◌else◌, Option, Some, None}
+use Rattle.std.specs.Prelude.{◌≡◌, ℕ, Bool, ◌+◌, ◌&&◌, is_some, if◌then◌else◌, Option, Some, None}
 use Rattle.std.specs.Option.{option_or}
 use Rattle.std.specs.FinMap as map
 use Rattle.pol_ports.specs.declared.Proto.{Proto}
@@ -30,3 +30,7 @@ pub record Covering (s : KeySet) (proto : Proto) (port : ℕ) (found : Option Ki
   pub own : Option Kind
   pub decides : Decides (kind_of s (key_proto proto)) port own
   pub is : found ≡ option_or own s.every
+
+-- how many keys there are
+abbrev pub key_count : KeySet → ℕ
+key_count s = (if is_some s.every then 1 else 0) + map.len s.tcp + map.len s.udp + map.len s.sctp

@@ -1,5 +1,5 @@
 -- How a policy map is kept: the keys of each direction and identity. No public clause cites this module.
-use Rattle.std.specs.Prelude.{◌≡◌, ℕ, List, [], ◌∷◌, ◌++◌, map, Bool, false, ◌||◌, is_some, if◌then◌else◌, Option, Some, None, option_and_then, flat_map}
+use Rattle.std.specs.Prelude.{◌≡◌, ℕ, ◌+◌, List, [], ◌∷◌, ◌++◌, map, Bool, false, ◌||◌, is_some, if◌then◌else◌, Option, Some, None, option_and_then, flat_map}
 use Rattle.std.specs.FinMap as finite
 use Rattle.std.specs.Map.{lookup}
 use Rattle.pol_ports.specs.declared.Proto.{Proto}
@@ -12,7 +12,7 @@ use Rattle.pol_mapkey.specs.declared.Word.TheVariants.{Allowed, DeniedByRule, De
 use Rattle.pol_mapkey.specs.Entries.{Entry, is_deny}
 use Rattle.pol_trie.specs.declared.root.Root.{Root}
 use Rattle.pol_trie.specs.declared.key_set.KeySet.{KeySet}
-use Rattle.pol_trie.specs.KeySet.{kind_of}
+use Rattle.pol_trie.specs.KeySet.{kind_of, key_count}
 use Rattle.pol_trie.specs.PortMap.{PortMap}
 use Rattle.pol_trie.specs.PolicyMap.{PolicyMap}
 
@@ -37,6 +37,11 @@ entries_of e =
 -- the map of all of them
 unfoldable pub policy_of : List (Root × KeySet) → PolicyMap
 policy_of roots = finite.from_entries (flat_map entries_of roots)
+
+-- how many keys the rows have together
+abbrev pub row_keys : List (Root × KeySet) → ℕ
+row_keys [] = 0
+row_keys (e ∷ es) = key_count e.1 + row_keys es
 
 -- the kind of a key, by its direction and identity
 abbrev pub kind_at : (Root → Root → Bool) → List (Root × KeySet) → MapKey → Option Kind

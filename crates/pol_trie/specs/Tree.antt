@@ -1,4 +1,4 @@
--- A binary trie of port prefixes as data. No public clause cites this module.
+-- A binary trie of port prefixes as data.
 use Rattle.std.specs.Prelude.{◌≡◌, ℕ, ◌+◌, ◌/◌, ◌≤◌, ◌<◌, ◌⊎◌, Bool, nat_lt, nat_le, ◌&&◌, if◌then◌else◌, List, [], ◌∷◌, ◌++◌, Option, Some, None}
 use Rattle.std.specs.Option.{option_or}
 use Rattle.pol_ports.specs.declared.PortPrefix.{PortPrefix}
@@ -82,6 +82,22 @@ abbrev pub walk : Tree → ℕ → Option Kind → Option Kind
 walk Leaf port best = best
 walk (Fork p kind low high) port best =
     if prefix_holds p port then (if nat_lt port (middle p) then walk low port (option_or kind best) else walk high port (option_or kind best)) else best
+
+-- the prefixes with a kind that a walk toward the port comes by
+abbrev pub met : Tree → ℕ → List (PortPrefix × Kind)
+met Leaf port = []
+met (Fork p kind low high) port =
+    if prefix_holds p port then entry_before p kind (if nat_lt port (middle p) then met low port else met high port) else []
+
+-- each is longer than those before, and has that length at least
+abbrev pub Ascends : ℕ → List (PortPrefix × Kind) → Type 0
+Ascends len [] = Unit {0}
+Ascends len (e ∷ es) = (len ≤ e.0.len) × Ascends (e.0.len + 1) es
+
+-- the kind of the last, or what was there before
+abbrev pub last_of : Option Kind → List (PortPrefix × Kind) → Option Kind
+last_of best [] = best
+last_of best (e ∷ es) = last_of (Some e.1) es
 
 -- how many prefixes that walk visits
 abbrev pub visits : Tree → ℕ → ℕ

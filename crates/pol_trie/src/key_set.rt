@@ -1,5 +1,5 @@
 //! The keys of one direction and identity.
-ghost use Rattle.std.specs.Prelude.{◌≡◌, ◌+◌, ◌≤◌, None, Some, IfOk, OnOk, OnErr, IsTrue};
+ghost use Rattle.std.specs.Prelude.{◌≡◌, ◌+◌, ◌*◌, ◌≤◌, None, Some, IfOk, OnOk, OnErr, IsTrue};
 ghost use Rattle.std.specs.Option.{option_or};
 ghost use Rattle.pol_ports.specs.declared.PortPrefix.{PortPrefix as ThePrefix};
 ghost use Rattle.pol_mapkey.specs.declared.KeyProto.{KeyProto as TheKeyProto};
@@ -25,7 +25,7 @@ pub(crate) struct KeySet {
 
 impl KeySet {
     ghost use Rattle.pol_trie.specs.PortMap.{Decides};
-    ghost use Rattle.pol_trie.specs.KeySet.{kind_of, Covering, HasKind};
+    ghost use Rattle.pol_trie.specs.KeySet.{kind_of, key_count, Covering, HasKind};
 
     /// No keys. It takes no memory yet.
     pub(crate) fn new(alloc: Global) -> KeySet
@@ -107,6 +107,18 @@ impl KeySet {
             Proto::Sctp => self.sctp.longest(port, steps),
         };
         own.or(self.every)
+    }
+
+    /// How many nodes are in use, with the one for every protocol.
+    pub(crate) fn nodes(&self) -> u64
+        ensures least { key_count self.now ≤ result }
+        ensures most { result ≤ 2 * key_count self.now }
+    {
+        let every = u64::from(self.every.is_some());
+        every
+            + u64::from(self.tcp.nodes())
+            + u64::from(self.udp.nodes())
+            + u64::from(self.sctp.nodes())
     }
 
     /// Whether there is no key.

@@ -6,6 +6,7 @@
 #![tactic(auto)]
 
 mod key_set;
+pub mod laws;
 mod node;
 mod ports;
 mod put;

@@ -1,5 +1,5 @@
 //! The keys of one direction, identity and protocol: a trie seen as a finite map.
-ghost use Rattle.std.specs.Prelude.{◌≡◌, ◌+◌, ◌^◌, ◌≤◌, None, IfOk, OnOk, OnErr, IsTrue};
+ghost use Rattle.std.specs.Prelude.{◌≡◌, ◌+◌, ◌*◌, ◌^◌, ◌≤◌, None, IfOk, OnOk, OnErr, IsTrue};
 ghost use Rattle.std.specs.FinMap as map;
 ghost use Rattle.pol_trie.specs.PortMap.{Decides};
 ghost use Rattle.pol_trie.specs.Tree.{Takes};
@@ -115,5 +115,13 @@ impl PortTrie {
         ensures { IsTrue result → self.now ≡ map.empty }
     {
         self.root.is_none()
+    }
+
+    /// How many nodes are in use.
+    pub(crate) fn nodes(&self) -> u32
+        ensures least { map.len self.now ≤ result }
+        ensures most { result ≤ 2 * map.len self.now }
+    {
+        self.nodes.nodes_in_use()
     }
 }

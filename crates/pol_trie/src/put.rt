@@ -35,10 +35,11 @@ fn common(port: PortPrefix, a: &PortPrefix, b: &PortPrefix) -> PortPrefix
     requires not_b { prefix_contains b.now a.now ≡ true → ⊥ }
     ensures { Parts result a.now b.now }
 {
+    let len = port.len + 1;
     if both_low(&port, a, b) {
         let low = PortPrefix {
             bits: port.bits,
-            len: port.len + 1,
+            len,
         };
         return common(low, a, b);
     }
@@ -46,7 +47,7 @@ fn common(port: PortPrefix, a: &PortPrefix, b: &PortPrefix) -> PortPrefix
         let _ = first_port(a);
         let high = PortPrefix {
             bits: middle(&port) as u16,
-            len: port.len + 1,
+            len,
         };
         return common(high, a, b);
     }

@@ -1,9 +1,9 @@
 //! The keys by direction and identity.
-ghost use Rattle.std.specs.Prelude.{◌≡◌, ◌+◌, ◌≤◌, is_none, is_some, option_map, IfOk, OnOk, OnErr};
+ghost use Rattle.std.specs.Prelude.{◌≡◌, ◌+◌, ◌*◌, ◌^◌, ◌<◌, ◌≤◌, is_none, is_some, option_map, IfOk, OnOk, OnErr};
 ghost use Rattle.std.specs.FinMap as map;
 ghost use Rattle.pol_mapkey.specs.Entries.{longest};
 ghost use Rattle.indexmap.specs.IndexMap.{IsUnique};
-ghost use Rattle.pol_trie.specs.Roots.{policy_of};
+ghost use Rattle.pol_trie.specs.Roots.{policy_of, row_keys};
 
 use crate::key_set::KeySet;
 use indexmap::IndexMap;
@@ -94,4 +94,19 @@ pub(crate) fn longest<L: Ledger>(
         Some(keys) => keys.longest(proto, port, steps),
         None => None,
     }
+}
+
+/// How many nodes the keys take.
+pub(crate) fn nodes(roots: &IndexMap<Root, KeySet>) -> u64
+    requires few { row_keys roots.now.entries < 2 ^ 32 }
+    ensures least { row_keys roots.now.entries ≤ result }
+    ensures most { result ≤ 2 * row_keys roots.now.entries }
+{
+    let mut nodes = 0;
+    for i in (0..roots.len()).rev() {
+        if let Some((_, keys)) = roots.get_index(i) {
+            nodes += keys.nodes();
+        }
+    }
+    nodes
 }

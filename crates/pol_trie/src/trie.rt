@@ -1,11 +1,11 @@
 //! The policy map.
-ghost use Rattle.std.specs.Prelude.{◌≡◌, ◌+◌, ◌<◌, ◌≤◌, None, IfOk, OnOk, OnErr};
+ghost use Rattle.std.specs.Prelude.{◌≡◌, ◌+◌, ◌*◌, ◌<◌, ◌≤◌, None, IfOk, OnOk, OnErr};
 ghost use Rattle.std.specs.FinMap as map;
 ghost use Rattle.pol_mapkey.specs.Entries.{read_map};
 ghost use Rattle.pol_trie.specs.Roots.{denies, word_of_kinds};
 
 use crate::key_set::KeySet;
-use crate::root::{Root, clear_key, longest, put_key};
+use crate::root::{Root, clear_key, longest, nodes, put_key};
 use indexmap::IndexMap;
 use pol_data::{Memory, Steps};
 use pol_mapkey::{Kind, MapKey, Word};
@@ -94,6 +94,16 @@ impl PolicyTrie {
         ensures { result ≡ map.len self.now }
     {
         self.count
+    }
+
+    /// How many nodes are in use: the one for every protocol of a direction and an identity, and those of its tries. Each key
+    /// has one, and there are at most twice as many, so what `clear` leaves empty is free again.
+    pub fn nodes(&self) -> u64
+        ensures least { map.len self.now ≤ result }
+        ensures most { result ≤ 2 * map.len self.now }
+    {
+        let _ = self.count();
+        nodes(&self.roots)
     }
 
     /// What the map says of a packet to or from the identity: a deny by the longest key of the identity or of identity 0
