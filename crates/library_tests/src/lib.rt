@@ -22,3 +22,5 @@ mod prefix_table;
 mod requests;
 #[cfg(test)]
 mod streams;
+#[cfg(test)]
+mod trie;

@@ -1,5 +1,5 @@
 //! Values by index, with a free list.
-ghost use Rattle.std.specs.Prelude.{◌≡◌, ◌+◌, ◌-◌, ◌^◌, ◌<◌, ◌≤◌, Some, None, IsSome, IsOk, OnOk, OnErr, max};
+ghost use Rattle.std.specs.Prelude.{◌≡◌, ◌+◌, ◌-◌, ◌^◌, ◌<◌, ◌≤◌, Some, None, IsSome, IsOk, IfOk, OnOk, OnErr, max, length, vec_capacity};
 ghost use Rattle.std.specs.Borrow.{sem};
 ghost use Rattle.std.specs.Option.Follows.{option_follows_value};
 ghost use Rattle.pol_arena.specs.Pool.{empty_pool, node_at, IsInUse, nodes_in_use, next_node, after_put, after_take, Updates, IsSound};
@@ -150,5 +150,42 @@ impl<T> Pool<T> {
         ensures sound { IsSound self.old }
     {
         value_mut(&mut self.slots[node as usize])
+    }
+
+    /// How many nodes are in use.
+    pub fn nodes_in_use(&self) -> u32
+        ensures count { result ≡ nodes_in_use self.now }
+        ensures sound { IsSound self.now }
+    {
+        (self.slots.len() - self.free.len()) as u32
+    }
+}
+
+/// The items once more, in a vector of this capacity.
+fn copied<X: Copy>(alloc: Global, items: &[X], room: usize) -> Result<Vec<X>, Memory>
+    requires { length items.now ≤ room }
+    ensures items { IfOk result (λ copies. copies.items ≡ items.now) }
+    ensures capacity { IfOk result (λ copies. vec_capacity copies ≡ room) }
+{
+    let mut copies = Vec::with_capacity(alloc, room)?;
+    for item in items {
+        copies.push_reserved(*item);
+    }
+    Ok(copies)
+}
+
+impl<T: Copy> Pool<T> {
+    /// The same pool once more, with room for as many puts and no more. The one error is want of memory.
+    pub fn copy(&self, alloc: Global) -> Result<Pool<T>, Memory>
+        ensures equal { IfOk result (λ copy. copy ≡ self.now) }
+    {
+        let room = self.slots.len() - self.free.len() + self.spare as usize;
+        let slots = copied(alloc, self.slots.as_slice(), room)?;
+        let free = copied(alloc, self.free.as_slice(), room)?;
+        Ok(Pool {
+            slots,
+            free,
+            spare: self.spare,
+        })
     }
 }

@@ -1,0 +1,9 @@
+use Rattle.std.proofs.Common.{◌≡◌, take, vec_capacity}
+use Rattle.pol_arena.proofs.pool.copied.Given as goal
+
+-- the items so far
+abbrev pub invariant-loop-item : goal.invariant-loop-item
+invariant-loop-item g l = record {
+  items : l.copies.items ≡ take l.item-index l.items;
+  capacity : vec_capacity l.copies ≡ l.room;
+}

@@ -1,0 +1,16 @@
+mod KeyOrder
+mod Prefixes
+mod Trees
+mod Stand
+mod Putting
+mod Walking
+mod Seeking
+mod Calls
+mod Sizes
+mod Listing
+mod KeyKinds
+mod RootLemmas
+mod RootCalls
+mod Reading
+mod Counting
+mod Meeting

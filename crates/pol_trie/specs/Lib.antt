@@ -1,0 +1,7 @@
+pub mod PortMap
+pub mod PolicyMap
+pub mod Tree
+pub mod Links
+pub mod Standing
+pub mod KeySet
+pub mod Roots

@@ -1,0 +1,112 @@
+//! Times a policy map of 16,000 keys over 1,000 identities: sets, look-ups, a copy and clears. The figures go to standard
+//! error.
+#![tactic(auto)]
+
+ghost use Rattle.std.specs.Prelude.{◌≡◌};
+
+use anyhow::Result;
+use pol_data::Steps;
+use pol_mapkey::{KeyProto, Kind, MapKey, Word};
+use pol_ports::{Direction, PortPrefix, Proto};
+use pol_trie::PolicyTrie;
+use std::alloc::AllocError;
+use std::marker::Brand;
+use std::rt::Clock;
+use std::sync::ledger::{Blank, Ledger};
+use std::time::Instant;
+
+/// Identities, and keys of each.
+const IDENTITIES: u32 = 1_000;
+
+const KEYS: u32 = 16_000;
+
+/// How many packets are looked up.
+const LOOK_UPS: u32 = 1_000_000;
+
+/// A port, scattered by an odd factor.
+fn port_of(i: u32) -> u16 {
+    (i.wrapping_mul(0x9e37_79b1) >> 16) as u16
+}
+
+/// The key of a number: one port of an identity.
+fn key_of(i: u32) -> MapKey {
+    MapKey {
+        dir: Direction::Ingress,
+        id: 256 + i % IDENTITIES,
+        proto: KeyProto::Tcp,
+        port: PortPrefix {
+            bits: port_of(i),
+            len: 16,
+        },
+    }
+}
+
+/// Sets the keys.
+fn fill(trie: &mut PolicyTrie) -> Result<(), AllocError> {
+    for i in 0..KEYS {
+        if trie.count() < 1_000_000 {
+            trie.set(key_of(i), Kind::Allow)?;
+        }
+    }
+    Ok(())
+}
+
+/// Clears the keys, and counts those that were there.
+fn clear(trie: &mut PolicyTrie) -> u32 {
+    let mut there = 0u32;
+    for i in 0..KEYS {
+        if trie.clear(&key_of(i)) {
+            there = there.wrapping_add(1);
+        }
+    }
+    there
+}
+
+/// How many packets are allowed: half of them on a port of a key.
+fn allowed_over<L: Ledger>(blank: Blank, trie: &PolicyTrie) -> u32
+    requires name { blank.name ≡ L.name }
+    requires parts { blank.parts ≡ L.parts }
+    requires some { blank.parts ≡ 1 }
+{
+    let mut steps = Steps::<L>::new(blank);
+    let mut allowed = 0u32;
+    for i in 0..LOOK_UPS {
+        let id = 256 + i % IDENTITIES;
+        let word = trie.look(
+            Direction::Ingress,
+            id,
+            Proto::Tcp,
+            port_of(i % (2 * KEYS)),
+            &mut steps,
+        );
+        if word == Word::Allowed {
+            allowed = allowed.wrapping_add(1);
+        }
+    }
+    allowed
+}
+
+fn allowed(trie: &PolicyTrie) -> u32 {
+    allowed_over::<Brand>(Blank::new(1), trie)
+}
+
+fn main(rt: HostRuntime) -> Result<()> {
+    let mut trie = PolicyTrie::new(rt.alloc());
+    let start = Instant::now(&rt)?;
+    fill(&mut trie)?;
+    let set = start.elapsed(&rt)?.as_nanos() / u128::from(KEYS);
+    let start = Instant::now(&rt)?;
+    let found = allowed(&trie);
+    let look = start.elapsed(&rt)?.as_nanos() / u128::from(LOOK_UPS);
+    let start = Instant::now(&rt)?;
+    let copy = trie.copy(rt.alloc())?;
+    let copied = start.elapsed(&rt)?.as_nanos() / 1000;
+    let count = copy.count();
+    let start = Instant::now(&rt)?;
+    let there = clear(&mut trie);
+    let cleared = start.elapsed(&rt)?.as_nanos() / u128::from(KEYS);
+    eprintln!(&rt;
+        "{count} keys: set {set} ns, look {look} ns ({found} allowed), copy {copied} us, clear {cleared} ns ({there} there)"
+    )?;
+    Ok(())
+}
