@@ -1,0 +1,2 @@
+pub mod IdSet
+pub mod Sets

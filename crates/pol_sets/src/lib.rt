@@ -1,0 +1,11 @@
+//! The sets of identity numbers that peers select, and how they change.
+//!
+//! `IdSet` is a set of identity numbers, seen as the list of its numbers in ascending order. `Sets` says which
+//! set each peer selects, and `Moves` which numbers a peer's set gained and lost.
+#![tactic(auto)]
+
+mod id_set;
+mod sets;
+
+pub use id_set::IdSet;
+pub use sets::{Move, Moves, SetRow, Sets};
