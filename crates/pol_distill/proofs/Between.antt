@@ -23,7 +23,7 @@ use Rattle.pol_mapkey.proofs.Keys.{covers_is, covers_from, covers-three, proto_c
 use Rattle.pol_facts.proofs.KeyOrder.{key_cmp_total}
 
 -- numbers for directions, and that numbers tell directions and protocols apart
-dir_place : Direction → ℕ
+pub dir_place : Direction → ℕ
 dir_place Ingress = 0
 dir_place Egress = 1
 
@@ -86,9 +86,11 @@ Before a b = First (dir_place a.dir) (dir_place b.dir) (First a.id b.id (First (
 
 before : (a b : MapKey) → key_cmp a b ≡ Less → Before a b
 before a b e =
+    let rest = ordering_then (nat_cmp a.id b.id) (ordering_then (nat_cmp (proto_place a.proto) (proto_place b.proto))
+    (ordering_then (nat_cmp a.port.bits b.port.bits) (nat_cmp a.port.len b.port.len))) in
     first (dir_place a.dir) (dir_place b.dir) _ _
     (first a.id b.id _ _ (first (proto_place a.proto) (proto_place b.proto) _ _ (first a.port.bits b.port.bits _ _ (last a.port.len b.port.len))))
-    (sym (ap (λ o. ordering_then o _) (dir_place-cmp a.dir b.dir)) ∙ e)
+    (sym (ap (λ o. ordering_then o rest) (dir_place-cmp a.dir b.dir)) ∙ e)
 
 -- between two equal numbers there is no other
 between_same : {P Q : Type 0} (u v w : ℕ) → u ≡ w → First u v P → First v w Q → (u ≡ v) × P × Q
@@ -105,8 +107,8 @@ past u v same (inr rest) = rest.1
 port_between : (o x e : PortPrefix) → prefix_contains o e ≡ true → PortBefore o x → PortBefore x e → prefix_contains o x ≡ true
 port_between o x e over a b =
     let c = contains_is o e over in
-    let low : o.bits ≤ x.bits = low_of a in
-    let high : x.bits ≤ e.bits = low_of b in
+    let low : o.bits ≤ x.bits = low_of o x a in
+    let high : x.bits ≤ e.bits = low_of x e b in
     let x_pos = pow_pos (16 - x.len) in
     let e_pos = pow_pos (16 - e.len) in
     elim (nested o x x.bits (holds_from o x.bits low (omega arith)) (holds_from x x.bits (omega arith) (omega arith))) [
@@ -114,9 +116,9 @@ port_between o x e over a b =
       | inr around ↦ absurd (let d = contains_is x o around in wider a d.0 d.1)
     ]
   where
-    low_of : {p q : PortPrefix} → PortBefore p q → p.bits ≤ q.bits
-    low_of (inl less) = omega (arith, less)
-    low_of (inr same) = omega (arith, same.0)
+    low_of : (p q : PortPrefix) → PortBefore p q → p.bits ≤ q.bits
+    low_of p q (inl less) = omega (arith, less)
+    low_of p q (inr same) = omega (arith, same.0)
 
     wider : PortBefore o x → x.bits ≤ o.bits → o.bits + 2 ^ (16 - o.len) ≤ x.bits + 2 ^ (16 - x.len) → ⊥
     wider (inl less) low end = omega (arith, less, low)

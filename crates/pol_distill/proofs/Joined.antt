@@ -1,5 +1,5 @@
 -- Entries in the order of keys, with denies last among those of one key: the last of each key is the merged one.
-use Rattle.std.proofs.Common.{zero, suc, ◌≡◌, ℕ, ◌+◌, ◌<◌, Bool, true, false, not, cond, ◌&&◌, List, [], ◌∷◌, length, get_or, ◌⊎◌, inl, inr, refl, sym, ◌∙◌, ap, subst, arith}
+use Rattle.std.proofs.Common.{zero, suc, ◌≡◌, ℕ, ◌+◌, ◌<◌, Bool, true, false, not, cond, if◌then◌else◌, ◌&&◌, List, [], ◌∷◌, length, get_or, ◌⊎◌, inl, inr, refl, sym, ◌∙◌, ap, subst, arith}
 use Rattle.std.proofs.lemmas.Bool.{false_from_ne_true}
 use Rattle.std.proofs.lemmas.Cmp.{tied_itself}
 use Rattle.std.specs.List.Sorted.{IsSorted}
@@ -7,32 +7,22 @@ use Rattle.std.specs.Ordering.{is_lt, match_ordering, nat_cmp, ordering_then, or
 use Rattle.std.specs.declared.cmp.Ordering.{Ordering}
 use Rattle.std.specs.declared.cmp.Ordering.TheVariants.{Less, Equal, Greater}
 use Rattle.pol_mapkey.specs.MapKey.{key_cmp, same_key}
+use Rattle.pol_mapkey.specs.contracts.KindOrd.TheImpl as kind_ord
+use Rattle.pol_mapkey.specs.contracts.MapKeyOrd.TheImpl as key_ord
+use Rattle.pol_mapkey.proofs.Order.{cmp-key_cmp}
 use Rattle.pol_mapkey.specs.Entries.{Entry, is_deny}
 use Rattle.pol_mapkey.specs.declared.Kind.{Kind}
 use Rattle.pol_mapkey.specs.declared.Kind.TheVariants.{Allow, Deny}
 use Rattle.pol_mapkey.specs.declared.MapKey.{MapKey}
 use Rattle.pol_mapkey.proofs.Equality.{same_key-is, same_key-self}
 use Rattle.pol_model.specs.PolicyMap.{merged, put_entry, stronger}
+use Rattle.pol_distill.specs.Passing.{Follows, Rises, begins_with}
 use Rattle.pol_facts.proofs.KeyOrder.{key_cmp_total, key_cmp-same}
-
--- the first of the entries has the key
-abbrev pub is_followed : MapKey → List Entry → Bool
-is_followed key [] = false
-is_followed key (next ∷ entries) = same_key next.0 key
 
 -- the last entry of each key
 abbrev pub joined : List Entry → List Entry
 joined [] = []
-joined (entry ∷ entries) = if is_followed entry.0 entries then joined entries else entry ∷ joined entries
-
--- an entry stands before the next: its key is less, or both have one key and a deny isn't followed by an allow
-abbrev pub Follows : Entry → Entry → Type 0
-Follows a b = (key_cmp a.0 b.0 ≡ Less) ⊎ ((a.0 ≡ b.0) × (is_deny a.1 ≡ true → is_deny b.1 ≡ true))
-
-abbrev pub Rises : List Entry → Type 0
-Rises [] = Unit {0}
-Rises (x ∷ []) = Unit {0}
-Rises (x ∷ y ∷ ys) = Follows x y × Rises (y ∷ ys)
+joined (entry ∷ entries) = if begins_with entry.0 entries then joined entries else entry ∷ joined entries
 
 -- what the joined list begins with
 record Begins (y : Entry) (entries : List Entry) : Type 0 where
@@ -87,3 +77,31 @@ joined_is [] up = refl
 joined_is (x ∷ []) up = refl
 joined_is (x ∷ y ∷ ys) up =
     ap (put_entry x) (joined_is (y ∷ ys) up.1) ∙ put_first x y ys up.0 (joined (y ∷ ys)) (begins y ys up.1)
+
+-- what the derived order of entries says
+kinds_rise : (a b : Kind) → is_lt (kind_ord.ghosts.cmp b a) ≡ false → is_deny a ≡ true → is_deny b ≡ true
+kinds_rise Allow b low d = absurd (let wrong : ⊥ = cc in wrong)
+kinds_rise Deny Allow low d = absurd (let wrong : true ≡ false = low in let wrong' : ⊥ = cc in wrong')
+kinds_rise Deny Deny low d = refl
+
+abbrev derived_order : Entry → Entry → Ordering
+derived_order a b = ordering_then (key_ord.ghosts.cmp a.0 b.0) (kind_ord.ghosts.cmp a.1 b.1)
+
+follows : (a b : Entry) → is_lt (derived_order b a) ≡ false → Follows a b
+follows a b low = by_key (key_cmp b.0 a.0) refl (sym (ap (λ o. is_lt (ordering_then o (kind_ord.ghosts.cmp b.1 a.1))) (cmp-key_cmp b.0 a.0)) ∙ low)
+  where
+    by_key : (o : Ordering) → key_cmp b.0 a.0 ≡ o → is_lt (ordering_then o (kind_ord.ghosts.cmp b.1 a.1)) ≡ false → Follows a b
+    by_key Less e low = absurd (let wrong : true ≡ false = low in let wrong' : ⊥ = cc in wrong')
+    by_key Equal e low = inr (sym (key_cmp-same b.0 a.0 e), kinds_rise a.1 b.1 low)
+    by_key Greater e low = inl (key_cmp_total.antisymm a.0 b.0 ∙ ap ordering_reverse e)
+
+-- what a sort gives rises
+pub rises : (xs : List Entry) → IsSorted derived_order xs → Rises xs
+rises [] sorted = tt
+rises (x ∷ []) sorted = tt
+rises (x ∷ y ∷ ys) sorted = (
+  follows x y (sorted 0 x (omega arith) (omega arith)),
+  rises (y ∷ ys) (λ k d low within.
+      subst (λ m. is_lt (derived_order (get_or (x ∷ y ∷ ys) m d) (get_or (x ∷ y ∷ ys) (suc k) d)) ≡ false) {x = suc k + 1} {y = suc (k + 1)} (omega arith)
+      (sorted (suc k) d (omega arith) (omega arith))),
+)

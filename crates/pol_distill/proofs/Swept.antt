@@ -1,6 +1,6 @@
 -- A sweep over entries in the order of their keys, which keeps the last deny that it kept: it leaves out just what
 -- lies strictly under a deny.
-use Rattle.std.proofs.Common.{◌≡◌, ◌<◌, ◌^◌, Bool, true, false, not, cond, ◌&&◌, ◌||◌, List, [], ◌∷◌, Option, None, Some, filter, refl, sym, ◌∙◌, ap}
+use Rattle.std.proofs.Common.{◌≡◌, ◌<◌, ◌^◌, Bool, true, false, not, cond, if◌then◌else◌, ◌&&◌, ◌||◌, List, [], ◌∷◌, Option, None, Some, filter, refl, sym, ◌∙◌, ap}
 use Rattle.std.proofs.lemmas.Bool.{and_parts, both_ways, false_from_ne_true, or_from}
 use Rattle.std.specs.List.{AllByRecursion}
 use Rattle.std.specs.List.Sorted.{IsStrictlySortedBy}
@@ -11,21 +11,14 @@ use Rattle.pol_mapkey.specs.declared.MapKey.{MapKey}
 use Rattle.pol_mapkey.proofs.Equality.{same_key-self}
 use Rattle.pol_model.specs.PolicyMap.{is_under_deny}
 use Rattle.pol_facts.proofs.Merged.{entry_cmp}
-use Rattle.pol_distill.specs.Table.{IsSmall}
+use Rattle.pol_distill.specs.Passing.{is_covered, last_deny}
+use Rattle.pol_distill.specs.Sorted.{IsSmall}
 use Rattle.pol_distill.proofs.Between.{key_between, no_later_covers, strict_covers, strict_in_order, strict_through}
 
--- whether the open deny, if there is one, strictly covers the key
-abbrev pub is_covered : Option MapKey → MapKey → Bool
-is_covered None key = false
-is_covered (Some open') key = strictly_covers open' key
-
--- the open deny after an entry that is kept
-abbrev pub opened : Option MapKey → Entry → Option MapKey
-opened open' entry = if is_deny entry.1 then Some entry.0 else open'
-
+-- the sweep, with the last deny that it kept
 abbrev pub swept : Option MapKey → List Entry → List Entry
 swept open' [] = []
-swept open' (entry ∷ entries) = if is_covered open' entry.0 then swept open' entries else entry ∷ swept (opened open' entry) entries
+swept open' (entry ∷ entries) = if is_covered open' entry.0 then swept open' entries else entry ∷ swept (last_deny open' entry) entries
 
 -- the open deny stands before all entries that are left
 abbrev StandsBefore : Option MapKey → List Entry → Type 0
@@ -107,12 +100,11 @@ module _ (all : List Entry) where
       → AllByRecursion (Agrees next left) ys
   unfolding Agrees
   agrees_on open' next x left [] step small above agree = tt
-  agrees_on open' next x left (e ∷ es) step small above agree =
-      (
-        agree.0 ∙ or_later (is_covered open' e.0) (is_deny x.1 && strictly_covers x.0 e.0) (is_under_deny left e)
+  agrees_on open' next x left (e ∷ es) step small above agree = (
+    agree.0 ∙ or_later (is_covered open' e.0) (is_deny x.1 && strictly_covers x.0 e.0) (is_under_deny left e)
         ∙ ap (λ b. b || is_under_deny left e) (step e small.0 above.0),
-        agrees_on open' next x left es step small.1 above.1 agree.1,
-      )
+    agrees_on open' next x left es step small.1 above.1 agree.1,
+  )
 
   turn : (b u : Bool) → u ≡ b → (x : Entry) (skipped taken kept : List Entry) → (b ≡ true → skipped ≡ kept) → (b ≡ false → taken ≡ kept)
       → cond b skipped (x ∷ taken) ≡ cond (not u) (x ∷ kept) kept
@@ -126,11 +118,11 @@ module _ (all : List Entry) where
   swept_from open' (x ∷ xs) up small stands agree =
       let own : is_under_deny all x ≡ is_covered open' x.0 =
       agree.0 ∙ ap (λ b. is_covered open' x.0 || b) (none_over_first x xs up.0) ∙ or_none (is_covered open' x.0) in
-      turn (is_covered open' x.0) (is_under_deny all x) own x (swept open' xs) (swept (opened open' x) xs) (filter (λ e. not (is_under_deny all e)) xs)
+      turn (is_covered open' x.0) (is_under_deny all x) own x (swept open' xs) (swept (last_deny open' x) xs) (filter (λ e. not (is_under_deny all e)) xs)
       (λ t. swept_from open' xs up.1 small.1 (stands_after open' x xs stands)
       (agrees_on open' open' x xs xs (λ e _ less. left_out open' (is_deny x.1) x xs stands t e less) small.1 up.0 agree.1))
-      (λ f. swept_from (opened open' x) xs up.1 small.1 (stands_opened (is_deny x.1) open' x xs up.0 stands)
-      (agrees_on open' (opened open' x) x xs xs (λ e small_e less. kept_open (is_deny x.1) open' x xs stands f small.0 e small_e less) small.1 up.0 agree.1))
+      (λ f. swept_from (last_deny open' x) xs up.1 small.1 (stands_opened (is_deny x.1) open' x xs up.0 stands)
+      (agrees_on open' (last_deny open' x) x xs xs (λ e small_e less. kept_open (is_deny x.1) open' x xs stands f small.0 e small_e less) small.1 up.0 agree.1))
 
   agrees_first : (ys : List Entry) → AllByRecursion (Agrees None all) ys
   unfolding Agrees

@@ -1,1 +1,4 @@
-pub mod Table
+pub mod Sorted
+pub mod Passing
+pub mod RawKeys
+pub mod Distilled
