@@ -1,5 +1,5 @@
 -- Keys in their order: what a key covers stands behind it, and so does each key between the two.
-use Rattle.std.proofs.Common.{◌≡◌, ℕ, ◌+◌, ◌-◌, ◌%◌, ◌<◌, ◌≤◌, ◌^◌, true, false, not, ◌&&◌, ◌⊎◌, inl, inr, refl, sym, ◌∙◌, ap, subst, arith}
+use Rattle.std.proofs.Common.{◌≡◌, ℕ, ◌+◌, ◌-◌, ◌%◌, ◌<◌, ◌≤◌, ◌^◌, true, not, ◌⊎◌, inl, inr, refl, sym, ◌∙◌, ap, subst, arith}
 use Rattle.std.proofs.lemmas.Bool.{and_from, and_parts, cases_lt, false_from_ne_true, not_from_false}
 use Rattle.std.proofs.lemmas.Cmp.{by_ranked, ranked, tied_itself}
 use Rattle.std.proofs.lemmas.Nat.{pow_below, pow_pos}
@@ -7,13 +7,13 @@ use Rattle.std.specs.Ordering.{nat_cmp, ordering_then}
 use Rattle.std.specs.declared.cmp.Ordering.{Ordering}
 use Rattle.std.specs.declared.cmp.Ordering.TheVariants.{Less, Equal, Greater}
 use Rattle.pol_ports.specs.Direction.{direction_cmp}
-use Rattle.pol_ports.specs.PortPrefix.{prefix_contains, prefix_cmp}
+use Rattle.pol_ports.specs.PortPrefix.{prefix_contains}
 use Rattle.pol_ports.specs.declared.Direction.{Direction}
 use Rattle.pol_ports.specs.declared.Direction.TheVariants.{Ingress, Egress}
 use Rattle.pol_ports.specs.declared.PortPrefix.{PortPrefix}
 use Rattle.pol_ports.proofs.Blocks.{multiples_apart}
 use Rattle.pol_ports.proofs.Containing.{contains_is, empty_contains, holds_from, nested}
-use Rattle.pol_mapkey.specs.KeyProto.{key_proto_cmp, proto_covers, proto_place}
+use Rattle.pol_mapkey.specs.KeyProto.{proto_covers, proto_place}
 use Rattle.pol_mapkey.specs.MapKey.{covers, strictly_covers, key_cmp, same_key}
 use Rattle.pol_mapkey.specs.declared.KeyProto.{KeyProto}
 use Rattle.pol_mapkey.specs.declared.KeyProto.TheVariants.{Every, Tcp, Udp, Sctp}

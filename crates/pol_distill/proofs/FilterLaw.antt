@@ -1,12 +1,11 @@
 -- What an endpoint's filters put into a map is what the rules that select it do.
-use Rattle.std.proofs.Common.{◌≡◌, ℕ, ◌+◌, ◌&&◌, Bool, true, false, not, cond, List, [], ◌∷◌, ◌++◌, map, filter, IsTrue, ◌↔◌, refl, sym, ◌∙◌, ap, append-nil}
+use Rattle.std.proofs.Common.{◌≡◌, ℕ, ◌+◌, Bool, true, false, not, cond, List, [], ◌∷◌, ◌++◌, map, filter, IsTrue, ◌↔◌, refl, sym, ◌∙◌, ap, append-nil}
 use Rattle.std.proofs.lemmas.Grind.{flat_map-append}
 use Rattle.std.specs.List.{flat_map}
 use Rattle.pol_labels.specs.Match.{matches}
 use Rattle.pol_ports.specs.declared.Direction.{Direction}
 use Rattle.pol_ports.specs.declared.Direction.TheVariants.{Ingress, Egress}
 use Rattle.pol_mapkey.specs.Entries.{Entry as MapEntry}
-use Rattle.pol_mapkey.specs.MapKey.{every_key}
 use Rattle.pol_mapkey.specs.declared.Kind.{Kind}
 use Rattle.pol_mapkey.specs.declared.Kind.TheVariants.{Allow, Deny}
 use Rattle.pol_rule.specs.Covers.{has_effect, section_of}
@@ -18,7 +17,7 @@ use Rattle.pol_model.specs.declared.limits.TheConstants.{INIT_IDENTITY}
 use Rattle.pol_model.specs.declared.options.Options.{Options}
 use Rattle.pol_model.specs.declared.row.Endpoint.{Endpoint}
 use Rattle.pol_model.specs.declared.row.Stamped.{Stamped}
-use Rattle.pol_model.specs.Enforced.{allow_section, deny_section, enforced, rule_selects}
+use Rattle.pol_model.specs.Enforced.{allow_section, deny_section, rule_selects}
 use Rattle.pol_model.specs.Fault.{is_init}
 use Rattle.pol_model.specs.PolicyMap.{allow_every, canonical, direction_entries, entry_entries, localhost_entries, map_parts, peers_numbers, policy_map, ports_keys, raw_entries, selecting_rules}
 use Rattle.pol_model.specs.Selects.{set_at}

@@ -1,10 +1,10 @@
 -- The keys that can reach a packet, from the longest on, and which of them is the longest in a table.
-use Rattle.std.proofs.Common.{◌≡◌, ℕ, ◌+◌, ◌-◌, ◌*◌, ◌/◌, ◌%◌, ◌<◌, ◌≤◌, ◌^◌, Bool, true, ◌&&◌, ◌==◌, List, Option, Some, None, option_map, min, ◌⊎◌, inl, inr, refl, sym, ◌∙◌, ap, subst, arith}
-use Rattle.std.proofs.lemmas.Bool.{and_from, and_parts, both_ways, cases_lt, eq-eqb, eqb-true, false_from_ne_true}
+use Rattle.std.proofs.Common.{◌≡◌, ℕ, ◌-◌, ◌*◌, ◌/◌, ◌%◌, ◌<◌, ◌≤◌, ◌^◌, true, ◌==◌, List, Option, Some, None, option_map, min, ◌⊎◌, inl, inr, refl, sym, ◌∙◌, ap, subst, arith}
+use Rattle.std.proofs.lemmas.Bool.{and_from, and_parts, cases_lt, eq-eqb, eqb-true, false_from_ne_true}
 use Rattle.std.proofs.lemmas.Nat.{pow_pos}
 use Rattle.std.proofs.Math.Nat.{mul-mod_left}
 use Rattle.std.specs.List.{Contains}
-use Rattle.pol_ports.specs.PortPrefix.{end_of, prefix_at, prefix_holds}
+use Rattle.pol_ports.specs.PortPrefix.{prefix_at, prefix_holds}
 use Rattle.pol_ports.specs.declared.Direction.{Direction}
 use Rattle.pol_ports.specs.declared.PortPrefix.{PortPrefix}
 use Rattle.pol_ports.specs.declared.Proto.{Proto}
@@ -12,9 +12,8 @@ use Rattle.pol_ports.proofs.Blocks.{floor_is, prefix_same, shorter_contains}
 use Rattle.pol_ports.proofs.Containing.{contains_from, empty_contains, holds_from, holds_is}
 use Rattle.pol_ports.proofs.Least.{prefix_at-holds}
 use Rattle.pol_mapkey.specs.Entries.{Entry, longest, reaches}
-use Rattle.pol_mapkey.specs.KeyProto.{key_proto, proto_covers}
+use Rattle.pol_mapkey.specs.KeyProto.{key_proto}
 use Rattle.pol_mapkey.specs.MapKey.{covers, covers_packet, every_key, port_key}
-use Rattle.pol_mapkey.specs.declared.KeyProto.{KeyProto}
 use Rattle.pol_mapkey.specs.declared.Kind.{Kind}
 use Rattle.pol_mapkey.specs.declared.MapKey.{MapKey}
 use Rattle.pol_mapkey.proofs.Keys.{covers-self, covers_from, key_same, packet_from, packet_is, proto_covers-cases, proto_covers-self}

@@ -1,9 +1,9 @@
 -- The ports of all raw entries are ports.
-use Rattle.std.proofs.Common.{zero, suc, ◌≡◌, ℕ, ◌+◌, ◌-◌, ◌*◌, ◌/◌, ◌^◌, ◌<◌, ◌≤◌, Bool, true, false, cond, ◌&&◌, List, [], ◌∷◌, ◌++◌, map, min, Option, Some, None, arith}
+use Rattle.std.proofs.Common.{zero, suc, ℕ, ◌+◌, ◌-◌, ◌^◌, ◌<◌, ◌≤◌, Bool, true, false, cond, ◌&&◌, List, [], ◌∷◌, ◌++◌, map, min, arith}
 use Rattle.std.proofs.lemmas.Nat.{pow_pos}
 use Rattle.std.proofs.Math.Nat.{div-mul-le_self, two-pow-succ}
 use Rattle.std.specs.List.{AllByRecursion, flat_map}
-use Rattle.pol_data.proofs.Every.{every-append, every-flat_map, every-kept, every-map, every-weaker}
+use Rattle.pol_data.proofs.Every.{every-append, every-flat_map, every-kept, every-map}
 use Rattle.pol_ports.specs.PortPrefix.{prefix_at}
 use Rattle.pol_ports.specs.Split.{is_part, parts_within, prefixes_within, split_of}
 use Rattle.pol_ports.specs.declared.Direction.{Direction}

@@ -1,5 +1,5 @@
 -- What lists of entries are tables, and which sets filters need.
-use Rattle.std.specs.Prelude.{ℕ, ◌<◌, ◌^◌, List, IsTrue, Option, MatchOption}
+use Rattle.std.specs.Prelude.{◌<◌, ◌^◌, List, IsTrue, Option, MatchOption}
 use Rattle.std.specs.List.{AllByRecursion, Contains}
 use Rattle.std.specs.List.Sorted.{IsStrictlySortedBy}
 use Rattle.std.specs.declared.cmp.Ordering.{Ordering}

@@ -1,6 +1,6 @@
 -- Whether a direction is enforced, by the labels of an endpoint.
-use Rattle.std.proofs.Common.{◌≡◌, ℕ, ◌==◌, Bool, true, false, ◌||◌, List, IsTrue, ◌↔◌, refl, sym, ◌∙◌, ap, inl, inr}
-use Rattle.std.proofs.lemmas.Bool.{cases_Bool, eq-eqb, eqb-true, false_from_ne_true, both_ways}
+use Rattle.std.proofs.Common.{◌≡◌, ◌==◌, Bool, true, false, ◌||◌, List, IsTrue, ◌↔◌, refl, sym, ap}
+use Rattle.std.proofs.lemmas.Bool.{eq-eqb, eqb-true}
 use Rattle.std.specs.List.{list_any}
 use Rattle.pol_ports.specs.declared.Direction.{Direction}
 use Rattle.pol_model.specs.declared.limits.TheConstants.{INIT_IDENTITY}

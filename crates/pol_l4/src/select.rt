@@ -123,9 +123,7 @@ fn policy_says(stamped: &Stamped, labels: &LabelSet, dir: Direction) -> bool
     ensures { result ≡ policy_says labels.now dir stamped.now }
 {
     let rules = stamped.policy.rules.as_slice();
-    rules
-        .iter()
-        .any(|rule| rule.subject.is_met_by(labels) && rule_says(rule, dir))
+    rules.iter().any(|rule| rule.subject.is_met_by(labels) && rule_says(rule, dir))
 }
 
 /// Whether some rule that selects the labels says something of the direction.

@@ -1,5 +1,5 @@
 -- What rows of peers and sets say that a peer selects.
-use Rattle.std.specs.Prelude.{◌≡◌, ℕ, Bool, true, List, [], find}
+use Rattle.std.specs.Prelude.{ℕ, Bool, List, [], find}
 use Rattle.std.specs.Arc.{arc_value}
 use Rattle.std.specs.List.{list_any}
 use Rattle.std.specs.Option.{option_map_or}
