@@ -11,3 +11,4 @@ pub mod RawLists
 pub mod Searches
 pub mod Lookups
 pub mod FilterLaw
+pub mod Indexes

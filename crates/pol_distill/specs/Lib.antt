@@ -2,3 +2,4 @@ pub mod Sorted
 pub mod Passing
 pub mod RawKeys
 pub mod Distilled
+pub mod Indexed

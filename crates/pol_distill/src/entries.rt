@@ -10,6 +10,7 @@ ghost use Rattle.pol_distill.specs.RawKeys.{entries_for};
 ghost use Rattle.pol_distill.specs.Sorted.{HaveSets, ListHasSets, PeersHaveSets};
 ghost use Rattle.std.specs.List.{AllByRecursion};
 
+use crate::index::PeerSets;
 use crate::keys::{every_key, port_key, with_id};
 use pol_data::Memory;
 use pol_l4::{Filter, Filters};
@@ -17,7 +18,6 @@ use pol_mapkey::{Kind, MapKey};
 use pol_model::{EVERY_IDENTITY, HOST_IDENTITY, selects_every_number};
 use pol_ports::{Direction, PortPrefix, Proto, split};
 use pol_rule::{Peer, Peers, PortSpec};
-use pol_sets::SetRow;
 use std::alloc::Global;
 
 fn push_parts(
@@ -111,26 +111,13 @@ fn push_ids(
     Ok(())
 }
 
-/// The numbers that the peer's row gives it.
-fn set_of<'a>(sets: &'a [SetRow], peer: &Peer) -> &'a [u32]
-    requires { IsTrue (has_set sets.now peer.now) }
-    ensures { result.now ≡ set_given sets.now peer.now }
-{
-    for row in sets {
-        if row.peer == *peer {
-            return row.set.as_slice();
-        }
-    }
-    unreachable!()
-}
-
 /// Appends the entries of a listed peer.
 fn push_peer(
     out: &mut Vec<(MapKey, Kind)>,
     keys: &[MapKey],
     kind: Kind,
     peer: &Peer,
-    sets: &[SetRow],
+    sets: &PeerSets<'_>,
 ) -> Result<(), Memory>
     requires { IsTrue (has_set sets.now peer.now) }
     ensures { OnOk result (out.new.items ≡ out.old.items ++ flat_map (entries_for kind keys.now) (peer_numbers (set_given sets.now) peer.now)) }
@@ -138,7 +125,7 @@ fn push_peer(
     if selects_every_number(peer) {
         push_for(out, keys, kind, EVERY_IDENTITY)
     } else {
-        push_ids(out, keys, kind, set_of(sets, peer))
+        push_ids(out, keys, kind, sets.set_of(peer))
     }
 }
 
@@ -148,7 +135,7 @@ fn push_peers(
     keys: &[MapKey],
     kind: Kind,
     peers: &[Peer],
-    sets: &[SetRow],
+    sets: &PeerSets<'_>,
 ) -> Result<(), Memory>
     requires { AllByRecursion (λ p. IsTrue (has_set sets.now p)) peers.now }
     ensures { OnOk result (out.new.items ≡ out.old.items ++ flat_map (entries_for kind keys.now) (flat_map (peer_numbers (set_given sets.now)) peers.now)) }
@@ -167,7 +154,7 @@ fn push_filter(
     dir: Direction,
     kind: Kind,
     filter: &Filter,
-    sets: &[SetRow],
+    sets: &PeerSets<'_>,
 ) -> Result<(), Memory>
     requires { PeersHaveSets sets.now filter.now.peers }
     ensures { OnOk result (out.new.items ≡ out.old.items ++ entry_entries (set_given sets.now) dir kind (entry_of filter.now)) }
@@ -194,7 +181,7 @@ fn push_allows(
     out: &mut Vec<(MapKey, Kind)>,
     dir: Direction,
     filters: &[Filter],
-    sets: &[SetRow],
+    sets: &PeerSets<'_>,
 ) -> Result<(), Memory>
     requires { ListHasSets sets.now filters.now }
     ensures { OnOk result (out.new.items ≡ out.old.items ++ flat_map (entry_entries (set_given sets.now) dir allow) (allowing filters.now)) }
@@ -213,7 +200,7 @@ fn push_denies(
     out: &mut Vec<(MapKey, Kind)>,
     dir: Direction,
     filters: &[Filter],
-    sets: &[SetRow],
+    sets: &PeerSets<'_>,
 ) -> Result<(), Memory>
     requires { ListHasSets sets.now filters.now }
     ensures { OnOk result (out.new.items ≡ out.old.items ++ flat_map (entry_entries (set_given sets.now) dir deny) (denying filters.now)) }
@@ -231,7 +218,7 @@ fn push_ingress(
     alloc: Global,
     out: &mut Vec<(MapKey, Kind)>,
     filters: &Filters,
-    sets: &[SetRow],
+    sets: &PeerSets<'_>,
 ) -> Result<(), Memory>
     requires { ListHasSets sets.now filters.now.ingress }
     ensures { OnOk result (out.new.items ≡ out.old.items ++ direction_entries (set_given sets.now) (filter_parts filters.now) Direction.Ingress) }
@@ -253,7 +240,7 @@ fn push_egress(
     alloc: Global,
     out: &mut Vec<(MapKey, Kind)>,
     filters: &Filters,
-    sets: &[SetRow],
+    sets: &PeerSets<'_>,
 ) -> Result<(), Memory>
     requires { ListHasSets sets.now filters.now.egress }
     ensures { OnOk result (out.new.items ≡ out.old.items ++ direction_entries (set_given sets.now) (filter_parts filters.now) Direction.Egress) }
@@ -271,7 +258,7 @@ fn push_egress(
 pub(crate) fn raw_entries(
     alloc: Global,
     filters: &Filters,
-    sets: &[SetRow],
+    sets: &PeerSets<'_>,
 ) -> Result<Vec<(MapKey, Kind)>, Memory>
     requires { HaveSets sets.now filters.now }
     ensures { IfOk result (λ raw. raw.items ≡ raw_entries (set_given sets.now) (filter_parts filters.now)) }

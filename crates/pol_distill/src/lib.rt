@@ -5,11 +5,12 @@
 #![tactic(auto)]
 
 mod entries;
+mod index;
 mod keys;
 pub mod laws;
 mod make;
 mod sweep;
 mod table;
 
-pub use make::distill;
+pub use make::{distill, have_sets};
 pub use table::MapTable;

@@ -10,11 +10,11 @@ use Rattle.pol_distill.proofs.make.distill.Goals as goal
 
 pub canonical-requires : goal.canonical-requires
 canonical-requires c =
-    let set = set_given c.as_slice.result.now in
+    let set = set_given c.in_ok-index.index in
     let made : c.in_ok-raw.raw.items ≡ raw_entries set (filter_parts c.args.filters.now) = c.in_ok-raw.ensures in
     subst (AllByRecursion IsSmall) (sym made) (raw_small set (filter_parts c.args.filters.now))
 
-pub new-requires : goal.new-requires
-new-requires c =
+pub new-requires-2 : goal.new-requires-2
+new-requires-2 c =
     let made : c.in_ok-canonical.field-0.items ≡ canonical c.in_ok-raw.raw.items = c.in_ok-canonical.ensures in
     subst IsTable (sym made) (canonical_is_table c.in_ok-raw.raw.items)
