@@ -11,6 +11,8 @@ pub mod laws;
 mod make;
 mod sweep;
 mod table;
+#[cfg(test)]
+mod tests;
 
 pub use make::{distill, have_sets};
 pub use table::MapTable;

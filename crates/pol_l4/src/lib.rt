@@ -7,6 +7,8 @@
 mod filter;
 pub mod laws;
 mod select;
+#[cfg(test)]
+mod tests;
 
 pub use filter::{Filter, FilterList, Filters};
 pub use pol_model::{Mode, Stamped};
