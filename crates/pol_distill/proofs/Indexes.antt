@@ -1,5 +1,5 @@
 -- The table of the rows of peers.
-use Rattle.std.proofs.Common.{◌≡◌, ℕ, Bool, true, false, cond, ◌||◌, Bor, List, [], ◌∷◌, Option, None, Some, option_map, find, IsTrue, refl, ap}
+use Rattle.std.proofs.Common.{◌≡◌, ℕ, Bool, true, false, cond, ◌||◌, Bor, List, [], ◌∷◌, Option, None, Some, option_map, find, IsTrue, ap}
 use Rattle.std.specs.Arc.{arc_value}
 use Rattle.std.specs.List.{list_any}
 use Rattle.std.specs.Option.{option_map_or}

@@ -8,4 +8,4 @@ unfolding IsStrictlySortedBy
 from_ascending-requires c =
     let items : c.push.new.self.items ≡ 257 ∷ [] = search rules in
     let single : IsStrictlySortedBy nat_cmp (257 ∷ []) = (tt, tt) in
-    record { ascending = subst (IsStrictlySortedBy nat_cmp) (sym items) single; }
+    record { ascending = subst (IsStrictlySortedBy nat_cmp) (sym items) single }
