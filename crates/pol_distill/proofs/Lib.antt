@@ -2,3 +2,13 @@ pub mod AnyLemmas
 pub mod Canon
 pub mod Raw
 pub mod MapLaw
+pub mod Between
+pub mod Swept
+pub mod Joined
+pub mod OnePass
+pub mod Small
+pub mod RawLists
+pub mod Searches
+pub mod Lookups
+pub mod FilterLaw
+pub mod Indexes

@@ -1,0 +1,5 @@
+pub mod Sorted
+pub mod Passing
+pub mod RawKeys
+pub mod Distilled
+pub mod Indexed
