@@ -1,6 +1,7 @@
 //! A script is read from a source, and its answers are written to a sink.
 ghost use Rattle.std.specs.Prelude.{◌≡◌, ◌⊎◌, None, IfOk, IfErr, IfSome, IsErrOf, IsSomeAnd, OnOk, IsTrue, if◌then◌else◌};
 ghost use Rattle.std.specs.Io.KnownBytes.{IsAtEnd, Keeps};
+ghost use Rattle.std.specs.List.{list_any};
 ghost use Rattle.pol_base.specs.Faults.{Rose, DidNotRise};
 ghost use Rattle.pol_base.specs.Bytes.{ConsumesSome};
 ghost use Rattle.pol_run.specs.Run.{IsRunOf, is_marked};
@@ -81,6 +82,7 @@ fn script_of<S: Source>(alloc: Global, source: &mut S) -> Result<Vec<u8>, Status
 }
 
 // Answers a script.
+#[tactic(auto, using(crate::proofs::ScriptRun::writes_run, crate::proofs::ScriptRun::writes_part))]
 fn answer_script<K: Sink>(alloc: Global, options: Options, script: &[u8], sink: &mut K) -> Status
     requires { options.map_max ≡ None }
     ensures end { IsTrue (has_read_all result) ⊎ (result ≡ Status.Memory) }
@@ -115,7 +117,7 @@ fn print_answers(alloc: Global, options: Options, script: &[u8]) -> Result<Print
     let readings = read_script(alloc, script)?;
     let answers = play_lines(alloc, options, readings)?;
     let text = answers_text(alloc, answers.as_slice())?;
-    let marked = answers.iter().any(|answer| is_marked_answer(answer));
+    let marked = any_marked(answers.as_slice());
     Ok(Printed { text, marked })
 }
 
@@ -127,6 +129,12 @@ fn is_marked_answer(answer: &Answer) -> bool
         answer,
         Answer::NoEndpoint(_) | Answer::NotYet(_) | Answer::BadLine(_) | Answer::Refused(_)
     )
+}
+
+fn any_marked(answers: &[Answer]) -> bool
+    ensures { result ≡ list_any is_marked answers.now }
+{
+    answers.iter().any(|answer| is_marked_answer(answer))
 }
 
 fn end_of(marked: bool) -> Status

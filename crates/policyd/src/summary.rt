@@ -1,55 +1,83 @@
 //! How many lines of a generated script were answered in each way.
-ghost use Rattle.std.specs.Prelude.{◌≡◌, IfOk, count_by};
-ghost use Rattle.policyd.specs.Summary.{is_commit, is_refusal, is_allowed, is_denied_by_rule, is_denied_by_default, summary_text};
+ghost use Rattle.std.specs.Prelude.{◌≡◌, ◌++◌, codes, IfOk, OnOk};
+ghost use Rattle.std.specs.Fmt.{decimal};
+ghost use Rattle.std.specs.String.{string_bytes};
+ghost use Rattle.policyd.specs.Summary.{count_of, is_of, summary_text};
 
 use pol_answer::Answer;
 use pol_data::Memory;
 use pol_mapkey::Word;
 use std::alloc::Global;
 
-fn commits(answers: &[Answer]) -> usize
-    ensures { result ≡ count_by is_commit answers.now }
-{
-    answers
-        .iter()
-        .filter(|answer| matches!(answer, Answer::Committed { .. }))
-        .count()
+/// The ways in which a line of a generated script is answered.
+#[derive(Clone, Copy, Debug, PartialEq, Eq)]
+pub enum Kind {
+    /// A request that was committed.
+    Commit,
+    /// A line or a request that was refused.
+    Refusal,
+    /// A packet that may pass.
+    Allowed,
+    /// A packet that a deny covers.
+    DeniedByRule,
+    /// A packet that no allow covers.
+    DeniedByDefault,
 }
 
-fn refusals(answers: &[Answer]) -> usize
-    ensures { result ≡ count_by is_refusal answers.now }
+fn is_of(kind: Kind, answer: &Answer) -> bool
+    ensures { result ≡ is_of kind answer.now }
 {
-    answers
-        .iter()
-        .filter(|answer| matches!(answer, Answer::BadLine(_) | Answer::Refused(_)))
-        .count()
+    match kind {
+        Kind::Commit => matches!(answer, Answer::Committed { .. }),
+        Kind::Refusal => matches!(answer, Answer::BadLine(_) | Answer::Refused(_)),
+        Kind::Allowed => matches!(answer, Answer::Verdict { word: Word::Allowed, .. }),
+        Kind::DeniedByRule => matches!(answer, Answer::Verdict { word: Word::DeniedByRule, .. }),
+        Kind::DeniedByDefault => matches!(answer, Answer::Verdict { word: Word::DeniedByDefault, .. }),
+    }
 }
 
-fn allowed(answers: &[Answer]) -> usize
-    ensures { result ≡ count_by is_allowed answers.now }
+#[tactic(auto, unfolding(crate::specs::Summary::count_of))]
+fn count_of(kind: Kind, answers: &[Answer]) -> usize
+    ensures { result ≡ count_of kind answers.now }
 {
-    answers
-        .iter()
-        .filter(|answer| matches!(answer, Answer::Verdict { word: Word::Allowed, .. }))
-        .count()
+    let mut count = 0;
+    for answer in answers {
+        if is_of(kind, answer) {
+            count += 1;
+        }
+    }
+    count
 }
 
-fn denied_by_rule(answers: &[Answer]) -> usize
-    ensures { result ≡ count_by is_denied_by_rule answers.now }
+#[tactic(auto, using(std::proofs::Common::append_assoc))]
+fn push_count(
+    out: &mut String,
+    text: &str,
+    kind: Kind,
+    answers: &[Answer],
+) -> Result<(), Memory>
+    ensures { OnOk result (string_bytes out.new ≡ string_bytes out.old ++ text.now ++ decimal (count_of kind answers.now)) }
 {
-    answers
-        .iter()
-        .filter(|answer| matches!(answer, Answer::Verdict { word: Word::DeniedByRule, .. }))
-        .count()
+    out.push_str(text)?;
+    let count = count_of(kind, answers);
+    write!(out, "{count}")
 }
 
-fn denied_by_default(answers: &[Answer]) -> usize
-    ensures { result ≡ count_by is_denied_by_default answers.now }
+fn push_newline(out: &mut String) -> Result<(), Memory>
+    ensures { OnOk result (string_bytes out.new ≡ string_bytes out.old ++ codes "\n") }
 {
-    answers
-        .iter()
-        .filter(|answer| matches!(answer, Answer::Verdict { word: Word::DeniedByDefault, .. }))
-        .count()
+    out.push('\n')
+}
+
+fn push_summary(out: &mut String, answers: &[Answer]) -> Result<(), Memory>
+    ensures { OnOk result (string_bytes out.new ≡ string_bytes out.old ++ summary_text answers.now) }
+{
+    push_count(out, "commits ", Kind::Commit, answers)?;
+    push_count(out, " refused ", Kind::Refusal, answers)?;
+    push_count(out, " allowed ", Kind::Allowed, answers)?;
+    push_count(out, " denied-by-rule ", Kind::DeniedByRule, answers)?;
+    push_count(out, " denied-by-default ", Kind::DeniedByDefault, answers)?;
+    push_newline(out)
 }
 
 /// The line that tells them, with its newline byte. The one error is want of memory.
@@ -57,10 +85,6 @@ pub fn summary_text(alloc: Global, answers: &[Answer]) -> Result<Vec<u8>, Memory
     ensures { IfOk result (λ text. text.items ≡ summary_text answers.now) }
 {
     let mut out = String::new(alloc);
-    write!(out, "commits {}", commits(answers))?;
-    write!(out, " refused {}", refusals(answers))?;
-    write!(out, " allowed {}", allowed(answers))?;
-    write!(out, " denied-by-rule {}", denied_by_rule(answers))?;
-    write!(out, " denied-by-default {}\n", denied_by_default(answers))?;
+    push_summary(&mut out, answers)?;
     Ok(out.into_bytes())
 }
