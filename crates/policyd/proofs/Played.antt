@@ -1,7 +1,6 @@
 -- Lines that were answered in order.
-use Rattle.std.proofs.Common.{◌≡◌, ℕ, suc, List, [], ◌∷◌, length, Option, None, refl, ap, sym, ◌∙◌, subst}
+use Rattle.std.proofs.Common.{◌≡◌, ℕ, suc, List, [], ◌∷◌, length, None, refl, ap, sym, ◌∙◌, subst}
 use Rattle.std.specs.List.{zip}
-use Rattle.std.specs.Prelude.{Result, Ok, Err, IfOk}
 use Rattle.pol_model.specs.State.{State}
 use Rattle.pol_model.specs.After.{start}
 use Rattle.pol_model.specs.declared.options.Options.{Options}

@@ -1,5 +1,5 @@
 -- What is printed for a script is a run of the policy machine.
-use Rattle.std.proofs.Common.{◌≡◌, ℕ, Bool, List, length, map, Option, refl, ap, sym, ◌∙◌, subst}
+use Rattle.std.proofs.Common.{◌≡◌, ℕ, Bool, List, length, map, Option, ap, sym, ◌∙◌, subst}
 use Rattle.std.specs.Prelude.{if◌then◌else◌}
 use Rattle.std.specs.List.{list_any, zip}
 use Rattle.std.specs.Io.KnownBytes.{Appends}

@@ -1,7 +1,6 @@
 -- The summary of a generated script: how many of its lines were answered in each way.
 use Rattle.std.specs.Prelude.{ℕ, Bool, true, false, List, ◌++◌, codes, count_by}
 use Rattle.std.specs.Fmt.{decimal}
-use Rattle.pol_mapkey.specs.declared.Word.{Word}
 use Rattle.pol_mapkey.specs.declared.Word.TheVariants.{Allowed, DeniedByRule, DeniedByDefault}
 use Rattle.pol_model.specs.declared.options.Options.{Options}
 use Rattle.pol_answer.specs.declared.answer.Answer.{Answer}

@@ -1,7 +1,6 @@
 -- What the words of the command line ask for.
 use Rattle.std.specs.Prelude.{ℕ, List, Option, None, Some, option_and_then}
 use Rattle.pol_model.specs.declared.options.Options.{Options}
-use Rattle.pol_words.specs.declared.Words.{Words}
 use Rattle.pol_words.specs.Given.{words_given}
 
 abbrev reading_options : Options → Option ℕ → Option Options

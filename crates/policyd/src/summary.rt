@@ -30,9 +30,27 @@ fn is_of(kind: Kind, answer: &Answer) -> bool
     match kind {
         Kind::Commit => matches!(answer, Answer::Committed { .. }),
         Kind::Refusal => matches!(answer, Answer::BadLine(_) | Answer::Refused(_)),
-        Kind::Allowed => matches!(answer, Answer::Verdict { word: Word::Allowed, .. }),
-        Kind::DeniedByRule => matches!(answer, Answer::Verdict { word: Word::DeniedByRule, .. }),
-        Kind::DeniedByDefault => matches!(answer, Answer::Verdict { word: Word::DeniedByDefault, .. }),
+        Kind::Allowed => matches!(
+            answer,
+            Answer::Verdict {
+                word: Word::Allowed,
+                ..
+            }
+        ),
+        Kind::DeniedByRule => matches!(
+            answer,
+            Answer::Verdict {
+                word: Word::DeniedByRule,
+                ..
+            }
+        ),
+        Kind::DeniedByDefault => matches!(
+            answer,
+            Answer::Verdict {
+                word: Word::DeniedByDefault,
+                ..
+            }
+        ),
     }
 }
 
@@ -50,12 +68,7 @@ fn count_of(kind: Kind, answers: &[Answer]) -> usize
 }
 
 #[tactic(auto, using(std::proofs::Common::append_assoc))]
-fn push_count(
-    out: &mut String,
-    text: &str,
-    kind: Kind,
-    answers: &[Answer],
-) -> Result<(), Memory>
+fn push_count(out: &mut String, text: &str, kind: Kind, answers: &[Answer]) -> Result<(), Memory>
     ensures { OnOk result (string_bytes out.new ≡ string_bytes out.old ++ text.now ++ decimal (count_of kind answers.now)) }
 {
     out.push_str(text)?;

@@ -1,4 +1,4 @@
-use Rattle.std.proofs.Common.{◌∙◌, ap, List}
+use Rattle.std.proofs.Common.{◌∙◌, ap}
 use Rattle.std.specs.List.{list_any}
 use Rattle.pol_answer.specs.Text.{texts_of}
 use Rattle.pol_run.specs.Run.{is_marked}
