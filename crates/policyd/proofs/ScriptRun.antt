@@ -1,27 +1,40 @@
--- The program's answers to a script are a run of the policy machine.
-use Rattle.std.proofs.Common.{◌≡◌, ℕ, List, Option, refl, sym, subst}
+-- What is printed for a script is a run of the policy machine.
+use Rattle.std.proofs.Common.{◌≡◌, ℕ, Bool, List, length, map, Option, ap, sym, ◌∙◌, subst}
+use Rattle.std.specs.Prelude.{if◌then◌else◌}
+use Rattle.std.specs.List.{list_any, zip}
 use Rattle.std.specs.Io.KnownBytes.{Appends}
+use Rattle.std.proofs.lemmas.List.{length-map}
 use Rattle.pol_base.specs.Bytes.{AppendsPart}
-use Rattle.pol_run.specs.Run.{IsRunOf}
-use Rattle.pol_run.proofs.SerialAnswers.{serial_answers_run}
-use Rattle.policyd.specs.Script.{program_options, script_text, script_status}
+use Rattle.pol_answer.specs.Text.{texts_of}
+use Rattle.pol_answer.specs.declared.answer.Answer.{Answer}
+use Rattle.pol_model.specs.declared.options.Options.{Options}
+use Rattle.pol_script.specs.Lines.{lines_of}
+use Rattle.pol_script.specs.Reading.{reading_of}
+use Rattle.pol_run.specs.Run.{IsRun, IsRunOf, is_marked}
+use Rattle.pol_run.specs.Spots.{Reading, spots_of}
 use Rattle.policyd.specs.Headline.{WritesRun, WritesPartOfRun}
 
-script_run : (script : List ℕ) → IsRunOf program_options script (script_text script) (script_status script)
-unfolding script_text script_status
-script_run script = serial_answers_run program_options script refl
+-- lines that were read, played and printed
+pub printed_run : (options : Options) (script text : List ℕ) (readings : List Reading) (answers : List Answer) (marked : Bool)
+    → readings ≡ map reading_of (lines_of script) → length answers ≡ length readings → IsRun options (spots_of (zip readings answers))
+    → text ≡ texts_of answers → marked ≡ list_any is_marked answers → IsRunOf options script text (if marked then 1 else 0)
+printed_run options script text readings answers marked read one_each run printed marks = record {
+  answers = answers;
+  one_each = one_each ∙ ap (λ (xs : List Reading). length xs) read ∙ length-map (lines_of script) reading_of;
+  text = printed;
+  run = subst (λ (xs : List Reading). IsRun options (spots_of (zip xs answers))) read run;
+  status = ap (λ (b : Bool). if b then 1 else 0) marks;
+}
 
--- all answers were written
-pub writes_run : (old new : Option (List ℕ)) (script : List ℕ) (status : ℕ) → status ≡ script_status script
-    → Appends old new (script_text script) → WritesRun old new script status
-writes_run old new script status same written =
-    record {
-      text = script_text script;
-      run = let P : ℕ → Type 0 = λ s. IsRunOf program_options script (script_text script) s in subst P (sym same) (script_run script);
-      written = written;
-    }
+module _ (options : Options) (old new : Option (List ℕ)) (script text : List ℕ) (status : ℕ) (run : IsRunOf options script text status) where
+  -- all answers were written
+  pub writes_run : (ended : ℕ) → ended ≡ status → Appends old new text → WritesRun options old new script ended
+  writes_run ended same written = record {
+    text = text;
+    run = subst (λ (s : ℕ). IsRunOf options script text s) (sym same) run;
+    written = written;
+  }
 
--- some of them were
-pub writes_part : (old new : Option (List ℕ)) (script : List ℕ) → AppendsPart old new (script_text script) → WritesPartOfRun old new script
-writes_part old new script written =
-    record { text = script_text script; status = script_status script; run = script_run script; written = written }
+  -- some of them were
+  pub writes_part : AppendsPart old new text → WritesPartOfRun options old new script
+  writes_part written = record { text = text; status = status; run = run; written = written }

@@ -1,3 +1,5 @@
 pub mod Script
 pub mod Ends
 pub mod Headline
+pub mod Summary
+pub mod Task

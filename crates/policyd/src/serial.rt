@@ -1,6 +1,12 @@
-//! The lines of a script are answered one after another.
-ghost use Rattle.std.specs.Prelude.{◌≡◌, ◌≤◌, IfOk, vec_len};
+//! The lines of a script are played: answered one after another. Another way to play takes the place of this file,
+//! under the same contract of `play_lines`.
+ghost use Rattle.std.specs.Prelude.{◌≡◌, ℕ, None, length, IfOk};
+ghost use Rattle.std.specs.List.{zip};
+ghost use Rattle.pol_gen.specs.Generated.{generated};
+ghost use Rattle.pol_run.specs.Run.{IsRun, readings_of};
 ghost use Rattle.pol_run.specs.Serial.{serial_answers};
+ghost use Rattle.pol_run.specs.Spots.{spots_of};
+ghost use Rattle.policyd.specs.Summary.{summary, summary_text};
 
 use crate::line::{Reading, answer_line, next_phase};
 use pol_answer::Answer;
@@ -9,13 +15,28 @@ use pol_model::Options;
 use pol_plain::Plain;
 use std::alloc::Global;
 
-/// The answers to the lines, in order.
+/// Plays lines whose maps have no limit: one answer each, and the lines with their answers are a run of the policy
+/// machine. A run of a generated script has one summary. The one error is want of memory.
 pub fn play_lines(
     alloc: Global,
     options: Options,
     readings: Vec<Reading>,
 ) -> Result<Vec<Answer>, Memory>
-    requires { vec_len readings ≤ 1000000 }
+    requires { options.map_max ≡ None }
+    ensures one_each { IfOk result (λ answers. length answers.items ≡ length readings.items) }
+    ensures run { IfOk result (λ answers. IsRun options (spots_of (zip readings.items answers.items))) }
+    ensures one_summary { IfOk result (λ answers. (n : ℕ) → readings.items ≡ readings_of (generated n)
+        → summary_text answers.items ≡ summary options n) }
+{
+    answers_in_order(alloc, options, readings)
+}
+
+// The answers to the lines, in order.
+fn answers_in_order(
+    alloc: Global,
+    options: Options,
+    readings: Vec<Reading>,
+) -> Result<Vec<Answer>, Memory>
     ensures { IfOk result (λ answers. answers.items ≡ serial_answers options readings.items) }
 {
     let mut plain = Plain::new(alloc, options)?;

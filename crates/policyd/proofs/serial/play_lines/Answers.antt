@@ -1,23 +1,13 @@
-use Rattle.std.proofs.Common.{ap, ◌∙◌}
-use Rattle.pol_model.specs.After.{start}
-use Rattle.pol_model.specs.declared.options.Options.{Options}
-use Rattle.pol_plain.specs.Core.{Core}
-use Rattle.pol_run.specs.Serial.{answer_in}
-use Rattle.pol_run.proofs.SerialRuns.{one_more_played}
+use Rattle.std.proofs.lemmas.Result.{IfOk-weaker}
+use Rattle.policyd.proofs.Played.{is_run, one_each}
 use Rattle.policyd.proofs.serial.play_lines.Goals as goal
 
-pub loop-reading-preserved : goal.loop-reading-preserved
-loop-reading-preserved c =
-    let run = c.loop-reading.invariant in
-    record {
-      options = ap (λ (core : Core). core.options) c.in_ok-answer_line.ensures.state ∙ run.options;
-      played = one_more_played c.args.options (start c.args.options) c.loop-reading.plain.state c.answer_line.new.plain.state
-          c.loop-reading.yielded c.in-Some.reading c.loop-reading.phase c.next_phase-next.result
-          c.loop-reading.answers.items c.push.new.self.items c.in_ok-answer_line.field-0
-          run.played
-          (ap (λ (core : Core). core.state) c.in_ok-answer_line.ensures.state)
-          c.next_phase-next.ensures
-          (c.in_ok-answer_line.ensures.answer
-          ∙ ap (λ (o : Options). answer_in o c.loop-reading.plain.state c.loop-reading.phase c.in-Some.reading) run.options)
-          c.in_ok-push.ensures.items;
-    }
+pub returns-clause-one_each : goal.returns-clause-one_each
+returns-clause-one_each c =
+    IfOk-weaker c.answers_in_order.result _ _ (λ answers in_order. one_each c.args.options c.args.readings.items answers.items in_order)
+    c.answers_in_order.ensures
+
+pub returns-clause-run : goal.returns-clause-run
+returns-clause-run c =
+    IfOk-weaker c.answers_in_order.result _ _ (λ answers in_order. is_run c.args.options c.args.readings.items answers.items in_order c.requires)
+    c.answers_in_order.ensures

@@ -1,7 +1,7 @@
 use Rattle.std.proofs.Common.{◌≡◌}
 use Rattle.pol_model.specs.After.{start}
 use Rattle.pol_run.proofs.SerialRuns.{IsPlayed}
-use Rattle.policyd.proofs.serial.play_lines.Given as goal
+use Rattle.policyd.proofs.serial.answers_in_order.Given as goal
 
 -- the lines so far are answered, one after another
 abbrev pub invariant-loop-reading : goal.invariant-loop-reading

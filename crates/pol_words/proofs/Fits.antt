@@ -1,0 +1,49 @@
+-- From what a parse by clap says to what the words give.
+use Rattle.std.proofs.Common.{◌≡◌, true, List, [], ◌∷◌, Option, None, Some, refl, sym, ap, ◌∙◌, inl, inr}
+use Rattle.std.specs.Prelude.{ok_or, IfOk, IsErrOf}
+use Rattle.clap.specs.Words.{Row, Text, fault_of, is_simple, is_simple_and_free, kind_of, matches_of}
+use Rattle.clap.specs.Kinds.{HasKind, Kinds}
+use Rattle.clap.specs.declared.error.Error.{Error}
+use Rattle.clap.specs.declared.error.kind.ErrorKind.TheVariants as kind
+use Rattle.clap.proofs.OnLiterals.{clap_on_literals}
+use Rattle.pol_words.specs.declared.Words.{Words}
+use Rattle.pol_words.specs.declared.WordsError.TheVariants.{Misfit}
+use Rattle.pol_words.specs.Given.{words_given, words_in, words_without}
+use Rattle.pol_words.specs.Grammar.{grammar}
+
+pub simple : is_simple grammar ≡ true
+unfolding clap_on_literals
+simple = refl
+
+pub simple_and_free : is_simple_and_free grammar ≡ true
+unfolding clap_on_literals
+simple_and_free = refl
+
+without_faults : (kinds : Kinds) (words : List Text) → kinds ≡ [] → words_without kinds words ≡ words_in (matches_of grammar words)
+without_faults [] words none = refl
+without_faults (kind ∷ kinds) words none = absurd (cc)
+
+-- words in which clap finds no fault
+pub fitting : (words : List Text) (rows : List Row) → fault_of grammar words ≡ [] → rows ≡ matches_of grammar words
+    → words_given words ≡ words_in rows
+fitting words rows none found = without_faults (fault_of grammar words) words none ∙ sym (ap words_in found)
+
+refused : (kinds : Kinds) (words : List Text) (error : Error) → HasKind kinds error → (kind_of error ≡ kind.OutOfMemory → ⊥)
+    → words_without kinds words ≡ None
+refused [] words error (inl memory) other = absurd (other memory)
+refused [] words error (inr none) other = absurd none
+refused (kind ∷ kinds) words error has other = refl
+
+-- words that clap refuses
+pub misfitting : (words : List Text) (error : Error) → HasKind (fault_of grammar words) error → (kind_of error ≡ kind.OutOfMemory → ⊥)
+    → words_given words ≡ None
+misfitting words error has other = refused (fault_of grammar words) words error has other
+
+-- what is answered where there was no fault
+pub told : (w found : Option Words) → w ≡ found → IfOk (ok_or found Misfit) (λ given. w ≡ Some given)
+told w None is = tt
+told w (Some given) is = is
+
+pub told_none : (w found : Option Words) → w ≡ found → IsErrOf (ok_or found Misfit) Misfit → w ≡ None
+told_none w None is misfit = is
+told_none w (Some given) is misfit = absurd (cc)

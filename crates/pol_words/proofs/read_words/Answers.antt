@@ -1,0 +1,49 @@
+use Rattle.std.proofs.Common.{◌≡◌, ◌∙◌, ap, subst, sym, map, [], Some}
+use Rattle.std.specs.Prelude.{Result, IfOk, IsErrOf}
+use Rattle.std.specs.String.{string_bytes}
+use Rattle.clap.specs.Words.{App, fault_of, found_of, is_simple, is_simple_and_free, matches_of, rows_of}
+use Rattle.clap.specs.Kinds.{HasKind}
+use Rattle.pol_words.specs.declared.Words.{Words}
+use Rattle.pol_words.specs.declared.WordsError.{WordsError}
+use Rattle.pol_words.specs.declared.WordsError.TheVariants.{Misfit}
+use Rattle.pol_words.specs.Given.{words_given}
+use Rattle.pol_words.proofs.Fits.{simple, simple_and_free, fitting, misfitting, told, told_none}
+use Rattle.pol_words.proofs.read_words.Goals as goal
+
+pub returns-in-Ok-try_get_matches_from-clause-given : goal.returns-in-Ok-try_get_matches_from-clause-given
+returns-in-Ok-try_get_matches_from-clause-given c =
+    let words = map string_bytes c.args.words.now in
+    let is = c.in-Ok.ensures in
+    let parse = c.in-Ok-try_get_matches_from.ensures in
+    let none = subst (λ (app : App). fault_of app words ≡ []) is (parse.kinds (ap is_simple_and_free is ∙ simple_and_free)) in
+    let rows = subst (λ (app : App). rows_of (found_of c.in-Ok-try_get_matches_from.matches) ≡ matches_of app words) is
+    (parse.matches (ap is_simple is ∙ simple)).0 in
+    let given = fitting words (rows_of (found_of c.in-Ok-try_get_matches_from.matches)) none rows ∙ sym c.words_in.ensures.given in
+    subst (λ (r : Result Words WordsError). IfOk r (λ found. words_given words ≡ Some found)) (sym c.ok_or.ensures.value)
+    (told (words_given words) c.words_in.result given)
+
+pub returns-in-Ok-try_get_matches_from-clause-misfit : goal.returns-in-Ok-try_get_matches_from-clause-misfit
+returns-in-Ok-try_get_matches_from-clause-misfit c =
+    let words = map string_bytes c.args.words.now in
+    let is = c.in-Ok.ensures in
+    let parse = c.in-Ok-try_get_matches_from.ensures in
+    let none = subst (λ (app : App). fault_of app words ≡ []) is (parse.kinds (ap is_simple_and_free is ∙ simple_and_free)) in
+    let rows = subst (λ (app : App). rows_of (found_of c.in-Ok-try_get_matches_from.matches) ≡ matches_of app words) is
+    (parse.matches (ap is_simple is ∙ simple)).0 in
+    let given = fitting words (rows_of (found_of c.in-Ok-try_get_matches_from.matches)) none rows ∙ sym c.words_in.ensures.given in
+    λ misfit. told_none (words_given words) c.words_in.result given
+    (subst (λ (r : Result Words WordsError). IsErrOf r Misfit) c.ok_or.ensures.value misfit)
+
+pub returns : goal.returns
+returns c =
+    let words = map string_bytes c.args.words.now in
+    let is = c.in-Ok.ensures in
+    let error = c.in-Err-try_get_matches_from.error in
+    let has = subst (λ (app : App). HasKind (fault_of app words) error) is
+    (c.in-Err-try_get_matches_from.ensures.kinds (ap is_simple_and_free is ∙ simple_and_free)) in
+    record {
+      given = tt;
+      misfit = λ _. misfitting words error has (λ memory. c.in_default.not-OutOfMemory (c.kind.ensures ∙ memory));
+      unlimited = tt;
+      rounds = tt;
+    }

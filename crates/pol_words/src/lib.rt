@@ -1,0 +1,241 @@
+//! The words of the command line, by `clap`.
+//!
+//! `specs/Grammar` is the command as clap's contracts see it, and `specs/Given` says which lists of words fit it
+//! and what they give.
+#![tactic(auto)]
+
+ghost use Rattle.std.specs.Prelude.{◌≡◌, ◌≤◌, false, map, string_bytes, option_map, None, Some, IfSome, IfOk, IsErrOf};
+ghost use Rattle.clap.specs.Words.{app_of, first_of, found_of, rows_of, rule_of};
+ghost use Rattle.pol_words.specs.Grammar.{option, number, or_default, no_options, grammar};
+ghost use Rattle.pol_words.specs.Given.{number_in, mode_named, localhost_named, workers_in, mode_in, localhost_in, generate_in, words_of, words_in, words_given};
+
+use clap::builder::ValueParser;
+use clap::error::ErrorKind;
+use clap::{Arg, ArgMatches, Command};
+use pol_data::Memory;
+use pol_model::{Mode, Options};
+use std::alloc::Global;
+
+pub mod laws;
+
+/// What the words of a command line say ('profile').
+#[derive(Clone, Copy, Debug, PartialEq, Eq)]
+pub struct Words {
+    /// The options of the run. No map has a limit.
+    pub options: Options,
+    /// How many workers, 0 to 8.
+    pub workers: u64,
+    /// The number of the script to generate, 1 to 10,000; `None`: the script is read.
+    pub generate: Option<u32>,
+}
+
+/// Why words give nothing.
+#[derive(Clone, Copy, Debug, Drop, PartialEq, Eq, thiserror::Error)]
+pub enum WordsError {
+    /// They don't fit the command, or ask for help.
+    #[error("the words don't fit the command")]
+    Misfit,
+    /// Want of memory.
+    #[error("out of memory")]
+    Memory,
+}
+
+// An option with a text.
+fn option<'a>(alloc: Global, name: &'a str) -> Arg<'a>
+    ensures rule { rule_of result ≡ option name.entry.now }
+    ensures local { result.global ≡ false }
+{
+    Arg::new(alloc, name).long(name)
+}
+
+// An option with a whole number.
+fn number<'a>(alloc: Global, name: &'a str, least: u64, greatest: u64) -> Arg<'a>
+    ensures rule { rule_of result ≡ number name.entry.now least greatest }
+    ensures local { result.global ≡ false }
+{
+    option(alloc, name).value_parser(ValueParser::unsigned(least, greatest))
+}
+
+fn or_default<'a>(arg: Arg<'a>, text: &'a str) -> Arg<'a>
+    ensures rule { rule_of result ≡ or_default text.entry.now (rule_of arg.entry) }
+    ensures local { result.global ≡ arg.entry.global }
+{
+    arg.default_value(text)
+}
+
+// The command without its options.
+fn no_options<'a>(alloc: Global) -> Command<'a>
+    ensures { app_of result ≡ no_options }
+{
+    Command::new(alloc, "policyd").no_binary_name(true)
+}
+
+// The command: four options, each once at most.
+fn command<'a>(alloc: Global) -> Result<Command<'a>, Memory>
+    ensures { IfOk result (λ command. app_of command ≡ grammar) }
+{
+    let workers = or_default(number(alloc, "workers", 0, 8), "2");
+    let mode = or_default(option(alloc, "enable-policy"), "default");
+    let localhost = or_default(option(alloc, "allow-localhost"), "always");
+    let generate = number(alloc, "generate", 1, 10000);
+    no_options(alloc)
+        .arg(workers)?
+        .arg(mode)?
+        .arg(localhost)?
+        .arg(generate)
+}
+
+fn number_in(text: &str, least: u64, greatest: u64) -> Option<u64>
+    ensures { result ≡ number_in least greatest text.now }
+{
+    match text.parse::<u64>() {
+        Ok(number) => {
+            if least <= number && number <= greatest {
+                Some(number)
+            } else {
+                None
+            }
+        }
+        Err(_) => None,
+    }
+}
+
+fn script_number(text: &str) -> Option<u32>
+    ensures number { result ≡ number_in 1 10000 text.now }
+    ensures range { IfSome result (λ n. (1 ≤ n) × (n ≤ 10000)) }
+{
+    match number_in(text, 1, 10000) {
+        None => None,
+        Some(number) => Some(number as u32),
+    }
+}
+
+fn mode_named(text: &str) -> Option<Mode>
+    ensures { result ≡ mode_named text.now }
+{
+    match text {
+        "default" => Some(Mode::Default),
+        "always" => Some(Mode::Always),
+        "never" => Some(Mode::Never),
+        _ => None,
+    }
+}
+
+fn localhost_named(text: &str) -> Option<bool>
+    ensures { result ≡ localhost_named text.now }
+{
+    match text {
+        "always" => Some(true),
+        "policy" => Some(false),
+        _ => None,
+    }
+}
+
+// The text of an option.
+fn text_in<'a>(matches: &ArgMatches<'a>, name: &str) -> Option<&'a str>
+    ensures { option_map (λ text. text.now) result ≡ first_of name.now (rows_of (found_of matches.now)) }
+{
+    matches.get_str(name)
+}
+
+fn workers_in(matches: &ArgMatches) -> Option<u64>
+    ensures { result ≡ workers_in (rows_of (found_of matches.now)) }
+{
+    match text_in(matches, "workers") {
+        None => None,
+        Some(text) => number_in(text, 0, 8),
+    }
+}
+
+fn mode_in(matches: &ArgMatches) -> Option<Mode>
+    ensures { result ≡ mode_in (rows_of (found_of matches.now)) }
+{
+    match text_in(matches, "enable-policy") {
+        None => None,
+        Some(text) => mode_named(text),
+    }
+}
+
+fn localhost_in(matches: &ArgMatches) -> Option<bool>
+    ensures { result ≡ localhost_in (rows_of (found_of matches.now)) }
+{
+    match text_in(matches, "allow-localhost") {
+        None => None,
+        Some(text) => localhost_named(text),
+    }
+}
+
+// The number of a script, which may be left out.
+fn generate_in(matches: &ArgMatches) -> Option<Option<u32>>
+    ensures given { result ≡ generate_in (rows_of (found_of matches.now)) }
+    ensures range { IfSome result (λ given. IfSome given (λ n. (1 ≤ n) × (n ≤ 10000))) }
+{
+    match text_in(matches, "generate") {
+        None => Some(None),
+        Some(text) => match script_number(text) {
+            None => None,
+            Some(number) => Some(Some(number)),
+        },
+    }
+}
+
+fn words_of(
+    workers: Option<u64>,
+    mode: Option<Mode>,
+    localhost: Option<bool>,
+    generate: Option<Option<u32>>,
+) -> Option<Words>
+    ensures words { result ≡ words_of workers mode localhost generate }
+    ensures unlimited { IfSome result (λ given. given.options.map_max ≡ None) }
+    ensures generate { IfSome result (λ given. Some given.generate ≡ generate) }
+{
+    match (workers, mode, localhost, generate) {
+        (Some(workers), Some(mode), Some(localhost), Some(generate)) => Some(Words {
+            options: Options {
+                mode,
+                localhost,
+                map_max: None,
+            },
+            workers,
+            generate,
+        }),
+        _ => None,
+    }
+}
+
+fn words_in(matches: &ArgMatches) -> Option<Words>
+    ensures given { result ≡ words_in (rows_of (found_of matches.now)) }
+    ensures unlimited { IfSome result (λ given. given.options.map_max ≡ None) }
+    ensures rounds { IfSome result (λ given. IfSome given.generate (λ n. (1 ≤ n) × (n ≤ 10000))) }
+{
+    let generate = generate_in(matches);
+    words_of(
+        workers_in(matches),
+        mode_in(matches),
+        localhost_in(matches),
+        generate,
+    )
+}
+
+/// What the words behind the program's name give. `Misfit` comes exactly where they don't fit the command:
+/// `[--workers 0..8] [--enable-policy default|always|never] [--allow-localhost always|policy]
+/// [--generate 1..10000]`, with both ends of each range. The defaults are 2, `default`, `always` and no script
+/// to generate ('profile').
+pub fn read_words(alloc: Global, words: &[String]) -> Result<Words, WordsError>
+    ensures given { IfOk result (λ given. words_given (map string_bytes words.now) ≡ Some given) }
+    ensures misfit { IsErrOf result WordsError.Misfit → words_given (map string_bytes words.now) ≡ None }
+    ensures unlimited { IfOk result (λ given. given.options.map_max ≡ None) }
+    ensures rounds { IfOk result (λ given. IfSome given.generate (λ n. (1 ≤ n) × (n ≤ 10000))) }
+{
+    let command = match command(alloc) {
+        Ok(command) => command,
+        Err(Memory) => return Err(WordsError::Memory),
+    };
+    match command.try_get_matches_from(words) {
+        Ok(matches) => words_in(&matches).ok_or(WordsError::Misfit),
+        Err(error) => match error.kind() {
+            ErrorKind::OutOfMemory => Err(WordsError::Memory),
+            _ => Err(WordsError::Misfit),
+        },
+    }
+}
