@@ -1,5 +1,5 @@
 -- Numbers of `ok` lines: where no two lines carry one, as many lines commit before a line as their numbers allow.
-use Rattle.std.proofs.Common.{◌≡◌, ◌≢◌, ℕ, zero, suc, ◌+◌, ◌<◌, ◌≤◌, ◌==◌, inl, inr, IsTrue, List, [], ◌∷◌, length, take, slice_get, Option, Some, Ok, sym, ◌∙◌, subst, arith}
+use Rattle.std.proofs.Common.{◌≡◌, ◌≢◌, ℕ, ◌+◌, ◌<◌, ◌≤◌, ◌==◌, inl, inr, IsTrue, List, [], ◌∷◌, length, take, Option, Ok, sym, ◌∙◌, subst, arith}
 use Rattle.std.specs.Prelude.{⊤, count_by}
 use Rattle.std.specs.List.{AllByRecursion, cons_option}
 use Rattle.std.proofs.lemmas.Bool.{cases_lt, eqb-true}

@@ -1,6 +1,6 @@
 -- What makes small outputs placed in a written history: what each line owes, and tests that compute. Session n has pass n,
 -- and the two beginnings of line i are the i-th of a list, also where it is a `phase` line, which stands between phases.
-use Rattle.std.proofs.Common.{◌≡◌, ℕ, zero, suc, ◌+◌, ◌≤◌, Bool, true, false, not, ◌||◌, nat_le, IsTrue, List, [], ◌∷◌, Contains, length, take, slice_get, get_or, Option, Some, Ok, Err, refl, ap, sym, ◌∙◌, subst, arith}
+use Rattle.std.proofs.Common.{◌≡◌, ℕ, zero, suc, ◌+◌, ◌≤◌, Bool, true, false, not, ◌||◌, nat_le, List, [], ◌∷◌, Contains, length, take, slice_get, get_or, Some, Ok, Err, refl, subst, arith}
 use Rattle.std.specs.Prelude.{⊤, count_by}
 use Rattle.std.specs.List.{list_all}
 use Rattle.std.proofs.lemmas.Bool.{leb-true, false≢true}
@@ -17,7 +17,7 @@ use Rattle.pol_run.proofs.ByIndex.{spot_of, spot_listed, stands_before_known}
 use Rattle.pol_history.specs.declared.event.HistoryEvent.{HistoryEvent}
 use Rattle.pol_history.specs.declared.event.HistoryEvent.TheVariants as event
 use Rattle.pol_history.specs.Commits.{commits_by}
-use Rattle.pol_placed.specs.Placed.{Allows, IsLineOf, IsPassOfLine, IsPlaced, requests_ok}
+use Rattle.pol_placed.specs.Placed.{Allows, IsLineOf, IsPlaced, requests_ok}
 use Rattle.pol_history.proofs.Lists.{no_element}
 use Rattle.pol_placed.proofs.Places.{same_element}
 use Rattle.pol_placed.proofs.SessionCounts.{found_line, has_line}

@@ -1,6 +1,6 @@
 -- What a placed `synced` line tells is right: its rows are exact, and none is missing.
-use Rattle.std.proofs.Common.{◌≡◌, ℕ, zero, suc, ◌<◌, ◌≤◌, inl, inr, not, IsTrue, List, [], ◌∷◌, take, slice_get, Option, None, Some, ap, sym, ◌∙◌, subst, arith}
-use Rattle.std.specs.List.{AllByRecursion, Contains}
+use Rattle.std.proofs.Common.{◌≡◌, ℕ, ◌<◌, ◌≤◌, inl, inr, not, IsTrue, List, [], ◌∷◌, take, slice_get, Option, None, Some, ap, sym, ◌∙◌, subst, arith}
+use Rattle.std.specs.List.{Contains}
 use Rattle.pol_model.specs.PolicyMap.{map_size}
 use Rattle.pol_model.specs.declared.answer.FullSlot.{FullSlot}
 use Rattle.pol_model.specs.declared.options.Options.{Options}

@@ -1,8 +1,7 @@
-use Rattle.std.proofs.Common.{◌≡◌, ℕ, ◌<◌, inl, inr, List, [], ◌∷◌, take, refl, subst, arith}
-use Rattle.pol_model.specs.declared.row.Endpoint.{Endpoint}
+use Rattle.std.proofs.Common.{◌≡◌, ℕ, ◌<◌, inr, [], ◌∷◌, take, refl, subst, arith}
 use Rattle.pol_history.specs.declared.event.EndpointId.{EndpointId}
-use Rattle.pol_history.specs.Calls.{HasPublish, HasRow}
-use Rattle.pol_history.specs.Commits.{Lives, state_after}
+use Rattle.pol_history.specs.Calls.{HasPublish}
+use Rattle.pol_history.specs.Commits.{state_after}
 use Rattle.pol_history.specs.Reports.{IsReport}
 use Rattle.pol_history.proofs.LegalEvents.{each_legal}
 use Rattle.pol_run.specs.ExampleLines.{unlimited}

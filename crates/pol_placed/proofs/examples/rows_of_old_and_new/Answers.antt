@@ -1,4 +1,4 @@
-use Rattle.std.proofs.Common.{◌≡◌, ℕ, zero, suc, ◌<◌, List, [], ◌∷◌, take, slice_get, Option, None, Some, refl, ap, sym, ◌∙◌, subst, arith}
+use Rattle.std.proofs.Common.{◌≡◌, ℕ, zero, suc, ◌<◌, List, [], ◌∷◌, take, slice_get, Some, refl, ap, sym, ◌∙◌, subst, arith}
 use Rattle.std.specs.List.{AllByRecursion}
 use Rattle.pol_model.specs.declared.answer.FullSlot.{FullSlot}
 use Rattle.pol_history.specs.declared.event.EndpointId.{EndpointId}
@@ -6,7 +6,7 @@ use Rattle.pol_history.specs.declared.event.HistoryEvent.{HistoryEvent}
 use Rattle.pol_history.specs.declared.event.HistoryEvent.TheVariants as event
 use Rattle.pol_history.specs.Calls.{IsRowOf}
 use Rattle.pol_history.specs.Commits.{Lives, state_after, state_now}
-use Rattle.pol_history.specs.Reports.{IsReport, Reports}
+use Rattle.pol_history.specs.Reports.{IsReport}
 use Rattle.pol_history.proofs.LegalEvents.{each_legal}
 use Rattle.pol_run.specs.ExampleLines.{full, one_entry, web}
 use Rattle.pol_run.specs.RightRuns as lines
