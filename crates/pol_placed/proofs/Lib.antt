@@ -13,3 +13,5 @@ pub mod Held
 pub mod Placing
 pub mod Sole
 pub mod PlayingOn
+pub mod PhaseLines
+pub mod Phased

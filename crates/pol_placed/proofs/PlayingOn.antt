@@ -23,8 +23,7 @@ pub plays_grow : (options : Options) (pass : ℕ) (old new : List HistoryEvent) 
     → IsPrefix old new
 plays_grow options pass old new [] plays = ([], append-nil old ∙ plays)
 plays_grow options pass old new (first ∷ later) plays =
-    let further = plays_grow options pass plays.0 new later plays.3 in
-    (
+    let further = plays_grow options pass plays.0 new later plays.3 in (
       plays.1.0 ++ further.0,
       sym (append_assoc old plays.1.0 further.0) ∙ ap (λ (h : List HistoryEvent). h ++ further.0) plays.1.1 ∙ further.1,
     )

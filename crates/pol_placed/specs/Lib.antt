@@ -1,5 +1,6 @@
 pub mod Placed
 pub mod Session
+pub mod Phases
 pub mod HistoryOfRun
 pub mod LawOfRuns
 pub mod Examples

@@ -1,11 +1,13 @@
-//! Laws of playing the lines of one session, over the definitions alone.
+//! Laws of playing the lines of sessions, over the definitions alone.
 ghost use Rattle.std.specs.Prelude.{◌++◌, ◌∷◌, [], List, Ok, ℕ};
 ghost use mathlib.Core.List.{IsPrefix};
 ghost use Rattle.pol_model.specs.declared.options.Options.{Options};
 ghost use Rattle.pol_answer.specs.declared.answer.Answer.{Answer};
 ghost use Rattle.pol_script.specs.declared.command.Command.{Command};
+ghost use Rattle.pol_run.specs.Spots.{Line};
 ghost use Rattle.pol_history.specs.declared.event.HistoryEvent.{HistoryEvent};
-ghost use Rattle.pol_placed.specs.Placed.{Allows};
+ghost use Rattle.pol_placed.specs.Phases.{ArePlayedInPhases};
+ghost use Rattle.pol_placed.specs.Placed.{Allows, IsPlaced};
 ghost use Rattle.pol_placed.specs.Session.{PlaysOn};
 
 /// One line more: where its call allows the answer from what was seen so far, the session plays on. And what was seen
@@ -16,4 +18,11 @@ pub fn sessions_play_on()
         → PlaysOn options pass old new (played ++ (command, told) ∷ []) }
     ensures grows { (options : Options) (pass : ℕ) (old new : List HistoryEvent) (played : List (Command × Answer))
         → PlaysOn options pass old new played → IsPrefix old new }
+{}
+
+/// Lines that sessions play phase by phase, and whose passes meet at the end of each phase, are placed in one history
+/// ('profile').
+pub fn played_lines_are_placed()
+    ensures { (options : Options) (history : List HistoryEvent) (lines : List Line)
+        → ArePlayedInPhases options history lines → IsPlaced options history lines }
 {}
