@@ -1,10 +1,12 @@
 #!/usr/bin/env python3
-"""How long policyd takes for many lines, and how much memory: by doubling, and for a script of verdicts.
+"""How long policyd takes for many lines, and how much memory, by doubling.
 
-    bench/lines.py          plays `{"op":"sync"}` 250,000, 500,000 and 1,000,000 times, and then 256
-                            endpoints, 64 policies and 25,000, 50,000 and 100,000 verdicts
+    bench/lines.py          plays `{"op":"sync"}` up to 1,000,000 times; up to 400,000 lines of endpoints that are
+                            refused once they are read; 256 endpoints, 64 policies and up to 100,000 verdicts,
+                            and as many traces; and generated scripts of up to 10,000 rounds
 
-Each row has the seconds, the peak memory in MiB, and the ratio of its seconds to those of the row before.
+Each row has the seconds, the peak memory in MiB, the megabytes of the script for a second, and the ratio of its
+seconds to those of the row before.
 """
 import json
 import os
@@ -44,13 +46,26 @@ def verdicts(count):
     return "".join([*map(endpoint, range(256)), *map(policy, range(64)), *map(verdict, range(count))])
 
 
-def measured(script):
-    """The seconds and the peak memory, in MiB, of a run on the script."""
+def trace(i):
+    return verdict(i).replace('"op":"verdict"', '"op":"trace"')
+
+
+def traces(count):
+    return "".join([*map(endpoint, range(256)), *map(policy, range(64)), *map(trace, range(count))])
+
+
+def readings(count):
+    """Lines that are read to their end and then refused for their address, so that nothing else is measured."""
+    return "".join(endpoint(i).replace('"address":"10', '"address":"310') for i in range(count))
+
+
+def measured(words, script):
+    """The seconds and the peak memory, in MiB, of a run with the words on the script."""
     with tempfile.TemporaryFile() as file:
         file.write(script.encode())
         file.seek(0)
         before = time.monotonic()
-        child = subprocess.Popen([PROGRAM], stdin=file, stdout=subprocess.DEVNULL)
+        child = subprocess.Popen([PROGRAM, *words], stdin=file, stdout=subprocess.DEVNULL)
         _, status, used = os.wait4(child.pid, 0)
         seconds = time.monotonic() - before
     if os.waitstatus_to_exitcode(status) not in (0, 1):
@@ -58,13 +73,24 @@ def measured(script):
     return seconds, used.ru_maxrss / 1024
 
 
+MEASURED = (
+    ("synchronisations", syncs, (250_000, 500_000, 1_000_000)),
+    ("lines read alone", readings, (100_000, 200_000, 400_000)),
+    ("verdicts", verdicts, (25_000, 50_000, 100_000)),
+    ("traces", traces, (25_000, 50_000, 100_000)),
+    ("rounds generated", None, (1250, 2500, 5000, 10_000)),
+)
+
+
 def main():
-    for name, script, counts in (("synchronisations", syncs, (250_000, 500_000, 1_000_000)), ("verdicts", verdicts, (25_000, 50_000, 100_000))):
+    for name, make, counts in MEASURED:
         last = None
         for count in counts:
-            seconds, memory = measured(script(count))
+            script = make(count) if make else ""
+            seconds, memory = measured([] if make else ["--generate", str(count)], script)
             ratio = "" if last is None else f"  x{seconds / last:.2f}"
-            print(f"{count:>9} {name:<17} {seconds:8.2f} s {memory:9.1f} MiB{ratio}", flush=True)
+            speed = f"  {len(script) / seconds / 1e6:.1f} MB/s" if make else ""
+            print(f"{count:>9} {name:<17} {seconds:8.2f} s {memory:9.1f} MiB{speed}{ratio}", flush=True)
             last = seconds
 
 
