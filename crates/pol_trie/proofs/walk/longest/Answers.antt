@@ -45,7 +45,7 @@ loop-at-preserved g c =
     (subst L c.in-Some.is c.loop-at.invariant.walks) in
     record {
       well = subst W (sym c.child-at.ensures) (well_below p i n high there (well_here p c.loop-at.at i c.in-Some.is c.loop-at.invariant.well));
-      walks = rw (c.child-at.ensures, c.or-best.ensures, c.tick.ensures) on;
+      walks = rw (c.child-at.ensures, c.or-best.ensures, c.kind.ensures, c.tick.ensures) on;
     }
 
 pub returns-clause-kind : goal.returns-clause-kind
