@@ -1,11 +1,11 @@
-use Rattle.std.proofs.Common.{◌≡◌, ℕ, ◌+◌, ◌<◌, ◌≤◌, Bool, true, false, Option, Some, is_some, IsSome, refl, sym, ap, subst, ◌∙◌, arith}
+use Rattle.std.proofs.Common.{◌≡◌, ℕ, ◌+◌, ◌<◌, Option, Some, is_some, IsSome, refl, sym, ap, subst, ◌∙◌, arith}
 use Rattle.pol_ports.specs.declared.PortPrefix.{PortPrefix}
-use Rattle.pol_trie.specs.Tree.{Tree, Takes, node_count}
+use Rattle.pol_trie.specs.Tree.{node_count}
 use Rattle.pol_trie.specs.Links.{child}
-use Rattle.pol_trie.specs.Standing.{Holds, HasRoom, IsBelow, Becomes}
+use Rattle.pol_trie.specs.Standing.{Holds, HasRoom, IsBelow}
 use Rattle.pol_trie.proofs.Prefixes.{half_lo, half_hi}
 use Rattle.pol_trie.proofs.Stand.{not_below, depth}
-use Rattle.pol_trie.proofs.Putting.{with_kind, Changed, becomes, here_changed, below_changed, leaf_put}
+use Rattle.pol_trie.proofs.Putting.{with_kind, becomes, here_changed, below_changed, leaf_put}
 use Rattle.pol_trie.proofs.Seeking.{shallower, below_of}
 use Rattle.pol_trie.proofs.Calls.{well_here, room_here, well_of, used_here, room_at_none, room_below, is_below, takes_below}
 use Rattle.pol_trie.proofs.put.+put.Goals as goal

@@ -1,6 +1,5 @@
-use Rattle.std.proofs.Common.{◌≡◌, ◌<◌, Option, ℕ, Some, None, sym, subst, ◌∙◌, arith}
+use Rattle.std.proofs.Common.{Option, ℕ, sym, subst, ◌∙◌}
 use Rattle.pol_trie.specs.Standing.{IsWell}
-use Rattle.pol_trie.proofs.Stand.{depth}
 use Rattle.pol_trie.proofs.Seeking.{LeadsTo, way_starts, way_on, way_ends, way_is_over, well_below, shallower}
 use Rattle.pol_trie.proofs.Calls.{well_here, used_here}
 use Rattle.pol_trie.proofs.walk.kind_at.Goals as goal
