@@ -1,21 +1,21 @@
 -- What a call below a link may rest on.
-use Rattle.std.proofs.Common.{◌≡◌, ℕ, ◌+◌, ◌<◌, ◌≤◌, Bool, true, false, not, if◌then◌else◌, Option, Some, None, is_some, IsSome, refl, sym, ap, subst, ◌∙◌, arith}
-use Rattle.std.proofs.lemmas.Bool.{cases_Bool, both_ways}
-use Rattle.pol_arena.specs.Pool.{Pool, node_at, nodes_in_use, Updates}
+use Rattle.std.proofs.Common.{◌≡◌, ℕ, ◌+◌, ◌≤◌, Bool, true, false, if◌then◌else◌, Option, Some, None, IsSome, refl, sym, ap, subst, ◌∙◌, arith}
+use Rattle.std.proofs.lemmas.Bool.{both_ways}
+use Rattle.pol_arena.specs.Pool.{Pool, node_at}
 use Rattle.pol_ports.specs.declared.PortPrefix.{PortPrefix}
 use Rattle.pol_ports.specs.PortPrefix.{end_of, same_prefix, prefix_contains}
 use Rattle.pol_ports.proofs.Containing.{contains_from}
 use Rattle.pol_ports.proofs.Same.{same_prefix-is}
 use Rattle.pol_mapkey.specs.declared.Kind.{Kind}
 use Rattle.pol_trie.specs.declared.node.Node.{Node}
-use Rattle.pol_trie.specs.Tree.{Tree, Leaf, Fork, is_upper, kind_in, Inside, Takes, Fits, IsTight, node_count}
+use Rattle.pol_trie.specs.Tree.{Tree, is_upper, kind_in, Inside, Takes, Fits, node_count}
 use Rattle.pol_trie.specs.Links.{child}
-use Rattle.pol_trie.specs.Standing.{Stands, Holds, IsWell, HasRoom, IsBelow, LooselyHolds, IsLoose, Becomes}
-use Rattle.pol_trie.proofs.Prefixes.{half_lo, half_hi, inside_longer, not_back, takes_in_half, differs_from}
-use Rattle.pol_trie.proofs.Trees.{forked, within, outside}
-use Rattle.pol_trie.proofs.Stand.{root, in_use, unlinked_is_leaf, depth}
+use Rattle.pol_trie.specs.Standing.{Stands, Holds, IsWell, HasRoom, IsBelow, IsLoose, Becomes}
+use Rattle.pol_trie.proofs.Prefixes.{half_lo, half_hi, inside_longer, not_back, takes_in_half}
+use Rattle.pol_trie.proofs.Trees.{forked, outside}
+use Rattle.pol_trie.proofs.Stand.{root, in_use, unlinked_is_leaf}
 use Rattle.pol_trie.proofs.Putting.{Changed, with_kind}
-use Rattle.pol_trie.proofs.Seeking.{Below, below_of, kind_in-side, well_below, shallower}
+use Rattle.pol_trie.proofs.Seeking.{below_of, kind_in-side}
 
 pub well_here : (p : Pool Node) (link : Option ℕ) (i : ℕ) → link ≡ Some i → IsWell p link → IsWell p (Some i)
 well_here p link i is w = (let P : Option ℕ → Type 0 = λ o. IsWell p o in subst P is w)

@@ -1,5 +1,5 @@
 -- How many keys and nodes there are.
-use Rattle.std.proofs.Common.{◌≡◌, ℕ, ◌+◌, ◌-◌, ◌*◌, ◌^◌, ◌<◌, ◌≤◌, Bool, true, false, not, cond, if◌then◌else◌, zero, suc, drop, slice_get, List, [], ◌∷◌, ◌++◌, length, map, flat_map, T, Option, Some, None, is_some, refl, sym, ap, subst, ◌∙◌, inl, inr, arith}
+use Rattle.std.proofs.Common.{◌≡◌, ℕ, ◌+◌, ◌*◌, ◌^◌, ◌≤◌, false, cond, if◌then◌else◌, zero, suc, drop, slice_get, List, [], ◌∷◌, ◌++◌, length, map, flat_map, T, Option, Some, None, is_some, refl, sym, ap, subst, ◌∙◌, arith}
 use Rattle.std.proofs.lemmas.List.{length-append, length-map}
 use Rattle.std.proofs.lemmas.Option.{same_Some}
 use Rattle.std.specs.Cmp.{IsTotalOrder}
@@ -8,7 +8,7 @@ use Rattle.std.specs.List.{AllByRecursion, IsDistinct}
 use Rattle.std.specs.Map.{keys_of}
 use Rattle.std.specs.declared.cmp.Ordering.{Ordering}
 use Rattle.std.specs.declared.cmp.Ordering.TheVariants.{Equal}
-use Rattle.pol_data.proofs.Every.{every-append, every-map, every-weaker}
+use Rattle.pol_data.proofs.Every.{every-append, every-weaker}
 use Rattle.pol_ports.specs.declared.PortPrefix.{PortPrefix}
 use Rattle.pol_ports.specs.declared.Proto.{Proto}
 use Rattle.pol_ports.specs.declared.Proto.TheVariants.{Tcp as TcpPackets, Udp as UdpPackets, Sctp as SctpPackets}
@@ -16,25 +16,24 @@ use Rattle.pol_ports.specs.PortPrefix.{end_of, prefix_cmp}
 use Rattle.pol_mapkey.specs.declared.KeyProto.{KeyProto}
 use Rattle.pol_mapkey.specs.declared.KeyProto.TheVariants.{Every, Tcp, Udp, Sctp}
 use Rattle.pol_mapkey.specs.declared.Kind.{Kind}
-use Rattle.pol_mapkey.specs.declared.MapKey.{MapKey}
 use Rattle.pol_mapkey.specs.KeyProto.{key_proto}
 use Rattle.pol_mapkey.specs.MapKey.{key_cmp, port_key}
 use Rattle.pol_mapkey.specs.Entries.{Entry}
 use Rattle.pol_trie.specs.declared.root.Root.{Root}
 use Rattle.pol_trie.specs.declared.key_set.KeySet.{KeySet}
 use Rattle.pol_trie.specs.PortMap.{PortMap}
-use Rattle.pol_trie.specs.Tree.{Tree, Leaf, Fork, middle, kind_in, Inside, Fits, IsFork, IsNeeded, IsTight, node_count, listed, entry_before}
+use Rattle.pol_trie.specs.Tree.{Tree, Leaf, Fork, middle, Inside, Fits, IsFork, IsTight, node_count, listed, entry_before}
 use Rattle.pol_trie.specs.Roots.{root_of, every_entry, port_entries, entries_of, policy_of, row_keys}
 use Rattle.pol_trie.specs.KeySet.{key_count}
-use Rattle.pol_trie.specs.Standing.{IsTrie, ports_of, tree_at}
+use Rattle.pol_trie.specs.Standing.{IsTrie, ports_of}
 use Rattle.pol_trie.specs.declared.node.Node.{Node}
 use Rattle.pol_arena.specs.Pool.{Pool, node_at}
 use Rattle.pol_trie.proofs.Reading.{both_true, less_than, not_less, found_listed}
 use Rattle.pol_trie.proofs.RootLemmas.{ports_own, missed_ports, found_nowhere}
 use Rattle.pol_trie.proofs.RootCalls.{Rows, same_root, same_root-is, same_root-self}
-use Rattle.pol_trie.proofs.KeyOrder.{prefix_cmp_total, prefix_cmp-same, key_cmp_total, key_cmp-same}
+use Rattle.pol_trie.proofs.KeyOrder.{prefix_cmp_total, prefix_cmp-same, key_cmp_total}
 use Rattle.pol_trie.proofs.Prefixes.{middle_within, not_empty}
-use Rattle.pol_trie.proofs.Trees.{first_some, outside}
+use Rattle.pol_trie.proofs.Trees.{outside}
 use Rattle.pol_trie.proofs.Listing.{either, find-either, find-listed, tree_at-stands}
 
 -- ---- a list in which no key stands twice

@@ -1,5 +1,5 @@
 -- A walk toward a port meets exactly the prefixes that have it, the longest last.
-use Rattle.std.proofs.Common.{◌≡◌, ℕ, ◌+◌, ◌-◌, ◌<◌, ◌≤◌, Bool, true, false, nat_lt, if◌then◌else◌, filter, fold, List, [], ◌∷◌, ◌++◌, Option, Some, None, refl, sym, ap, subst, ◌∙◌, inl, inr, ◌⊎◌, arith}
+use Rattle.std.proofs.Common.{◌≡◌, ℕ, ◌+◌, ◌<◌, ◌≤◌, Bool, true, false, nat_lt, if◌then◌else◌, filter, List, [], ◌∷◌, ◌++◌, Option, Some, None, refl, sym, ap, ◌∙◌, inl, inr, ◌⊎◌, arith}
 use Rattle.std.specs.Option.{option_or}
 use Rattle.std.proofs.lemmas.Bool.{cases_lt, cases_Bool, both_ways, lt-ltb, le-ltb}
 use Rattle.std.proofs.lemmas.List.{append-nil}
@@ -7,7 +7,7 @@ use Rattle.pol_ports.specs.declared.PortPrefix.{PortPrefix}
 use Rattle.pol_ports.specs.PortPrefix.{end_of, prefix_holds}
 use Rattle.pol_ports.proofs.Containing.{holds_is, holds_from}
 use Rattle.pol_mapkey.specs.declared.Kind.{Kind}
-use Rattle.pol_trie.specs.Tree.{Tree, Leaf, Fork, middle, walk, met, Ascends, last_of, Inside, Fits, listed, entry_before}
+use Rattle.pol_trie.specs.Tree.{Tree, Leaf, Fork, middle, walk, met, Ascends, last_of, Fits, listed, entry_before}
 use Rattle.pol_trie.proofs.Prefixes.{middle_within}
 
 abbrev Entries : Type 0

@@ -1,10 +1,10 @@
 -- Prefixes as intervals of ports, and the halves of one.
-use Rattle.std.proofs.Common.{◌≡◌, ℕ, suc, ◌+◌, ◌-◌, ◌*◌, ◌/◌, ◌%◌, ◌^◌, ◌<◌, ◌≤◌, Bool, true, false, nat_lt, nat_le, not, if◌then◌else◌, refl, sym, ap, ◌∙◌, inl, inr, ◌⊎◌, arith}
-use Rattle.std.proofs.lemmas.Bool.{cases_lt, cases_Bool, both_ways, and_parts, and_from, leb-true, le-leb, ltb-true, lt-ltb}
+use Rattle.std.proofs.Common.{◌≡◌, ℕ, suc, ◌+◌, ◌-◌, ◌*◌, ◌%◌, ◌^◌, ◌<◌, ◌≤◌, Bool, true, false, nat_le, not, refl, sym, ap, ◌∙◌, inl, inr, ◌⊎◌, arith}
+use Rattle.std.proofs.lemmas.Bool.{cases_lt, cases_Bool, both_ways, and_parts, and_from, leb-true, le-leb}
 use Rattle.std.proofs.lemmas.Nat.{pow_pos}
 use Rattle.std.proofs.Math.Nat.{pow-suc}
 use Rattle.pol_ports.specs.declared.PortPrefix.{PortPrefix}
-use Rattle.pol_ports.specs.PortPrefix.{end_of, port_count, same_prefix, prefix_contains, prefix_holds}
+use Rattle.pol_ports.specs.PortPrefix.{end_of, same_prefix, prefix_contains}
 use Rattle.pol_ports.proofs.Blocks.{multiples_apart, smaller_multiple, sum_multiple, shorter_contains}
 use Rattle.pol_ports.proofs.Containing.{contains_is, contains_from, contains_both, contains_three, contains_itself}
 use Rattle.pol_ports.proofs.Same.{same_prefix-self, same_prefix-is}

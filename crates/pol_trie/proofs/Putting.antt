@@ -1,5 +1,5 @@
 -- What changes of the pool make of the tree that stands below a link.
-use Rattle.std.proofs.Common.{◌≡◌, ℕ, ◌+◌, ◌-◌, ◌<◌, ◌≤◌, nat_lt, Bool, true, false, not, ◌&&◌, ◌||◌, if◌then◌else◌, Option, Some, None, is_some, IsSome, refl, sym, ap, subst, ◌∙◌, inl, inr, ◌⊎◌, arith}
+use Rattle.std.proofs.Common.{◌≡◌, ℕ, ◌+◌, ◌≤◌, nat_lt, Bool, true, false, not, ◌&&◌, ◌||◌, if◌then◌else◌, Option, Some, None, is_some, IsSome, refl, sym, ap, subst, ◌∙◌, inl, inr, ◌⊎◌, arith}
 use Rattle.std.specs.Option.{option_or}
 use Rattle.std.proofs.lemmas.Bool.{both_ways, leb-true, le-leb}
 use Rattle.pol_arena.specs.Pool.{Pool, node_at, nodes_in_use, Updates}
@@ -13,7 +13,7 @@ use Rattle.pol_trie.specs.Links.{child, with_child, node_of}
 use Rattle.pol_trie.specs.Standing.{Stands, Holds, LooselyHolds, Becomes}
 use Rattle.pol_trie.proofs.Prefixes.{half_lo, half_hi, half_within, halves_apart, in_half, not_empty}
 use Rattle.pol_trie.proofs.Trees.{forked, outside, Fits-widen, Fits-forked, forked-Fits, IsTight-forked, forked-IsTight, node_count-forked, changed_below, changed_here, put_over, put_beside, collapsed}
-use Rattle.pol_trie.proofs.Stand.{Root, root, Stands-kept, Stands-with_child, Stands-node_of, kept_by_write, kept_by_put, apart_from_inner, not_below, linked_is_fork, unlinked_is_leaf}
+use Rattle.pol_trie.proofs.Stand.{root, Stands-kept, Stands-with_child, Stands-node_of, kept_by_write, kept_by_put, apart_from_inner, not_below, linked_is_fork, unlinked_is_leaf}
 
 -- the kinds of a tree where one prefix has this one
 abbrev pub with_kind : PortPrefix → Option Kind → Tree → PortPrefix → Option Kind

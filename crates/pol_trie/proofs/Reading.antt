@@ -1,26 +1,22 @@
 -- What the entries of a map say of a packet, found by direction and identity.
-use Rattle.std.proofs.Common.{◌≡◌, ℕ, ◌^◌, ◌<◌, ◌≤◌, Bool, true, false, ◌&&◌, ◌||◌, ◌==◌, T, not, cond, if◌then◌else◌, List, [], ◌∷◌, Option, Some, None, is_some, IsSome, option_and_then, option_map, Contains, refl, sym, ap, subst, ◌∙◌, inl, inr, ◌⊎◌, arith}
+use Rattle.std.proofs.Common.{◌≡◌, ℕ, ◌^◌, ◌<◌, Bool, true, false, ◌&&◌, ◌==◌, T, cond, if◌then◌else◌, List, [], ◌∷◌, Option, Some, None, is_some, IsSome, option_map, Contains, refl, sym, ap, subst, ◌∙◌, inl, inr, ◌⊎◌, arith}
 use Rattle.std.specs.FinMap as finite
 use Rattle.std.specs.Option.{option_or}
 use Rattle.std.specs.Cmp.{IsTotalOrder}
-use Rattle.std.specs.List.{IsDistinct}
-use Rattle.std.specs.Map.{lookup, keys_of}
-use Rattle.std.specs.Ordering.{eq_by_cmp, is_lt, is_eq}
+use Rattle.std.specs.Ordering.{eq_by_cmp, is_lt}
 use Rattle.std.specs.declared.cmp.Ordering.{Ordering}
-use Rattle.std.specs.declared.cmp.Ordering.TheVariants.{Less, Equal, Greater}
-use Rattle.std.proofs.lemmas.Bool.{cases_Bool, both_ways, and_from, and_parts, eqb-true, eq-eqb, lt-ltb}
+use Rattle.std.specs.declared.cmp.Ordering.TheVariants.{Equal}
+use Rattle.std.proofs.lemmas.Bool.{cases_Bool, and_from, and_parts, eqb-true, eq-eqb}
 use Rattle.std.proofs.lemmas.Cmp.{tied_itself}
 use Rattle.std.proofs.lemmas.Option.{same_Some}
 use Rattle.pol_data.proofs.Members.{Contains-here, Contains-later, Contains-cases}
 use Rattle.pol_ports.specs.declared.Direction.{Direction}
 use Rattle.pol_ports.specs.declared.Proto.{Proto}
-use Rattle.pol_ports.specs.declared.PortPrefix.{PortPrefix}
-use Rattle.pol_ports.specs.PortPrefix.{empty_prefix, prefix_holds, prefix_contains, same_prefix, end_of}
+use Rattle.pol_ports.specs.PortPrefix.{empty_prefix, prefix_holds, same_prefix}
 use Rattle.pol_ports.proofs.Blocks.{shorter_contains}
 use Rattle.pol_ports.proofs.Containing.{holds_is, holds_from, contains_from, empty_contains}
 use Rattle.pol_ports.proofs.Same.{same_prefix-is}
-use Rattle.pol_mapkey.specs.declared.KeyProto.{KeyProto}
-use Rattle.pol_mapkey.specs.declared.KeyProto.TheVariants.{Every, Tcp, Udp, Sctp}
+use Rattle.pol_mapkey.specs.declared.KeyProto.TheVariants.{Every}
 use Rattle.pol_mapkey.specs.declared.Kind.{Kind}
 use Rattle.pol_mapkey.specs.declared.MapKey.{MapKey}
 use Rattle.pol_mapkey.specs.KeyProto.{key_proto, proto_covers}
@@ -28,14 +24,11 @@ use Rattle.pol_mapkey.specs.MapKey.{key_cmp, covers, covers_packet, every_key, p
 use Rattle.pol_mapkey.specs.Entries.{Entry, reaches, longest}
 use Rattle.pol_mapkey.proofs.Keys.{key_same, covers_from, packet_is, packet_from, proto_covers-self, proto_covers-cases, covers-self}
 use Rattle.pol_mapkey.proofs.Longest.{NoneReaches, IsLongest, OneKindAKey, longest_is, longest_none}
-use Rattle.pol_trie.specs.declared.root.Root.{Root}
 use Rattle.pol_trie.specs.declared.key_set.KeySet.{KeySet}
 use Rattle.pol_trie.specs.KeySet.{kind_of, Covering}
 use Rattle.pol_trie.specs.PortMap.{Decides, IsLongestOf, NoneHolds}
 use Rattle.pol_trie.specs.PolicyMap.{PolicyMap}
-use Rattle.pol_trie.specs.Roots.{root_of, policy_of, kind_at}
 use Rattle.pol_trie.proofs.KeyOrder.{key_cmp_total, key_cmp-same, tied_from, tied_is}
-use Rattle.pol_trie.proofs.RootLemmas.{get-policy_of}
 
 -- ---- the entries of a map are what it gives
 pub both_true : (a b : Bool) → T (a && b) → T a × T b

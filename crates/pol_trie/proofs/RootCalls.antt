@@ -1,5 +1,5 @@
 -- What calls on the keys by direction and identity make of the map.
-use Rattle.std.proofs.Common.{◌≡◌, ℕ, ◌+◌, ◌-◌, Bool, true, false, ◌&&◌, not, cond, if◌then◌else◌, List, [], ◌∷◌, Option, Some, None, is_some, is_none, IsSome, option_and_then, option_map, OnErr, refl, sym, ap, subst, ◌∙◌, arith}
+use Rattle.std.proofs.Common.{◌≡◌, Bool, true, false, ◌&&◌, not, cond, if◌then◌else◌, List, [], ◌∷◌, Option, Some, None, is_some, is_none, option_and_then, option_map, OnErr, refl, sym, ap, ◌∙◌}
 use Rattle.std.specs.FinMap as finite
 use Rattle.std.specs.Bool.{Decides}
 use Rattle.std.specs.List.{IsDistinct, AllZip}
@@ -21,7 +21,7 @@ use Rattle.pol_mapkey.specs.MapKey.{key_cmp}
 use Rattle.pol_trie.specs.declared.root.Root.{Root}
 use Rattle.pol_trie.specs.declared.key_set.KeySet.{KeySet}
 use Rattle.pol_trie.specs.contracts.root.RootPartialEq.TheImpl as root
-use Rattle.pol_trie.specs.KeySet.{kind_of, HasKind}
+use Rattle.pol_trie.specs.KeySet.{kind_of}
 use Rattle.pol_trie.specs.PolicyMap.{PolicyMap}
 use Rattle.pol_trie.specs.Roots.{root_of, policy_of, kind_at, word_of_kinds}
 use Rattle.pol_trie.proofs.KeyOrder.{key_cmp_total, key_cmp-same}

@@ -1,10 +1,10 @@
 -- The map of the keys of all directions and identities.
-use Rattle.std.proofs.Common.{◌≡◌, ℕ, Bool, true, false, ◌&&◌, cond, if◌then◌else◌, List, [], ◌∷◌, ◌++◌, map, Option, Some, None, is_some, IsSome, option_and_then, flat_map, refl, sym, ap, subst, ◌∙◌, inl, inr, arith}
+use Rattle.std.proofs.Common.{◌≡◌, Bool, true, false, ◌&&◌, cond, if◌then◌else◌, List, [], ◌∷◌, ◌++◌, map, Option, Some, None, option_and_then, flat_map, refl, sym, ap, subst, ◌∙◌, inl, inr}
 use Rattle.std.specs.FinMap as finite
 use Rattle.std.specs.List.{IsDistinct, AllByRecursion}
 use Rattle.std.specs.Map.{lookup, keys_of}
 use Rattle.std.specs.Ordering.{eq_by_cmp}
-use Rattle.std.proofs.lemmas.Bool.{cases_Bool, both_ways, and_from, and_parts, eqb-true, eq-eqb}
+use Rattle.std.proofs.lemmas.Bool.{cases_Bool, both_ways, and_from, and_parts}
 use Rattle.pol_ports.specs.declared.Proto.{Proto}
 use Rattle.pol_ports.specs.declared.Proto.TheVariants.{Tcp as TcpPackets, Udp as UdpPackets, Sctp as SctpPackets}
 use Rattle.pol_ports.specs.declared.PortPrefix.{PortPrefix}
@@ -25,7 +25,7 @@ use Rattle.pol_trie.specs.PortMap.{PortMap}
 use Rattle.pol_trie.specs.PolicyMap.{PolicyMap}
 use Rattle.pol_trie.specs.Roots.{root_of, every_entry, port_entries, entries_of, policy_of, kind_at}
 use Rattle.pol_trie.proofs.KeyOrder.{key_cmp_total, key_cmp-same, tied_from, tied_is, untied_from, prefix_cmp_total, prefix_cmp-same}
-use Rattle.pol_trie.proofs.Prefixes.{same_from, differs_from}
+use Rattle.pol_trie.proofs.Prefixes.{same_from}
 use Rattle.pol_trie.proofs.Listing.{either, find-either}
 
 abbrev key_tie : MapKey → MapKey → Bool

@@ -1,5 +1,5 @@
 -- A step of a walk from one node down to the next.
-use Rattle.std.proofs.Common.{◌≡◌, ℕ, ◌+◌, ◌-◌, ◌<◌, ◌≤◌, Bool, true, false, not, Option, Some, None, is_some, IsSome, refl, sym, ap, subst, ◌∙◌, inl, inr, arith}
+use Rattle.std.proofs.Common.{◌≡◌, ℕ, ◌+◌, ◌<◌, Bool, true, false, Option, Some, None, refl, sym, ap, subst, ◌∙◌, inl, inr, arith}
 use Rattle.std.specs.Option.{option_or}
 use Rattle.std.proofs.lemmas.Bool.{cases_lt, both_ways, leb-true, le-leb}
 use Rattle.pol_arena.specs.Pool.{Pool, node_at}
@@ -8,9 +8,9 @@ use Rattle.pol_ports.specs.PortPrefix.{same_prefix, prefix_holds}
 use Rattle.pol_ports.proofs.Same.{same_prefix-is}
 use Rattle.pol_mapkey.specs.declared.Kind.{Kind}
 use Rattle.pol_trie.specs.declared.node.Node.{Node}
-use Rattle.pol_trie.specs.Tree.{Tree, Leaf, Fork, is_upper, middle, kind_in, walk, visits, Fits, IsTight}
+use Rattle.pol_trie.specs.Tree.{Tree, is_upper, middle, kind_in, walk, visits, Fits, IsTight}
 use Rattle.pol_trie.specs.Links.{child}
-use Rattle.pol_trie.specs.Standing.{Stands, Holds, IsWell}
+use Rattle.pol_trie.specs.Standing.{Holds, IsWell}
 use Rattle.pol_trie.proofs.Prefixes.{half_lo, half_hi, same_from}
 use Rattle.pol_trie.proofs.Trees.{forked, forked-Fits, forked-IsTight, kind_in-here, kind_in-low, kind_in-high}
 use Rattle.pol_trie.proofs.Stand.{root, depth, depth_below, unlinked_is_leaf}

@@ -1,15 +1,15 @@
 -- Trees that stand in a pool.
 use Rattle.std.proofs.Common.{◌≡◌, ◌≢◌, ℕ, ◌+◌, ◌-◌, ◌<◌, ◌≤◌, Bool, true, false, not, Option, Some, None, is_some, IsSome, refl, sym, ap, subst, ◌∙◌, arith}
 use Rattle.std.proofs.lemmas.Option.{same_Some}
-use Rattle.pol_arena.specs.Pool.{Pool, node_at, nodes_in_use, Updates}
+use Rattle.pol_arena.specs.Pool.{Pool, node_at, Updates}
 use Rattle.pol_ports.specs.declared.PortPrefix.{PortPrefix}
 use Rattle.pol_ports.specs.PortPrefix.{end_of}
 use Rattle.pol_mapkey.specs.declared.Kind.{Kind}
 use Rattle.pol_trie.specs.declared.node.Node.{Node}
-use Rattle.pol_trie.specs.Tree.{Tree, Leaf, Fork, middle, Inside, Fits, IsFork, IsTight, IsLooselyTight}
+use Rattle.pol_trie.specs.Tree.{Tree, Leaf, Fork, middle, Inside, Fits, IsFork}
 use Rattle.pol_trie.specs.Links.{child, with_child, node_of}
-use Rattle.pol_trie.specs.Standing.{Stands, Holds, IsWell}
-use Rattle.pol_trie.proofs.Prefixes.{middle_within, half_lo, half_hi}
+use Rattle.pol_trie.specs.Standing.{Stands}
+use Rattle.pol_trie.proofs.Prefixes.{middle_within}
 use Rattle.pol_trie.proofs.Trees.{forked}
 
 -- a tree stands also in another pool, where the nodes that belong there are as they were

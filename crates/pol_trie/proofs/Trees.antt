@@ -1,12 +1,12 @@
 -- Trees of port prefixes.
-use Rattle.std.proofs.Common.{◌≡◌, ℕ, ◌+◌, ◌<◌, ◌≤◌, Bool, true, false, not, nat_lt, nat_le, if◌then◌else◌, Option, Some, None, is_some, IsSome, refl, sym, ap, subst, ◌∙◌, inl, inr, ◌⊎◌, arith}
-use Rattle.std.proofs.lemmas.Bool.{cases_lt, cases_Bool, both_ways, leb-true, le-leb, ltb-true, lt-ltb, le-ltb}
+use Rattle.std.proofs.Common.{◌≡◌, ℕ, ◌+◌, ◌<◌, ◌≤◌, Bool, true, false, not, nat_lt, if◌then◌else◌, Option, Some, None, is_some, IsSome, refl, sym, ap, subst, ◌∙◌, inl, inr, ◌⊎◌, arith}
+use Rattle.std.proofs.lemmas.Bool.{cases_lt, cases_Bool, both_ways, lt-ltb, le-ltb}
 use Rattle.pol_ports.specs.declared.PortPrefix.{PortPrefix}
 use Rattle.pol_ports.specs.PortPrefix.{end_of, same_prefix}
 use Rattle.pol_ports.proofs.Same.{same_prefix-is}
 use Rattle.pol_mapkey.specs.declared.Kind.{Kind}
-use Rattle.pol_trie.specs.Tree.{Tree, Leaf, Fork, middle, kind_in, Inside, Fits, IsFork, IsNeeded, IsTight, node_count}
-use Rattle.pol_trie.proofs.Prefixes.{not_empty, middle_within, half_lo, half_hi, half_within, same_from, differs_from}
+use Rattle.pol_trie.specs.Tree.{Tree, Leaf, Fork, middle, kind_in, Inside, Fits, IsNeeded, IsTight, node_count}
+use Rattle.pol_trie.proofs.Prefixes.{not_empty, middle_within, half_lo, half_hi, same_from, differs_from}
 
 -- ---- where a prefix is sought
 pick_first : {A : Type 0} (a b : Bool) (x y z : A) → a ≡ true → (if a then x else (if b then y else z)) ≡ x

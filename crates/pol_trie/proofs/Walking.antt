@@ -1,21 +1,16 @@
 -- What a walk toward a port finds, and how many prefixes it visits.
-use Rattle.std.proofs.Common.{◌≡◌, ℕ, ◌+◌, ◌-◌, ◌<◌, ◌≤◌, Bool, true, false, not, nat_lt, nat_le, if◌then◌else◌, Option, Some, None, is_some, IsSome, refl, sym, ap, subst, ◌∙◌, inl, inr, ◌⊎◌, arith}
+use Rattle.std.proofs.Common.{◌≡◌, ℕ, ◌+◌, ◌-◌, ◌<◌, ◌≤◌, Bool, true, false, not, nat_lt, if◌then◌else◌, Option, Some, None, is_some, IsSome, refl, sym, ap, subst, ◌∙◌, inl, inr, ◌⊎◌, arith}
 use Rattle.std.specs.Option.{option_or}
-use Rattle.std.proofs.lemmas.Bool.{cases_lt, cases_Bool, both_ways, leb-true, le-leb, ltb-true, lt-ltb, le-ltb}
-use Rattle.pol_arena.specs.Pool.{Pool, node_at}
+use Rattle.std.proofs.lemmas.Bool.{cases_lt, cases_Bool, both_ways, leb-true, le-leb, lt-ltb, le-ltb}
 use Rattle.pol_ports.specs.declared.PortPrefix.{PortPrefix}
 use Rattle.pol_ports.specs.PortPrefix.{end_of, same_prefix, prefix_holds}
 use Rattle.pol_ports.proofs.Containing.{holds_is, holds_from}
 use Rattle.pol_ports.proofs.Same.{same_prefix-is}
 use Rattle.pol_mapkey.specs.declared.Kind.{Kind}
-use Rattle.pol_trie.specs.declared.node.Node.{Node}
-use Rattle.pol_trie.specs.PortMap.{Decides, IsLongestOf, NoneHolds}
-use Rattle.pol_trie.specs.Tree.{Tree, Leaf, Fork, is_upper, middle, kind_in, walk, visits, Inside, Fits, IsTight}
-use Rattle.pol_trie.specs.Links.{child}
-use Rattle.pol_trie.specs.Standing.{Holds}
+use Rattle.pol_trie.specs.PortMap.{Decides}
+use Rattle.pol_trie.specs.Tree.{Tree, Leaf, Fork, is_upper, middle, kind_in, walk, visits, Inside, Fits}
 use Rattle.pol_trie.proofs.Prefixes.{half_lo, half_hi, same_from, differs_from}
-use Rattle.pol_trie.proofs.Trees.{forked, first_some, within, kind_in-forked, forked-Fits, forked-IsTight, kind_in-here, kind_in-low, kind_in-high}
-use Rattle.pol_trie.proofs.Stand.{root}
+use Rattle.pol_trie.proofs.Trees.{forked, first_some, within, kind_in-forked, forked-Fits}
 
 or_none : (o : Option Kind) → option_or o None ≡ o
 or_none None = refl

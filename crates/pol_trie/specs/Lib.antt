@@ -1,5 +1,6 @@
 pub mod PortMap
 pub mod PolicyMap
+pub mod Node
 pub mod Tree
 pub mod Links
 pub mod Standing

@@ -1,5 +1,5 @@
 -- A policy map as a value: the finite map from keys to kinds.
-use Rattle.std.specs.Prelude.{◌≡◌, ℕ, Bool, true, false, if◌then◌else◌, List, refl}
+use Rattle.std.specs.Prelude.{◌≡◌, Bool, true, false, if◌then◌else◌, refl}
 use Rattle.std.specs.Coded.{Coded, code_by, coded×, coded_ℕ, coded_bool}
 use Rattle.std.specs.FinMap.{FinMap, code}
 use Rattle.std.proofs.Common.{ap}

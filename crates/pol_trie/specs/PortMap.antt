@@ -1,7 +1,7 @@
 -- The keys of one direction, identity and protocol as a finite map, from port prefixes to kinds.
 use Rattle.std.specs.Prelude.{◌≡◌, ℕ, ◌≤◌, Bool, true, false, Option, Some, IsSome, MatchOption, refl}
 use Rattle.std.specs.Coded.{Coded, code_by, coded×, coded_ℕ, coded_bool}
-use Rattle.std.specs.FinMap.{FinMap, get, code}
+use Rattle.std.specs.FinMap.{FinMap, code}
 use Rattle.std.proofs.Common.{ap}
 use base.Stored.{coded_via}
 use Rattle.pol_ports.specs.declared.PortPrefix.{PortPrefix}

@@ -6,7 +6,7 @@ ghost use Rattle.pol_trie.specs.Tree.{Tree, Parts, Takes, both_low, both_high, k
 ghost use Rattle.pol_trie.specs.Links.{node_of};
 ghost use Rattle.pol_trie.specs.Standing.{Holds, HasRoom, IsBelow, Becomes};
 
-use crate::node::{Node, first_port, is_upper, link, middle, same, set_kind};
+use crate::node::{Node, first_port, is_upper, link, middle, set_kind};
 use pol_arena::Pool;
 use pol_mapkey::Kind;
 use pol_ports::PortPrefix;
@@ -79,12 +79,7 @@ fn add(
     ensures spare { nodes.new.spare ≡ nodes.old.spare - 1 }
 {
     let (low, high) = if high { (other, below) } else { (below, other) };
-    nodes.put(Node {
-        port,
-        kind,
-        low,
-        high,
-    })
+    nodes.put(Node::new(port, kind, low, high))
 }
 
 /// Puts the kind under a prefix that the prefix of this node doesn't contain, below the same link. Gives the node there.
@@ -119,14 +114,14 @@ pub(crate) fn put(nodes: &mut Pool<Node>, at: Option<u32>, port: PortPrefix, kin
         return add(nodes, port, Some(kind), false, None, None);
     };
     let node = *nodes.get(i);
-    if same(&node.port, &port) {
+    if node.same(&port) {
         set_kind(nodes, i, Some(kind));
         return i;
     }
-    if !node.port.contains(&port) {
-        return put_over(nodes, i, &node.port, port, kind);
+    if !node.contains(&port) {
+        return put_over(nodes, i, &node.port(), port, kind);
     }
-    let high = is_upper(&node.port, port.bits);
+    let high = node.is_upper(port.bits);
     let below = put(nodes, node.child(high), port, kind);
     link(nodes, i, high, Some(below));
     i

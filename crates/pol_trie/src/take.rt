@@ -4,7 +4,7 @@ ghost use Rattle.pol_ports.specs.PortPrefix.{same_prefix};
 ghost use Rattle.pol_trie.specs.Tree.{Tree, Inside, kind_in, node_count};
 ghost use Rattle.pol_trie.specs.Standing.{Holds, IsWell, IsLoose, LooselyHolds, Becomes};
 
-use crate::node::{Node, is_upper, link, same, set_kind};
+use crate::node::{Node, link, set_kind};
 use pol_arena::Pool;
 use pol_ports::PortPrefix;
 
@@ -19,7 +19,7 @@ fn settle(nodes: &mut Pool<Node>, at: u32) -> Option<u32>
         return Some(at);
     }
     nodes.take(at);
-    node.low.or(node.high)
+    node.only()
 }
 
 /// Takes the prefix out, below a link. Gives the node that stands there then.
@@ -30,14 +30,14 @@ pub(crate) fn take(nodes: &mut Pool<Node>, at: Option<u32>, port: &PortPrefix) -
 {
     let i = at?;
     let node = *nodes.get(i);
-    if same(&node.port, port) {
+    if node.same(port) {
         set_kind(nodes, i, None);
         return settle(nodes, i);
     }
-    if !node.port.contains(port) {
+    if !node.contains(port) {
         return at;
     }
-    let high = is_upper(&node.port, port.bits);
+    let high = node.is_upper(port.bits);
     let below = take(nodes, node.child(high), port);
     link(nodes, i, high, below);
     settle(nodes, i)

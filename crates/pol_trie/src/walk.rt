@@ -3,7 +3,7 @@ ghost use Rattle.std.specs.Prelude.{◌≡◌, ◌+◌, ℕ, None};
 ghost use Rattle.pol_trie.specs.Tree.{Tree, kind_in, walk, visits};
 ghost use Rattle.pol_trie.specs.Standing.{Holds, IsWell};
 
-use crate::node::{Node, is_upper, same};
+use crate::node::Node;
 use pol_arena::Pool;
 use pol_data::Steps;
 use pol_mapkey::Kind;
@@ -18,10 +18,10 @@ pub(crate) fn kind_at(nodes: &Pool<Node>, root: Option<u32>, port: &PortPrefix) 
     let mut at = root;
     while let Some(i) = at {
         let node = nodes.get(i);
-        if same(&node.port, port) {
-            return node.kind;
+        if node.same(port) {
+            return node.kind();
         }
-        at = node.child(is_upper(&node.port, port.bits));
+        at = node.child(node.is_upper(port.bits));
     }
     None
 }
@@ -42,11 +42,11 @@ pub(crate) fn longest<L: Ledger>(
     while let Some(i) = at {
         steps.tick();
         let node = nodes.get(i);
-        if !node.port.holds(port) {
+        if !node.holds(port) {
             return best;
         }
-        best = node.kind.or(best);
-        at = node.child(is_upper(&node.port, port));
+        best = node.kind().or(best);
+        at = node.child(node.is_upper(port));
     }
     best
 }

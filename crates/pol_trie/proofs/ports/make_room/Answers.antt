@@ -1,8 +1,6 @@
-use Rattle.std.proofs.Common.{◌≡◌, ℕ, ◌+◌, ◌<◌, ◌≤◌, ◌^◌, max, true, false, not, Option, Some, None, is_some, OnErr, refl, sym, ap, subst, ◌∙◌, arith}
+use Rattle.std.proofs.Common.{◌≡◌, ◌^◌, max, true, false, not, Option, Some, None, is_some, OnErr, refl, sym, ap, subst, ◌∙◌, arith}
 use Rattle.std.specs.declared.result.Result.{Result}
 use Rattle.std.specs.declared.result.Result.TheVariants.{Ok, Err}
-use Rattle.std.specs.FinMap as map
-use Rattle.std.proofs.lemmas.Bool.{both_ways}
 use Rattle.pol_arena.specs.Pool.{Pool}
 use Rattle.pol_mapkey.specs.declared.Kind.{Kind}
 use Rattle.pol_trie.specs.declared.node.Node.{Node}

@@ -1,4 +1,4 @@
-use Rattle.std.proofs.Common.{◌≡◌, ◌+◌, ◌<◌, true, false, nat_le, refl, sym, ◌∙◌, arith}
+use Rattle.std.proofs.Common.{◌+◌, true, false, nat_le, refl, sym, ◌∙◌, arith}
 use Rattle.std.proofs.lemmas.Bool.{and_parts, leb-true}
 use Rattle.pol_trie.specs.Tree.{middle}
 use Rattle.pol_ports.specs.declared.PortPrefix.{PortPrefix}

@@ -1,10 +1,11 @@
-use Rattle.std.proofs.Common.{◌≡◌, ℕ, ◌+◌, ◌<◌, ◌≤◌, Bool, true, false, Option, Some, is_some, IsSome, refl, sym, ap, subst, ◌∙◌, arith}
-use Rattle.pol_trie.specs.Tree.{Tree, Takes, node_count}
+use Rattle.std.proofs.Common.{◌≡◌, ℕ, ◌+◌, ◌<◌, Option, Some, is_some, IsSome, refl, sym, ap, subst, ◌∙◌, arith}
+use Rattle.pol_ports.specs.declared.PortPrefix.{PortPrefix}
+use Rattle.pol_trie.specs.Tree.{node_count}
 use Rattle.pol_trie.specs.Links.{child}
-use Rattle.pol_trie.specs.Standing.{Holds, HasRoom, Becomes}
+use Rattle.pol_trie.specs.Standing.{Holds, HasRoom, IsBelow}
 use Rattle.pol_trie.proofs.Prefixes.{half_lo, half_hi}
 use Rattle.pol_trie.proofs.Stand.{not_below, depth}
-use Rattle.pol_trie.proofs.Putting.{with_kind, Changed, becomes, here_changed, below_changed, leaf_put}
+use Rattle.pol_trie.proofs.Putting.{with_kind, becomes, here_changed, below_changed, leaf_put}
 use Rattle.pol_trie.proofs.Seeking.{shallower, below_of}
 use Rattle.pol_trie.proofs.Calls.{well_here, room_here, well_of, used_here, room_at_none, room_below, is_below, takes_below}
 use Rattle.pol_trie.proofs.put.+put.Goals as goal
@@ -33,9 +34,12 @@ returns-then-same t c = λ x lo hi len h takes.
 
 pub put_over-requires : goal.put_over-requires
 put_over-requires t c =
+    let n = c.get.result.now in
+    let P : PortPrefix → Type 0 = λ x. IsBelow c.args.nodes.now c.in-Some.i x c.args.port in
     record {
-      below = is_below c.args.nodes.now c.in-Some.i c.get.result.now c.args.port c.get.ensures.value (room_here c.args.nodes.now c.args.at c.in-Some.i c.args.port c.in-Some.is c.requires)
-          (sym c.contains.ensures ∙ c.if-not-contains.true);
+      below = subst P (sym c.port.ensures)
+          (is_below c.args.nodes.now c.in-Some.i n c.args.port c.get.ensures.value (room_here c.args.nodes.now c.args.at c.in-Some.i c.args.port c.in-Some.is c.requires)
+          (sym c.contains.ensures ∙ c.if-not-contains.true));
     }
 
 pub returns-then-not-contains : goal.returns-then-not-contains

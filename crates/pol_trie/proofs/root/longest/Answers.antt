@@ -1,5 +1,4 @@
-use Rattle.std.proofs.Common.{◌≡◌, ◌<◌, ◌^◌, Some, None, refl, sym, ap, ◌∙◌, arith}
-use Rattle.std.specs.Option.{option_copied}
+use Rattle.std.proofs.Common.{◌≡◌, ◌<◌, ◌^◌, Some, sym, arith}
 use Rattle.std.specs.Map.{lookup}
 use Rattle.pol_trie.specs.Roots.{policy_of}
 use Rattle.pol_trie.proofs.RootCalls.{same_root, kinds_in, none_in}

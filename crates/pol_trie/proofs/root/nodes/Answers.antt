@@ -1,4 +1,4 @@
-use Rattle.std.proofs.Common.{◌≡◌, ℕ, suc, ◌+◌, ◌-◌, ◌*◌, ◌<◌, ◌≤◌, ◌^◌, drop, sym, ap, ◌∙◌, arith}
+use Rattle.std.proofs.Common.{◌≡◌, suc, ◌+◌, ◌-◌, drop, sym, ap, ◌∙◌, arith}
 use Rattle.pol_trie.specs.KeySet.{key_count}
 use Rattle.pol_trie.specs.Roots.{row_keys}
 use Rattle.pol_trie.proofs.Counting.{row_keys-at, row_keys-drop}

@@ -1,10 +1,9 @@
-use Rattle.std.proofs.Common.{◌≡◌, Bool, true, false, ◌&&◌, not, cond, if◌then◌else◌, Option, Some, None, is_some, is_none, refl, sym, ap, subst, ◌∙◌}
-use Rattle.std.specs.FinMap as map
+use Rattle.std.proofs.Common.{◌≡◌, ◌&&◌, cond, if◌then◌else◌, Some, None, is_some, is_none, refl, sym, ap, ◌∙◌}
 use Rattle.std.specs.Map.{lookup}
 use Rattle.pol_ports.specs.PortPrefix.{same_prefix}
 use Rattle.pol_mapkey.specs.KeyProto.{same_key_proto}
-use Rattle.pol_trie.specs.Roots.{root_of, policy_of}
-use Rattle.pol_trie.proofs.RootCalls.{same_root, Rows, kinds_of, kinds_in, none_in, policy_of-same, policy_of-put, on_err, fresh_is, unchanged}
+use Rattle.pol_trie.specs.Roots.{root_of}
+use Rattle.pol_trie.proofs.RootCalls.{same_root, kinds_of, kinds_in, none_in, policy_of-same, policy_of-put, on_err, fresh_is, unchanged}
 use Rattle.pol_trie.proofs.root.put_key.Goals as goal
 
 pub returns-in_err-set-in-Some-clause-err : goal.returns-in_err-set-in-Some-clause-err

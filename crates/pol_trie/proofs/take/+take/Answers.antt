@@ -1,11 +1,11 @@
-use Rattle.std.proofs.Common.{◌≡◌, ℕ, ◌+◌, ◌<◌, ◌≤◌, Bool, true, false, Option, Some, None, is_some, IsSome, refl, sym, ap, subst, ◌∙◌, arith}
-use Rattle.pol_trie.specs.Tree.{Tree, Inside, node_count, kind_in}
+use Rattle.std.proofs.Common.{ℕ, ◌+◌, ◌<◌, Option, None, is_some, sym, ap, subst, ◌∙◌, arith}
+use Rattle.pol_trie.specs.Tree.{node_count, kind_in}
 use Rattle.pol_trie.specs.Links.{child}
 use Rattle.pol_trie.specs.Standing.{Stands, Holds, IsWell, Becomes}
 use Rattle.pol_arena.specs.Pool.{node_at}
 use Rattle.pol_trie.proofs.Prefixes.{half_lo, half_hi}
 use Rattle.pol_trie.proofs.Stand.{not_below, unlinked_is_leaf, depth}
-use Rattle.pol_trie.proofs.Putting.{with_kind, Changed, settled, here_changed, below_changed}
+use Rattle.pol_trie.proofs.Putting.{with_kind, settled, here_changed, below_changed}
 use Rattle.pol_trie.proofs.Seeking.{shallower, below_of, well_below}
 use Rattle.pol_trie.proofs.Calls.{well_here, used_here, takes_below, absent, not_around, loose_of}
 use Rattle.pol_trie.proofs.take.+take.Goals as goal

@@ -15,4 +15,4 @@ take-requires c = record { in_use = used_loosely c.args.nodes.now c.args.at c.re
 pub returns : goal.returns
 returns c =
     goes_either c.args.nodes.now c.take.new.self c.args.at c.get.result.now c.get.ensures.value (sym c.is_needed.ensures ∙ c.if-is_needed.false)
-    c.take.ensures.updates c.take.ensures.count c.or.result c.or.ensures
+    c.take.ensures.updates c.take.ensures.count c.only.result c.only.ensures

@@ -1,6 +1,5 @@
-use Rattle.std.proofs.Common.{◌≡◌, ◌<◌, Option, ℕ, Some, None, sym, subst, ◌∙◌, arith}
+use Rattle.std.proofs.Common.{Option, ℕ, sym, subst, ◌∙◌}
 use Rattle.pol_trie.specs.Standing.{IsWell}
-use Rattle.pol_trie.proofs.Stand.{depth}
 use Rattle.pol_trie.proofs.Seeking.{LeadsTo, way_starts, way_on, way_ends, way_is_over, well_below, shallower}
 use Rattle.pol_trie.proofs.Calls.{well_here, used_here}
 use Rattle.pol_trie.proofs.walk.kind_at.Goals as goal
@@ -14,7 +13,8 @@ get-node-requires c = record { in_use = used_here c.args.nodes.now c.in-Some.i (
 pub returns-then-same : goal.returns-then-same
 returns-then-same c =
     let L : Option ℕ → Type 0 = λ o. LeadsTo c.args.nodes.now c.args.root o c.args.port.now in
-    way_ends c.args.nodes.now c.args.root c.in-Some.i c.get-node.result.now c.args.port.now c.get-node.ensures.value (sym c.same.ensures ∙ c.if-same.true) (subst L c.in-Some.is c.loop-at.invariant.leads)
+    λ t lo hi len h. c.kind.ensures
+    ∙ way_ends c.args.nodes.now c.args.root c.in-Some.i c.get-node.result.now c.args.port.now c.get-node.ensures.value (sym c.same.ensures ∙ c.if-same.true) (subst L c.in-Some.is c.loop-at.invariant.leads) t lo hi len h
 
 pub loop-at-smaller : goal.loop-at-smaller
 loop-at-smaller c =

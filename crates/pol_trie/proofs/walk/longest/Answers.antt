@@ -1,7 +1,5 @@
-use Rattle.std.proofs.Common.{◌≡◌, ◌+◌, ◌<◌, Option, ℕ, Some, None, sym, subst, ◌∙◌, arith}
-use Rattle.pol_mapkey.specs.declared.Kind.{Kind}
+use Rattle.std.proofs.Common.{Option, ℕ, sym, subst, ◌∙◌}
 use Rattle.pol_trie.specs.Standing.{IsWell}
-use Rattle.pol_trie.proofs.Stand.{depth}
 use Rattle.pol_trie.proofs.Seeking.{WalksTo, walk_starts, walk_on, walk_stops, walk_is_over, well_below, shallower}
 use Rattle.pol_trie.proofs.Calls.{well_here, used_here}
 use Rattle.pol_trie.proofs.walk.longest.Goals as goal
@@ -45,7 +43,7 @@ loop-at-preserved g c =
     (subst L c.in-Some.is c.loop-at.invariant.walks) in
     record {
       well = subst W (sym c.child-at.ensures) (well_below p i n high there (well_here p c.loop-at.at i c.in-Some.is c.loop-at.invariant.well));
-      walks = rw (c.child-at.ensures, c.or-best.ensures, c.tick.ensures) on;
+      walks = rw (c.child-at.ensures, c.or-best.ensures, c.kind.ensures, c.tick.ensures) on;
     }
 
 pub returns-clause-kind : goal.returns-clause-kind

@@ -1,4 +1,4 @@
-use Rattle.std.proofs.Common.{◌≡◌, ◌<◌, ◌^◌, None, arith}
+use Rattle.std.proofs.Common.{◌<◌, ◌^◌, None, arith}
 use Rattle.pol_trie.proofs.KeyKinds.{empty_is, has_every, has_tcp, has_udp, has_sctp, taken_as}
 use Rattle.pol_trie.proofs.key_set.KeySet.clear.Goals as goal
 

@@ -1,4 +1,4 @@
-use Rattle.std.proofs.Common.{◌≡◌, ◌<◌, ◌^◌, arith}
+use Rattle.std.proofs.Common.{◌<◌, ◌^◌, arith}
 use Rattle.pol_trie.proofs.KeyKinds.{empty_is, get_every}
 use Rattle.pol_trie.proofs.key_set.KeySet.get.Goals as goal
 

@@ -1,4 +1,4 @@
-use Rattle.std.proofs.Common.{◌≡◌, ◌<◌, ◌^◌, Some, arith}
+use Rattle.std.proofs.Common.{◌<◌, ◌^◌, Some, arith}
 use Rattle.pol_trie.proofs.KeyKinds.{empty_is, has_every, has_tcp, has_udp, has_sctp, put_as}
 use Rattle.pol_trie.proofs.key_set.KeySet.set.Goals as goal
 

@@ -1,4 +1,4 @@
-use Rattle.std.proofs.Common.{◌≡◌, ℕ, true, false, not, Option, Some, None, is_some, refl, sym, ap, ◌∙◌}
+use Rattle.std.proofs.Common.{◌≡◌, ℕ, false, not, Option, Some, None, is_some, refl, sym, ap, ◌∙◌}
 use Rattle.pol_trie.specs.Standing.{ports_of}
 use Rattle.pol_trie.proofs.Listing.{ports_of-none}
 use Rattle.pol_trie.proofs.ports.PortTrie.is_empty.Goals as goal

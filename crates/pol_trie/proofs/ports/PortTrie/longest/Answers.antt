@@ -1,4 +1,4 @@
-use Rattle.std.proofs.Common.{◌≡◌, ◌+◌, ◌≤◌, ◌^◌, arith}
+use Rattle.std.proofs.Common.{◌^◌, arith}
 use Rattle.pol_trie.proofs.Walking.{visits_within}
 use Rattle.pol_trie.proofs.Listing.{Decides-ports}
 use Rattle.pol_trie.proofs.ports.PortTrie.longest.Goals as goal

@@ -1,6 +1,5 @@
-use Rattle.std.proofs.Common.{◌≡◌, ℕ, ◌+◌, ◌-◌, ◌<◌, ◌≤◌, Bool, true, false, cond, Option, Some, None, is_some, refl, sym, ap, ◌∙◌, inl, inr, arith}
+use Rattle.std.proofs.Common.{◌≡◌, ℕ, ◌-◌, ◌≤◌, Bool, true, false, cond, is_some, refl, sym, ap, ◌∙◌, inl, inr, arith}
 use Rattle.std.specs.FinMap as map
-use Rattle.pol_mapkey.specs.declared.Kind.{Kind}
 use Rattle.std.proofs.lemmas.Bool.{cases_lt, both_ways}
 use Rattle.pol_mapkey.specs.declared.MapKey.{MapKey}
 use Rattle.pol_mapkey.specs.MapKey.{key_cmp}

@@ -1,6 +1,6 @@
-use Rattle.std.proofs.Common.{◌≡◌, sym, ap, ◌∙◌}
+use Rattle.std.proofs.Common.{ap, ◌∙◌}
 use Rattle.std.specs.FinMap as map
-use Rattle.pol_mapkey.specs.Entries.{longest, word_of, read_map}
+use Rattle.pol_mapkey.specs.Entries.{longest, read_map}
 use Rattle.pol_trie.specs.Roots.{policy_of, word_of_kinds}
 use Rattle.pol_trie.proofs.RootCalls.{word_is}
 use Rattle.pol_trie.proofs.trie.PolicyTrie.look.Goals as goal
