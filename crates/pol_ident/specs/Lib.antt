@@ -1,0 +1,4 @@
+pub mod Slots
+pub mod Look
+pub mod Rows
+pub mod Tied
