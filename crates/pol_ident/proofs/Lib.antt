@@ -1,2 +1,5 @@
+pub mod FreePlaces
 pub mod RowLists
+pub mod Shown
 pub mod SlotRows
+pub mod TakenOut

@@ -1,19 +1,27 @@
 -- What a contract sees of a `Numbering`: by each place from 0 on nothing, or a key with its count of holders.
-use Rattle.std.specs.Prelude.{ℕ, ◌+◌, ◌-◌, nat_le, if◌then◌else◌, List, [], ◌∷◌, ◌++◌, Option, Some, None, suc, zero, slice_index_or, option_map}
+use Rattle.std.specs.Prelude.{ℕ, ◌≡◌, ◌+◌, ◌-◌, Bool, true, false, nat_le, if◌then◌else◌, List, [], ◌∷◌, Option, Some, None, suc, zero, slice_index_or}
 
 abbrev pub Slot : Type 0 → Type 0
 Slot K = Option (K × ℕ)
+
+-- the least place without a key
+abbrev pub free_place : {X : Type 0} → List (Option X) → ℕ
+free_place [] = 0
+free_place (None ∷ slots) = 0
+free_place (Some held ∷ slots) = free_place slots + 1
 
 module _ {K : Type 0} where
   -- the slot at a place; past the last one there is nothing
   abbrev pub slot_at : List (Slot K) → ℕ → Slot K
   slot_at slots place = slice_index_or slots place None
 
-  -- the least place without a key
-  abbrev pub free_place : List (Slot K) → ℕ
-  free_place [] = 0
-  free_place (None ∷ slots) = 0
-  free_place (Some held ∷ slots) = free_place slots + 1
+  -- the key has the place
+  abbrev pub HasPlace : (K → K → Bool) → K → List (Slot K) → ℕ → Type 0
+  HasPlace eq key slots place = (own : K × ℕ) × (slot_at slots place ≡ Some own) × (eq key own.0 ≡ true)
+
+  -- the key has no place
+  abbrev pub HasNone : (K → K → Bool) → K → List (Slot K) → Type 0
+  HasNone eq key slots = (place : ℕ) (own : K × ℕ) → slot_at slots place ≡ Some own → eq key own.0 ≡ false
 
   -- the slots with this one at the least place without a key
   abbrev pub filled : K × ℕ → List (Slot K) → List (Slot K)
