@@ -1,3 +1,4 @@
+pub mod Added
 pub mod FreePlaces
 pub mod RowLists
 pub mod Shown

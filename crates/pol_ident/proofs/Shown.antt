@@ -16,6 +16,11 @@ use Rattle.pol_ident.specs.Slots.{HasNone, HasPlace, Slot, changed, filled, free
 use Rattle.pol_ident.proofs.FreePlaces.{taken_within, IsFreeOf-kept}
 use Rattle.pol_ident.specs.Tied.{all_shown, shown, HasRoom, IsFreeOf, IsTied}
 
+pub wider-room : {X : Type 0} (slots : List (Option X)) (one other : ℕ) → HasRoom slots one → one ≤ other → HasRoom slots other
+wider-room slots one other room more =
+    let covered = room.covered in
+    record { covered = omega (arith, covered, more); fits = room.fits }
+
 module _ {K : Type 0} where
   -- a value in the first place that has none
   pub filled-set : (slots : List (Slot K)) (place : ℕ) (new : K × ℕ) → free_place slots ≡ place → place < length slots → set slots place (Some new) ≡ filled new slots
@@ -45,13 +50,13 @@ module _ {K : Type 0} where
   pub shown-entry : (entries : List (K × ℕ)) (held : Held) (key : K) (place : ℕ) → slice_get entries held.index ≡ Some (key, place) → shown entries (Some held) ≡ Some (key, held.holders)
   shown-entry entries held key place is = ap (option_map (λ entry. (entry.0, held.holders))) is
 
-  get-more : (entries : List (K × ℕ)) (new : K × ℕ) (i : ℕ) → i < length entries → slice_get (entries ++ new ∷ []) i ≡ slice_get entries i
+  pub get-more : (entries : List (K × ℕ)) (new : K × ℕ) (i : ℕ) → i < length entries → slice_get (entries ++ new ∷ []) i ≡ slice_get entries i
   get-more [] new i within = absurd (omega (arith, within))
   get-more (entry ∷ entries) new zero within = refl
   get-more (entry ∷ entries) new (suc i) within = get-more entries new i (omega (arith, within))
 
   -- one entry more shows nothing else in the slots that there were
-  shown-more : (entries : List (K × ℕ)) (new : K × ℕ) (slots : List (Option Held)) → ((place : ℕ) (held : Held) → get_or slots place None ≡ Some held → held.index < length entries) → all_shown (entries ++ new ∷ []) slots ≡ all_shown entries slots
+  pub shown-more : (entries : List (K × ℕ)) (new : K × ℕ) (slots : List (Option Held)) → ((place : ℕ) (held : Held) → get_or slots place None ≡ Some held → held.index < length entries) → all_shown (entries ++ new ∷ []) slots ≡ all_shown entries slots
   shown-more entries new [] within = refl
   shown-more entries new (None ∷ slots) within = ap (λ rest. None ∷ rest) (shown-more entries new slots (λ place held is. within (suc place) held is))
   shown-more entries new (Some held ∷ slots) within =

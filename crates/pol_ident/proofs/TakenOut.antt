@@ -10,12 +10,14 @@ use Rattle.std.proofs.Math.Seq.{get_or-append_seam}
 use Rattle.pol_ident.specs.declared.numbering.Held.{Held}
 use Rattle.std.proofs.lemmas.Map.Made.{lookup_key_passes}
 use Rattle.std.specs.List.{swap_remove}
+use Rattle.std.specs.BinaryHeap.{KeepsHeap}
+use Rattle.std.specs.List.Sorted.{IsPermutation}
 use Rattle.std.specs.Map.{lookup, lookup_key}
 use Rattle.std.specs.declared.cmp.Reverse.{Reverse}
 use Rattle.pol_ident.specs.Slots.{HasNone, HasPlace, Slot, changed, filled, free_place, slot_at}
-use Rattle.pol_ident.proofs.FreePlaces.{taken_within}
-use Rattle.pol_ident.proofs.Shown.{slot_at-shown}
-use Rattle.pol_ident.specs.Tied.{all_shown, shown, with_index, IsIndexOf, HasRoom, IsFreeOf, IsTied}
+use Rattle.pol_ident.proofs.FreePlaces.{taken_within, IsFreeOf-pushed}
+use Rattle.pol_ident.proofs.Shown.{changed-set, same-room, shown-entry, slot_at-shown, wider-room}
+use Rattle.pol_ident.specs.Tied.{all_shown, least_first, shown, with_index, IsIndexOf, HasRoom, IsFreeOf, IsTied}
 
 -- An entry is taken out, and the last one takes its index.
 module _ {K : Type 0} (entries : List (K × ℕ)) (index : ℕ) (gone : K × ℕ) where
@@ -247,3 +249,25 @@ module _ {K : Type 0} (entries others : List (K × ℕ)) (slots : List (Option H
 
     pub out-some : IsOut (set (set slots place None) other (with_index index (get_or (set slots place None) other None)))
     out-some = is_out _ (out-relinked entries index gone.entry slots place gone.held tied gone.there gone.its key other moved_at)
+
+-- The place is free then, and its slot shows nothing.
+module _ {K : Type 0} (entries : List (K × ℕ)) (slots : List (Option Held)) (place : ℕ) (held : Held) (tied : IsTied entries slots) (taken : get_or slots place None ≡ Some held) where
+  own : (key : K) × (slot_at (all_shown entries slots) place ≡ Some (key, held.holders))
+  own =
+      let entry = tied.entry place held taken in
+      (entry.0, slot_at-shown entries slots place ∙ ap (shown entries) taken ∙ shown-entry entries held entry.0 place entry.1)
+
+  pub gone-changed : (change : Slot K → Slot K) → ((key : K) → change (Some (key, held.holders)) ≡ None) → set (all_shown entries slots) place None ≡ changed change place (all_shown entries slots)
+  gone-changed change goes =
+      ap (set (all_shown entries slots) place) (sym (ap change own.1 ∙ goes own.0))
+      ∙ changed-set change (all_shown entries slots) place (omega (arith, taken_within slots place held taken, length-map slots (shown entries)))
+
+  pub given-back : (others : List (K × ℕ)) (now : List (Option Held)) (free more : List (Reverse ℕ)) (capacity room : ℕ)
+      → IsFreeOf free (all_shown entries slots) × HasRoom (all_shown entries slots) capacity → all_shown others now ≡ set (all_shown entries slots) place None
+      → IsPermutation (record { 0 = place } ∷ free) more → KeepsHeap least_first free more → capacity ≤ room
+      → IsFreeOf more (all_shown others now) × HasRoom (all_shown others now) room
+  given-back others now free more capacity room is seen perm keeps wide =
+      (
+        subst (IsFreeOf more) (sym seen) (IsFreeOf-pushed (all_shown entries slots) free more (record { 0 = place }) (own.0, held.holders) is.0 own.1 perm (keeps is.0.heap)),
+        wider-room (all_shown others now) capacity room (same-room (all_shown entries slots) (all_shown others now) capacity (ap length seen ∙ length-set (all_shown entries slots) place None) is.1) wide,
+      )

@@ -158,8 +158,8 @@ impl<K: Eq + Hash + Drop> Numbering<K> {
         ensures ok { OnOk result (self.new ≡ filled (key, 1) self.old) }
         ensures err { OnErr result (self.new ≡ self.old) }
     {
-        make_room(&mut self.slots, &mut self.free)?;
         let place = self.free_place();
+        make_room(&mut self.slots, &mut self.free)?;
         let held = Held {
             index: self.places.len(),
             holders: 1,
