@@ -1,6 +1,9 @@
 pub mod Added
 pub mod FreePlaces
+pub mod HeldLabels
+pub mod Refusals
 pub mod RowLists
+pub mod RowsOf
 pub mod Shown
 pub mod SlotRows
 pub mod TakenOut

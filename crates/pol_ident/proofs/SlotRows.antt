@@ -112,7 +112,8 @@ module _ {K : Type 0} (labels : K → List Label) (prefix : K → Option Prefix)
   free-here first [] rest above =
       least_free-above first (numbers rest) (above-same (first + 0) first rest (omega arith) above) ∙ omega arith
   free-here first (None ∷ slots) rest above =
-      least_free-above first (numbers (rows (first + 1) slots rest)) (rows-above first (first + 1) slots rest (omega arith) above)
+      least_free-above first (numbers (rows (first + 1) slots rest)) (rows-above first (first + 1) slots rest (omega arith) (above-same (first + 0) first rest (omega arith) above))
+      ∙ omega arith
   free-here first (Some own ∷ slots) rest above =
       least_free-here first first (numbers (rows (first + 1) slots rest)) refl
       ∙ free-here (first + 1) slots rest (above-same _ (first + 1 + free_place slots) rest (omega arith) above)

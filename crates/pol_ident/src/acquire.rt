@@ -9,7 +9,10 @@ ghost use Rattle.pol_ident.specs.Look.{number_for_prefix};
 use crate::{IdentError, Identities};
 use pol_addr::Prefix;
 use pol_labels::LabelSet;
-use pol_model::{CLUSTER_FIRST, CLUSTER_IDENTITIES, INIT_IDENTITY, LOCAL_FIRST, LOCAL_IDENTITIES, is_init};
+use pol_model::{
+    CLUSTER_FIRST, CLUSTER_IDENTITIES, INIT_IDENTITY, LOCAL_FIRST, LOCAL_IDENTITIES, WORLD_IDENTITY,
+    is_init,
+};
 
 impl Identities {
     /// Gives the label set's number and adds one holder: the number of an equal set, else the least free one of 256 to
@@ -26,7 +29,22 @@ impl Identities {
         ensures exhausted { IsErrOf result IdentError.Exhausted ↔ (is_exhausted labels.now self.old ≡ true) }
         ensures sound { KeepsRows self.new }
     {
-        Err(IdentError::Memory)
+        let _ordered = labels.as_slice();
+        match self.cluster.find(labels) {
+            Some(place) => {
+                self.cluster.hold(place)?;
+                Ok(CLUSTER_FIRST + place)
+            }
+            None if is_init(labels) => Ok(INIT_IDENTITY),
+            None => {
+                let place = self.cluster.free_place();
+                if place >= CLUSTER_IDENTITIES {
+                    return Err(IdentError::Exhausted);
+                }
+                self.cluster.add(labels.copy(self.alloc)?)?;
+                Ok(CLUSTER_FIRST + place)
+            }
+        }
     }
 
     /// Gives the prefix's number and adds one holder: its own, else the least free one of 16777217 to 16842751 (Cilium,
@@ -42,6 +60,20 @@ impl Identities {
         ensures exhausted { IsErrOf result IdentError.Exhausted ↔ ((locals_held self.old ≡ LOCAL_IDENTITIES) × (number_of_prefix prefix self.old ≡ None)) }
         ensures sound { KeepsRows self.new }
     {
-        Err(IdentError::Memory)
+        match self.local.find(&prefix) {
+            Some(place) => {
+                self.local.hold(place)?;
+                Ok(LOCAL_FIRST + place)
+            }
+            None if prefix.len() == 0 => Ok(WORLD_IDENTITY),
+            None => {
+                let place = self.local.free_place();
+                if place >= LOCAL_IDENTITIES {
+                    return Err(IdentError::Exhausted);
+                }
+                self.local.add(prefix)?;
+                Ok(LOCAL_FIRST + place)
+            }
+        }
     }
 }
