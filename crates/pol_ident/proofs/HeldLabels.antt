@@ -27,17 +27,17 @@ use Rattle.pol_ident.proofs.RowLists.{AllAbove, AreHeld, recounted-reserved}
 use Rattle.pol_ident.proofs.RowsOf.{In-here, In-slots, held-behind, length-changed, length-filled, less-front, more-front, reserved-below}
 use Rattle.pol_ident.proofs.SlotRows.{free-here, less-here, more-here, placed-here, rows-above}
 
-abbrev plain : List Label → List Label
+abbrev pub plain : List Label → List Label
 plain labels = labels
 
-abbrev without : List Label → Option Prefix
+abbrev pub without : List Label → Option Prefix
 without labels = None
 
 -- the numbers of prefixes are above those of label sets
-local-above : (n : ℕ) (local : List (Slot Prefix)) → n < LOCAL_FIRST → AllAbove n (local_rows local)
+pub local-above : (n : ℕ) (local : List (Slot Prefix)) → n < LOCAL_FIRST → AllAbove n (local_rows local)
 local-above n local less = rows-above _ Some n LOCAL_FIRST local [] less tt
 
-unreserved : (n : ℕ) → RESERVED_LAST < n → is_reserved n ≡ false
+pub unreserved : (n : ℕ) → RESERVED_LAST < n → is_reserved n ≡ false
 unreserved n past = and_right _ _ (lt-leb n RESERVED_LAST past)
 
 not_local : (n : ℕ) → n < LOCAL_FIRST → is_local n ≡ false

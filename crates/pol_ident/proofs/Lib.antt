@@ -1,6 +1,8 @@
 pub mod Added
 pub mod FreePlaces
 pub mod HeldLabels
+pub mod HeldPrefixes
+pub mod Looks
 pub mod Refusals
 pub mod RowLists
 pub mod RowsOf

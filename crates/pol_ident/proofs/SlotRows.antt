@@ -10,7 +10,7 @@ use Rattle.pol_model.specs.Numbers.{least_free, placed_by}
 use Rattle.pol_model.proofs.Ascents.{placed_later}
 use Rattle.pol_facts.specs.Holding.{row_of}
 use Rattle.pol_ident.specs.Rows.{row_with, rows_then}
-use Rattle.pol_ident.specs.Slots.{Slot, changed, filled, free_place, one_less, one_more, slot_at}
+use Rattle.pol_ident.specs.Slots.{Slot, changed, filled, free_place, numbers_from, one_less, one_more, slot_at}
 use Rattle.pol_ident.proofs.RowLists.{above-same, AllAbove, AreHeld, least_free-above, least_free-below, least_free-here, numbers, placed_first, recounted-above, recounted-other, recounted-own, released-above, released-cons}
 
 module _ {K : Type 0} (labels : K → List Label) (prefix : K → Option Prefix) where
@@ -142,3 +142,9 @@ module _ {K : Type 0} (labels : K → List Label) (prefix : K → Option Prefix)
   row-here n first (suc place) (Some own ∷ slots) rest is above =
       ap (λ b. cond b (Some (row_with labels prefix first own)) (row_of n (rows (first + 1) slots rest))) (ne_eqb first n (omega (arith, is)))
       ∙ row-here n (first + 1) place slots rest (omega (arith, is)) above
+
+  -- the numbers of the rows
+  pub numbers-rows : (first : ℕ) (slots : List (Slot K)) (rest : List IdentityRow) → numbers (rows first slots rest) ≡ numbers_from first slots ++ numbers rest
+  numbers-rows first [] rest = refl
+  numbers-rows first (None ∷ slots) rest = numbers-rows (first + 1) slots rest
+  numbers-rows first (Some own ∷ slots) rest = ap (λ others. first ∷ others) (numbers-rows (first + 1) slots rest)

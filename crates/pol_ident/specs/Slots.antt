@@ -45,8 +45,8 @@ module _ {K : Type 0} where
   one_less None = None
   one_less (Some held) = if nat_le held.1 1 then None else Some (held.0, held.1 - 1)
 
-  -- the numbers from `first` on of the places that have a key
-  abbrev pub numbers_from : ℕ → List (Slot K) → List ℕ
-  numbers_from first [] = []
-  numbers_from first (None ∷ slots) = numbers_from (first + 1) slots
-  numbers_from first (Some held ∷ slots) = first ∷ numbers_from (first + 1) slots
+-- the numbers from `first` on of the places that are taken
+abbrev pub numbers_from : {X : Type 0} → ℕ → List (Option X) → List ℕ
+numbers_from first [] = []
+numbers_from first (None ∷ slots) = numbers_from (first + 1) slots
+numbers_from first (Some held ∷ slots) = first ∷ numbers_from (first + 1) slots

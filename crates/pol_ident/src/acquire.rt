@@ -60,12 +60,13 @@ impl Identities {
         ensures exhausted { IsErrOf result IdentError.Exhausted ↔ ((locals_held self.old ≡ LOCAL_IDENTITIES) × (number_of_prefix prefix self.old ≡ None)) }
         ensures sound { KeepsRows self.new }
     {
+        let len = prefix.len();
         match self.local.find(&prefix) {
             Some(place) => {
                 self.local.hold(place)?;
                 Ok(LOCAL_FIRST + place)
             }
-            None if prefix.len() == 0 => Ok(WORLD_IDENTITY),
+            None if len == 0 => Ok(WORLD_IDENTITY),
             None => {
                 let place = self.local.free_place();
                 if place >= LOCAL_IDENTITIES {

@@ -9,6 +9,7 @@ mod error;
 mod identities;
 mod look;
 mod numbering;
+mod place;
 mod release;
 
 pub use error::IdentError;

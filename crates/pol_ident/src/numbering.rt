@@ -1,8 +1,8 @@
 //! Keys under places: each key has the least place that was free when it came, until its last holder goes.
-ghost use Rattle.std.specs.Prelude.{◌≡◌, ◌+◌, ◌^◌, ◌<◌, ◌≤◌, [], None, IsSome, IfSome, IfNone, OnOk, OnErr, option_map, length, slice_index_or, slice_set, vec_capacity};
+ghost use Rattle.std.specs.Prelude.{◌≡◌, ◌+◌, ◌^◌, ◌<◌, ◌≤◌, ◌++◌, [], None, IsSome, IfSome, IfNone, OnOk, OnErr, option_map, length, slice_index_or, slice_set, vec_capacity};
 ghost use Rattle.std.specs.BinaryHeap.{heap_capacity, heap_items, heap_len};
 ghost use Rattle.std.specs.Option.{option_copied};
-ghost use Rattle.pol_ident.specs.Slots.{HasNone, HasPlace, changed, filled, free_place, one_less, one_more, slot_at};
+ghost use Rattle.pol_ident.specs.Slots.{HasNone, HasPlace, changed, filled, free_place, numbers_from, one_less, one_more, slot_at};
 ghost use Rattle.pol_ident.specs.Tied.{IsIndexOf, IsTied, all_shown, with_index};
 
 use indexmap::IndexMap;
@@ -74,6 +74,19 @@ fn make_room(
     slots.reserve(1)?;
     let wanted = slots.len() + 1 - free.len();
     free.reserve(wanted)
+}
+
+/// Puts the numbers of the places that are taken, from `first` on, behind these.
+fn push_places(slots: &[Option<Held>], first: u32, numbers: &mut Vec<u32>) -> Result<(), Memory>
+    requires fits { first + length slots.now < 2 ^ 32 }
+    ensures { OnOk result (numbers.new.items ≡ numbers.old.items ++ numbers_from first slots.now) }
+{
+    for (index, slot) in slots.iter().enumerate() {
+        if slot.is_some() {
+            numbers.push(first + index as u32)?;
+        }
+    }
+    Ok(())
 }
 
 /// A place's key has another index.
@@ -208,5 +221,13 @@ impl<K: Eq + Hash + Drop> Numbering<K> {
             }
             None => unreachable!(),
         }
+    }
+
+    /// Puts the numbers of the places with a key, from `first` on, behind these.
+    pub(crate) fn push_numbers(&self, first: u32, numbers: &mut Vec<u32>) -> Result<(), Memory>
+        requires fits { first + length self.now < 2 ^ 32 }
+        ensures { OnOk result (numbers.new.items ≡ numbers.old.items ++ numbers_from first self.now) }
+    {
+        push_places(&self.slots, first, numbers)
     }
 }

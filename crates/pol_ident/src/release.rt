@@ -5,6 +5,7 @@ ghost use Rattle.pol_facts.specs.Holding.{has_row};
 ghost use Rattle.pol_facts.specs.Keeps.{KeepsRows};
 
 use crate::Identities;
+use crate::place::{Place, place_of};
 
 impl Identities {
     /// Takes one holder away from the number, which is held. With its last holder the identity goes, and its number is
@@ -14,6 +15,12 @@ impl Identities {
         ensures rows { self.new ≡ released number self.old }
         ensures sound { KeepsRows self.new }
     {
-        let _ = number;
+        match place_of(number) {
+            Place::Cluster(place) => self.cluster.release(place),
+            Place::Local(place) => self.local.release(place),
+            Place::Reserved(_) | Place::Nowhere => {
+                let _ = &self.reserved;
+            }
+        }
     }
 }
