@@ -1,5 +1,6 @@
 pub mod Added
 pub mod FreePlaces
+pub mod GivenBack
 pub mod HeldLabels
 pub mod HeldPrefixes
 pub mod Looks

@@ -76,6 +76,21 @@ module _ (cluster : List (Slot (List Label))) (local : List (Slot Prefix)) where
             | inr (inr one) ↦ let from = one.from in let upto = one.upto in absurd (is.2 (omega (arith, same, from)) (omega (arith, same, upto)))
           ]
 
+-- what is told of a key is told of its row
+told : {K A : Type 0} (row : K × ℕ → IdentityRow) (f : K → A) (g : IdentityRow → A) → ((own : K × ℕ) → f own.0 ≡ g (row own)) → (slot : Slot K) → option_map f (option_map (λ own. own.0) slot) ≡ option_map g (option_map row slot)
+told row f g same None = refl
+told row f g same (Some own) = ap Some (same own)
+
+pub cluster-tells : (cluster : List (Slot (List Label))) (local : List (Slot Prefix)) (number place : ℕ) → IsPlaceOf number (Cluster place) → {A : Type 0} (f : List Label → A) (g : IdentityRow → A) → ((own : List Label × ℕ) → f own.0 ≡ g (row_with plain without number own))
+    → (key : Option (List Label)) → key ≡ option_map (λ own. own.0) (slot_at cluster place) → option_map f key ≡ option_map g (row_of number (rows_of cluster local))
+cluster-tells cluster local number place is f g same key at =
+    ap (option_map f) at ∙ told (row_with plain without number) f g same (slot_at cluster place) ∙ sym (ap (option_map g) (cluster-row cluster local number place is))
+
+pub local-tells : (cluster : List (Slot (List Label))) (local : List (Slot Prefix)) (number place : ℕ) → IsPlaceOf number (Local place) → length cluster ≤ CLUSTER_IDENTITIES → {A : Type 0} (f : Prefix → A) (g : IdentityRow → A) → ((own : Prefix × ℕ) → f own.0 ≡ g (row_with worlds Some number own))
+    → (key : Option Prefix) → key ≡ option_map (λ own. own.0) (slot_at local place) → option_map f key ≡ option_map g (row_of number (rows_of cluster local))
+local-tells cluster local number place is few f g same key at =
+    ap (option_map f) at ∙ told (row_with worlds Some number) f g same (slot_at local place) ∙ sym (ap (option_map g) (local-row cluster local number place is few))
+
 -- a number has a row where one is found
 pub has_row-found : (number : ℕ) (rows : List IdentityRow) → has_row number rows ≡ is_some (row_of number rows)
 has_row-found number [] = refl
@@ -85,12 +100,12 @@ has_row-found number (row ∷ rows) = by (row.number == number) (has_row-found n
     by true rest = refl
     by false rest = rest
 
+pub mapped-some : {A B : Type 0} (f : A → B) (o : Option A) → is_some (option_map f o) ≡ is_some o
+mapped-some f None = refl
+mapped-some f (Some x) = refl
+
 pub has_row-mapped : {A : Type 0} (f : IdentityRow → A) (number : ℕ) (rows : List IdentityRow) → is_some (option_map f (row_of number rows)) ≡ has_row number rows
-has_row-mapped f number rows = by (row_of number rows) ∙ sym (has_row-found number rows)
-  where
-    by : (o : Option IdentityRow) → is_some (option_map f o) ≡ is_some o
-    by None = refl
-    by (Some row) = refl
+has_row-mapped f number rows = mapped-some f (row_of number rows) ∙ sym (has_row-found number rows)
 
 -- the prefix of what is found
 pub prefix-found : (found : Option (Option Prefix)) (o : Option IdentityRow) → found ≡ option_map (λ row. row.prefix) o → option_and_then (λ prefix. prefix) found ≡ option_and_then (λ row. row.prefix) o

@@ -1,7 +1,6 @@
 //! What is known of a number.
 ghost use Rattle.std.specs.Prelude.{◌≡◌, map, option_map, IfOk};
 ghost use Rattle.std.specs.Option.{option_copied};
-ghost use Rattle.pol_model.specs.Identities.{reserved_identities};
 ghost use Rattle.pol_facts.specs.Holding.{has_row, row_of};
 ghost use Rattle.pol_facts.specs.Keeps.{KeepsRows};
 ghost use Rattle.pol_ident.specs.Look.{labels_at, prefix_at};
@@ -11,8 +10,15 @@ use crate::place::{Place, place_of};
 use pol_addr::Prefix;
 use pol_data::Memory;
 use pol_labels::LabelSet;
-use pol_model::{CLUSTER_FIRST, LOCAL_FIRST, WORLD_IDENTITY};
+use pol_model::{CLUSTER_FIRST, IdentityRow, LOCAL_FIRST, WORLD_IDENTITY};
 use std::alloc::Global;
+
+/// The numbers of the rows.
+fn numbers_of(alloc: Global, rows: &[IdentityRow]) -> Result<Vec<u32>, Memory>
+    ensures { IfOk result (λ numbers. numbers.items ≡ map (λ row. row.number) rows.now) }
+{
+    rows.iter().map(|row| row.number).collect(alloc)
+}
 
 impl Identities {
     /// The labels and the prefix of the number.
@@ -26,15 +32,17 @@ impl Identities {
                 let row = &self.reserved[place as usize];
                 Some((&row.labels, row.prefix))
             }
-            Place::Cluster(place) => {
-                let labels = self.cluster.key_at(place)?;
-                Some((labels, None))
-            }
-            Place::Local(place) => {
-                let prefix = self.local.key_at(place)?;
-                let world = &self.reserved[WORLD_IDENTITY as usize - 1];
-                Some((&world.labels, Some(*prefix)))
-            }
+            Place::Cluster(place) => match self.cluster.key_at(place) {
+                Some(labels) => Some((labels, None)),
+                None => None,
+            },
+            Place::Local(place) => match self.local.key_at(place) {
+                Some(prefix) => {
+                    let world = &self.reserved[WORLD_IDENTITY as usize - 1];
+                    Some((&world.labels, Some(*prefix)))
+                }
+                None => None,
+            },
             Place::Nowhere => None,
         }
     }
@@ -70,23 +78,12 @@ impl Identities {
         self.look(number).is_some()
     }
 
-    /// The reserved numbers.
-    fn reserved_numbers(&self, alloc: Global) -> Result<Vec<u32>, Memory>
-        ensures { IfOk result (λ numbers. numbers.items ≡ map (λ row. row.number) reserved_identities) }
-    {
-        let mut numbers = Vec::new(alloc);
-        for row in self.reserved.iter() {
-            numbers.push(row.number)?;
-        }
-        Ok(numbers)
-    }
-
     /// The numbers that are held, ascending. The one error is want of memory.
     pub fn numbers(&self, alloc: Global) -> Result<Vec<u32>, Memory>
         ensures numbers { IfOk result (λ numbers. numbers.items ≡ map (λ row. row.number) self.now) }
         ensures sound { KeepsRows self.now }
     {
-        let mut numbers = self.reserved_numbers(alloc)?;
+        let mut numbers = numbers_of(alloc, &self.reserved)?;
         self.cluster.push_numbers(CLUSTER_FIRST, &mut numbers)?;
         self.local.push_numbers(LOCAL_FIRST, &mut numbers)?;
         Ok(numbers)

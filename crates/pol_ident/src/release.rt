@@ -18,9 +18,10 @@ impl Identities {
         match place_of(number) {
             Place::Cluster(place) => self.cluster.release(place),
             Place::Local(place) => self.local.release(place),
-            Place::Reserved(_) | Place::Nowhere => {
+            Place::Reserved(_) => {
                 let _ = &self.reserved;
             }
+            Place::Nowhere => unreachable!(),
         }
     }
 }

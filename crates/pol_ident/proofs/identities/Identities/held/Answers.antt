@@ -1,6 +1,7 @@
-use Rattle.std.proofs.Common.{refl, sym, ap, ◌∙◌}
-use Rattle.pol_ident.proofs.Looks.{cluster-row, local-row, nowhere-row, numbers-tied, has_row-mapped, numbers-all, reserved-row}
+use Rattle.std.proofs.Common.{is_some, sym, ap, ◌∙◌}
+use Rattle.pol_ident.proofs.Looks.{has_row-mapped, mapped-some}
 use Rattle.pol_ident.proofs.identities.Identities.held.Goals as goal
 
 pub returns-clause-held : goal.returns-clause-held
-returns-clause-held c = ?
+returns-clause-held c =
+    c.is_some.ensures ∙ sym (mapped-some _ c.look.result) ∙ ap is_some c.look.ensures.labels ∙ has_row-mapped (λ row. row.labels) c.args.number c.args.self.now
