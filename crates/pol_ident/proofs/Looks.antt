@@ -2,6 +2,7 @@
 use Rattle.std.proofs.Common.{zero, suc, ◌≡◌, ℕ, ◌+◌, ◌<◌, ◌≤◌, ◌&&◌, ◌||◌, ◌==◌, Bool, true, false, cond, List, [], ◌∷◌, ◌++◌, length, get_or, map, find, nat_le, Option, None, Some, option_map, is_some, refl, sym, ap, subst, ◌∙◌, inl, inr, arith}
 use Rattle.std.specs.Option.{option_and_then}
 use Rattle.std.specs.List.{list_any}
+use Rattle.std.proofs.lemmas.List.{append_assoc, append-nil}
 use Rattle.std.proofs.lemmas.Bool.{and_parts, eqb-true, leb-true}
 use Rattle.pol_addr.specs.declared.network.Prefix.{Prefix}
 use Rattle.pol_labels.specs.declared.label.Label.{Label}
@@ -56,9 +57,16 @@ module _ (cluster : List (Slot (List Label))) (local : List (Slot Prefix)) where
       ∙ row-past plain without number CLUSTER_FIRST cluster (local_rows local) (omega (arith, is.0, few))
       ∙ row-here worlds Some number LOCAL_FIRST place local [] is.0 tt
 
-  pub numbers-all : numbers all ≡ numbers reserved_identities ++ (numbers_from CLUSTER_FIRST cluster ++ (numbers_from LOCAL_FIRST local ++ []))
+  numbers-all : numbers all ≡ numbers reserved_identities ++ (numbers_from CLUSTER_FIRST cluster ++ (numbers_from LOCAL_FIRST local ++ []))
   numbers-all =
       ap (λ rest. numbers reserved_identities ++ rest) (numbers-rows plain without CLUSTER_FIRST cluster (local_rows local) ∙ ap (λ rest. numbers_from CLUSTER_FIRST cluster ++ rest) (numbers-rows worlds Some LOCAL_FIRST local []))
+
+  -- as they are collected
+  pub numbers-collected : (numbers reserved_identities ++ numbers_from CLUSTER_FIRST cluster) ++ numbers_from LOCAL_FIRST local ≡ numbers all
+  numbers-collected =
+      append_assoc (numbers reserved_identities) (numbers_from CLUSTER_FIRST cluster) (numbers_from LOCAL_FIRST local)
+      ∙ ap (λ rest. numbers reserved_identities ++ (numbers_from CLUSTER_FIRST cluster ++ rest)) (sym (append-nil (numbers_from LOCAL_FIRST local)))
+      ∙ sym numbers-all
 
   pub nowhere-row : (number : ℕ) → IsPlaceOf number Nowhere → KeepsRows all → row_of number all ≡ None
   nowhere-row number is keeps = by (row_of number all) refl
