@@ -1,0 +1,12 @@
+pub mod Added
+pub mod FreePlaces
+pub mod GivenBack
+pub mod HeldLabels
+pub mod HeldPrefixes
+pub mod Looks
+pub mod Refusals
+pub mod RowLists
+pub mod RowsOf
+pub mod Shown
+pub mod SlotRows
+pub mod TakenOut

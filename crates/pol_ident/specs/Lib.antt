@@ -1,0 +1,5 @@
+pub mod Slots
+pub mod Look
+pub mod Place
+pub mod Rows
+pub mod Tied

@@ -1,0 +1,18 @@
+//! Security identities: the numbers that label sets and prefixes hold (Cilium, Terminology, "Identity").
+//!
+//! `Identities` is seen as the list of its rows, which ascend by number. Label sets and prefixes are found by an index,
+//! rows by their number, and the least free number without a scan.
+#![tactic(auto)]
+
+mod acquire;
+mod error;
+mod identities;
+mod look;
+mod numbering;
+mod place;
+mod release;
+#[cfg(test)]
+mod tests;
+
+pub use error::IdentError;
+pub use identities::Identities;

@@ -1,0 +1,27 @@
+//! Numbers given back.
+ghost use Rattle.std.specs.Prelude.{◌≡◌, true};
+ghost use Rattle.pol_model.specs.Identities.{released};
+ghost use Rattle.pol_facts.specs.Holding.{has_row};
+ghost use Rattle.pol_facts.specs.Keeps.{KeepsRows};
+
+use crate::Identities;
+use crate::place::{Place, place_of};
+
+impl Identities {
+    /// Takes one holder away from the number, which is held. With its last holder the identity goes, and its number is
+    /// free. The reserved numbers 1 to 8 stay as they are. It takes no memory.
+    pub fn release(&mut self, number: u32)
+        requires held { has_row number self.old ≡ true }
+        ensures rows { self.new ≡ released number self.old }
+        ensures sound { KeepsRows self.new }
+    {
+        match place_of(number) {
+            Place::Cluster(place) => self.cluster.release(place),
+            Place::Local(place) => self.local.release(place),
+            Place::Reserved(_) => {
+                let _ = &self.reserved;
+            }
+            Place::Nowhere => unreachable!(),
+        }
+    }
+}
