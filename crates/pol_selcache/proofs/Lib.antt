@@ -9,3 +9,4 @@ pub mod Planning
 pub mod Sound
 pub mod Staying
 pub mod Retold
+pub mod Coming

@@ -9,16 +9,17 @@ use pol_data::Memory;
 use pol_sets::IdSet;
 use std::alloc::Global;
 
-/// The set of these numbers, in whatever order and however often each stands there.
-fn set_of_vec(numbers: Vec<u32>) -> IdSet
-    ensures members { (number : ℕ) → has number result ≡ has number numbers.items }
-    ensures short { length result ≤ vec_len numbers }
-    ensures set { IsIdSet result }
+/// The set of these numbers, in whatever order and however often each stands there. The sort merges the runs that it
+/// finds, so of two sets, one behind the other, it takes linear time.
+fn set_of_vec(numbers: Vec<u32>) -> Result<IdSet, Memory>
+    ensures members { IfOk result (λ set. (number : ℕ) → has number set ≡ has number numbers.items) }
+    ensures short { IfOk result (λ set. length set ≤ vec_len numbers) }
+    ensures set { IfOk result (λ set. IsIdSet set) }
 {
     let mut numbers = numbers;
-    numbers.sort_unstable();
+    numbers.sort()?;
     numbers.dedup();
-    IdSet::from_ascending(numbers)
+    Ok(IdSet::from_ascending(numbers))
 }
 
 /// The same of a slice.
@@ -27,7 +28,8 @@ pub(crate) fn set_of_slice(alloc: Global, numbers: &[u32]) -> Result<IdSet, Memo
     ensures short { IfOk result (λ set. length set ≤ length numbers.now) }
     ensures set { IfOk result (λ set. IsIdSet set) }
 {
-    Ok(set_of_vec(Vec::from_slice(alloc, numbers)?))
+    let set = set_of_vec(Vec::from_slice(alloc, numbers)?)?;
+    Ok(set)
 }
 
 /// Those of the numbers that the set has too.
@@ -72,5 +74,6 @@ pub(crate) fn moved(
 {
     let mut numbers = missing_in(alloc, set.as_slice(), lost)?;
     numbers.extend_from_slice(gained.as_slice())?;
-    Ok(set_of_vec(numbers))
+    let after = set_of_vec(numbers)?;
+    Ok(after)
 }

@@ -1,10 +1,14 @@
 //! Laws of the cache, over the definitions alone. Each function does nothing: its contract is the law.
-ghost use Rattle.std.specs.Prelude.{◌≡◌, ℕ, List, true, not, map};
+ghost use Rattle.std.specs.Prelude.{◌≡◌, ◌<◌, ℕ, List, [], ◌∷◌, true, false, not, map};
 ghost use Rattle.std.specs.List.{Contains};
 ghost use Rattle.pol_model.specs.Ascending.{Ascends};
 ghost use Rattle.pol_model.specs.declared.row.IdentityRow.{IdentityRow as OneRow};
 ghost use Rattle.pol_facts.specs.Holding.{has_row, IsPartOf};
+ghost use Rattle.pol_labels.specs.declared.label.Label.{Label};
+ghost use Rattle.pol_model.specs.Identities.{labels_held, number_for};
 ghost use Rattle.pol_changes.specs.Ids.{has};
+ghost use Rattle.pol_changes.specs.Log.{newest};
+ghost use Rattle.pol_selcache.specs.Cache.{Cache, MayPlan};
 ghost use Rattle.pol_selcache.specs.Live.{Live, AreExact, rows_without, with_reference, without_reference};
 ghost use Rattle.pol_selcache.specs.Told.{StartsTold, StaysTold, TellsDifference};
 
@@ -19,6 +23,13 @@ pub fn sets_stay_exact()
         → AreExact (rows_without gone all) live → AreExact rows live }
     ensures referred { (rows : List OneRow) (number : ℕ) (live : List Live) → AreExact rows live → AreExact rows (with_reference number live) }
     ensures dropped { (rows : List OneRow) (number : ℕ) (live : List Live) → AreExact rows live → AreExact rows (without_reference number live) }
+{}
+
+/// A label set that takes a new number may come: what a plan asks holds of that number, over the rows with it.
+pub fn a_label_set_may_come()
+    ensures { (labels : List Label) (rows : List OneRow) (number revision : ℕ) (cache : Cache) → Ascends (map (λ row. row.number) rows)
+        → number ≡ number_for labels rows → has_row number rows ≡ false → newest cache.log < revision → AreExact rows cache.live
+        → MayPlan revision (number ∷ []) [] (labels_held labels rows) cache }
 {}
 
 /// What `add` gives a new selector is what all changes since the start would have made of it: over the same rows two

@@ -11,6 +11,8 @@ mod judge;
 pub mod laws;
 mod plan;
 mod table;
+#[cfg(test)]
+mod tests;
 
 pub use cache::SelectorCache;
 pub use plan::Plan;

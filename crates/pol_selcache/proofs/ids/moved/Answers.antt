@@ -5,7 +5,7 @@ use Rattle.pol_selcache.proofs.ids.moved.Goals as goal
 
 pub returns-clause-members : goal.returns-clause-members
 returns-clause-members c = λ n.
-    c.set_of_vec.ensures.members n
+    c.in_ok-after.ensures.members n
     ∙ ap (has n) c.in_ok-extend_from_slice.ensures.items
     ∙ has-append n _ _
     ∙ ap (λ xs. has n c.in_ok-numbers.numbers.items || has n xs) c.as_slice-2.ensures.ids
