@@ -1,5 +1,5 @@
 -- One identity comes: what a plan asks then.
-use Rattle.std.proofs.Common.{◌≡◌, ℕ, ◌==◌, ◌<◌, ◌||◌, Bool, true, false, not, List, [], ◌∷◌, map, refl, sym, ap, ◌∙◌, inl, inr}
+use Rattle.std.proofs.Common.{◌≡◌, ℕ, ◌==◌, ◌<◌, ◌||◌, Bool, true, false, not, List, [], ◌∷◌, map, Result, Ok, Err, OnOk, OnErr, refl, sym, ap, ◌∙◌, inl, inr}
 use Rattle.std.proofs.lemmas.Bool.{both_ways, eq-eqb, eqb-true, ne_eqb}
 use Rattle.pol_labels.specs.declared.label.Label.{Label}
 use Rattle.pol_facts.specs.Holding.{has_row}
@@ -10,8 +10,9 @@ use Rattle.pol_model.specs.Identities.{labels_held, number_for, number_of_labels
 use Rattle.pol_model.proofs.AscendingStates.{RowsAscend, labels_ascend}
 use Rattle.pol_changes.specs.Ids.{has}
 use Rattle.pol_changes.specs.Log.{newest}
-use Rattle.pol_selcache.specs.Cache.{Cache, MayPlan}
-use Rattle.pol_selcache.specs.Live.{AreExact}
+use Rattle.pol_selcache.specs.Cache.{Cache, MayPlan, carried, with_room}
+use Rattle.pol_selcache.specs.Live.{Live, AreExact, is_live}
+use Rattle.pol_selcache.specs.Plan.{Plan, Planned, changed}
 use Rattle.pol_selcache.proofs.Staying.{exact_as_come}
 
 module _ (labels : List Label) (rows : List IdentityRow) (number : ℕ) (ascend : RowsAscend rows) (its : number ≡ number_for labels rows) (new : has_row number rows ≡ false) where
@@ -34,3 +35,13 @@ module _ (labels : List Label) (rows : List IdentityRow) (number : ℕ) (ascend 
     apart = (refl, tt);
     exact = exact_as_come rows (labels_held labels rows) (number ∷ []) cache.live (labels_ascend labels rows ascend) (part-labels_held labels rows ascend) comes exact;
   }
+
+-- ---- and it leaves the selectors alive
+changed_lives : (changes : List Planned) (live : List Live) (n : ℕ) → is_live n (changed changes live) ≡ is_live n live
+changed_lives changes [] n = refl
+changed_lives changes (s ∷ live) n = ap (λ b. (s.number == n) || b) (changed_lives changes live n)
+
+pub change_lives : {T E : Type 0} (r : Result T E) (plan : Plan) (old new : Cache) → OnOk r ((spare : ℕ) × (new ≡ carried plan (with_room spare old))) → OnErr r (new ≡ with_room new.log.spare old)
+    → (n : ℕ) → is_live n new.live ≡ is_live n old.live
+change_lives (Ok x) plan old new ok err n = ap (λ (cache : Cache). is_live n cache.live) ok.1 ∙ changed_lives plan.changes old.live n
+change_lives (Err e) plan old new ok err n = ap (λ (cache : Cache). is_live n cache.live) err

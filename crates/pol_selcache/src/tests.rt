@@ -1,5 +1,5 @@
 //! A selector's set as an identity comes: what it gained, and since when.
-ghost use Rattle.std.specs.Prelude.{◌≡◌, ℕ, ◌<◌};
+ghost use Rattle.std.specs.Prelude.{◌≡◌, ℕ, ◌<◌, true, IfSome};
 ghost use Rattle.pol_changes.specs.Log.{newest};
 ghost use Rattle.pol_selcache.specs.Live.{AreExact, is_live};
 
@@ -69,30 +69,74 @@ fn identities(alloc: Global, text: &str) -> Option<Identities> {
     Some(identities)
 }
 
-/// What the set of `app: x` gained and lost since a revision, where the selector was there at revision 1 and the identity
-/// came at 2; how many numbers it has; and the horizon.
-fn told<L: Ledger>(alloc: Global, revision: u64, blank: Blank) -> Option<(Move, usize, u64)>
+/// A cache with a selector of the peer alone, and its number.
+fn cache_of<L: Ledger>(
+    alloc: Global,
+    peer: &Peer,
+    identities: &Identities,
+    steps: &mut Steps<L>,
+) -> Option<(SelectorCache, u64)>
+    ensures newer { IfSome result (λ made. newest made.0.log < 2) }
+    ensures exact { IfSome result (λ made. AreExact identities.now made.0.live) }
+    ensures live { IfSome result (λ made. is_live made.1 made.0.live ≡ true) }
+{
+    let mut cache = SelectorCache::new(alloc);
+    let selector = cache.add(peer, identities, steps).ok()?;
+    Some((cache, selector))
+}
+
+/// The same of `app: x`, after an identity of that label came at revision 2.
+fn grown<L: Ledger>(
+    alloc: Global,
+    identities: &mut Identities,
+    steps: &mut Steps<L>,
+) -> Option<(SelectorCache, u64)>
+    ensures live { IfSome result (λ made. is_live made.1 made.0.live ≡ true) }
+{
+    let peer = peer(alloc)?;
+    let labels = label_set(alloc, "k8s:app=x")?;
+    let (mut cache, selector) = cache_of(alloc, &peer, identities, steps)?;
+    if comes(&mut cache, identities, &labels, steps) {
+        Some((cache, selector))
+    } else {
+        None
+    }
+}
+
+/// What a selector's set gained and lost since a revision, how many numbers it has, and the horizon.
+fn seen(
+    alloc: Global,
+    cache: &SelectorCache,
+    selector: u64,
+    revision: u64,
+) -> Option<(Move, usize, u64)>
+    requires live { is_live selector cache.now.live ≡ true }
+{
+    let count = cache.set_at_now(selector).ok()?.len();
+    let moved = cache.changes_since(alloc, selector, revision).ok()??;
+    Some((moved, count, cache.horizon()))
+}
+
+/// The same of the selector of `app: x`, which was there at revision 1 and whose identity came at 2.
+fn told<L: Ledger>(blank: Blank, alloc: Global, revision: u64) -> Option<(Move, usize, u64)>
     requires name { blank.name ≡ L.name }
     requires parts { blank.parts ≡ L.parts }
     requires some { blank.parts ≡ 1 }
 {
     let mut steps = Steps::<L>::new(blank);
-    let peer = peer(alloc)?;
-    let labels = label_set(alloc, "k8s:app=x")?;
     let mut identities = identities(alloc, "k8s:app=web")?;
-    let mut cache = SelectorCache::new(alloc);
-    let selector = cache.add(&peer, &identities, &mut steps).ok()?;
-    if !comes(&mut cache, &mut identities, &labels, &mut steps) {
-        return None;
-    }
-    let set = cache.set_at_now(selector).ok()?;
-    let moved = cache.changes_since(alloc, selector, revision).ok()??;
-    Some((moved, set.len(), cache.horizon()))
+    let (cache, selector) = grown(alloc, &mut identities, &mut steps)?;
+    seen(alloc, &cache, selector, revision)
+}
+
+/// What is told for a caller that counts no steps.
+fn told_uncounted(alloc: Global, revision: u64) -> Option<(Move, usize, u64)> {
+    told::<Brand>(Blank::new(1), alloc, revision)
 }
 
 #[test]
 fn a_number_that_came_is_told(rt: HostRuntime) {
-    let since_before = told::<Brand>(rt.alloc(), 1, Blank::new(1));
+    let since_before = told_uncounted(rt.alloc(), 1);
     assert!(rt;
         matches!(&since_before, Some((moved, 1, 0)) if moved.gained.as_slice() == [257].as_slice() && moved.lost.is_empty())
     );
@@ -100,7 +144,7 @@ fn a_number_that_came_is_told(rt: HostRuntime) {
 
 #[test]
 fn nothing_came_since_then(rt: HostRuntime) {
-    let since_then = told::<Brand>(rt.alloc(), 2, Blank::new(1));
+    let since_then = told_uncounted(rt.alloc(), 2);
     assert!(rt;
         matches!(&since_then, Some((moved, 1, 0)) if moved.gained.is_empty() && moved.lost.is_empty())
     );
