@@ -1,0 +1,12 @@
+pub mod Numbers
+pub mod RowSets
+pub mod Moves
+pub mod Exact
+pub mod LiveLists
+pub mod Places
+pub mod Carried
+pub mod Planning
+pub mod Sound
+pub mod Staying
+pub mod Retold
+pub mod Coming

@@ -1,0 +1,126 @@
+-- Which numbers the sets of a peer over some rows have.
+use Rattle.std.proofs.Common.{◌≡◌, ℕ, ◌==◌, ◌<◌, ◌&&◌, ◌||◌, Bool, true, false, cond, not, List, [], ◌∷◌, map, filter, find, Option, Some, None, option_map, refl, sym, ap, ◌∙◌, subst, inl, inr, arith}
+use Rattle.std.specs.List.{AllByRecursion, list_any}
+use Rattle.std.specs.List.Sorted.{IsStrictlySortedBy}
+use Rattle.std.specs.Option.{option_and_then, option_map_or}
+use Rattle.std.proofs.lemmas.Option.{same_Some}
+use Rattle.std.specs.Ordering.{nat_cmp}
+use Rattle.std.proofs.lemmas.Bool.{cases_Bool, eqb-true, eqb-false, and_right, and_left, ne_eqb}
+use Rattle.std.proofs.lemmas.Map.Views.{any-filter_same}
+use Rattle.pol_facts.proofs.Membership.{In-filter, In-map, find-In, list_any-map, map-In}
+use Rattle.pol_facts.proofs.SelectedPeerSets.{set_ascends}
+use Rattle.pol_facts.specs.Holding.{row_of}
+use Rattle.pol_model.specs.Ascending.{Ascends}
+use Rattle.pol_model.specs.declared.row.IdentityRow.{IdentityRow}
+use Rattle.pol_model.specs.Selects.{selects_row, set_at}
+use Rattle.pol_model.proofs.AscendingStates.{RowsAscend}
+use Rattle.pol_model.proofs.Ascents.{filter_ascends}
+use Rattle.pol_rule.specs.declared.policy.Peer.{Peer}
+use Rattle.pol_addr.specs.declared.network.Prefix.{Prefix}
+use Rattle.pol_labels.specs.declared.label.Label.{Label}
+use Rattle.pol_ident.specs.Look.{labels_at, prefix_at}
+use Rattle.pol_selcache.specs.Held.{row_with, selects_held}
+use Rattle.pol_changes.specs.Ids.{has}
+use Rattle.pol_selcache.specs.Live.{rows_without}
+use Rattle.std.proofs.lemmas.List.Kept.{IsStrictlySortedBy-filter}
+use Rattle.pol_data.proofs.Members.{In}
+use Rattle.pol_selcache.proofs.Numbers.{In-has, has-In, has-filter, same_numbers, strict_from_ascends}
+
+module _ {X : Type 0} where
+  -- what some filtered element passes
+  pub any_filter : (test p : X → Bool) (xs : List X) → list_any test (filter p xs) ≡ list_any (λ x. p x && test x) xs
+  any_filter test p [] = refl
+  any_filter test p (x ∷ xs) =
+      elim (p x) as (λ b. list_any test (cond b (x ∷ filter p xs) (filter p xs)) ≡ ((b && test x) || list_any (λ y. p y && test y) xs)) [
+        | true ↦ ap (λ b. test x || b) (any_filter test p xs)
+        | false ↦ any_filter test p xs
+      ]
+
+module _ (p : Peer) where
+  abbrev is_selected_as : ℕ → IdentityRow → Bool
+  is_selected_as n row = selects_row p row && (row.number == n)
+
+  pub has-set_at : (n : ℕ) (rows : List IdentityRow) → has n (set_at rows p) ≡ list_any (is_selected_as n) rows
+  has-set_at n rows =
+      list_any-map (λ row. row.number) (λ own. own == n) (filter (selects_row p) rows)
+      ∙ any_filter (λ row. row.number == n) (selects_row p) rows
+
+  -- without some numbers' rows the set is without them
+  pub has-set_without : (n : ℕ) (numbers : List ℕ) (rows : List IdentityRow) → has n (set_at (rows_without numbers rows) p) ≡ (not (has n numbers) && has n (set_at rows p))
+  has-set_without n numbers rows =
+      has-set_at n (rows_without numbers rows)
+      ∙ any-filter_same (is_selected_as n) (λ row. not (has row.number numbers)) (not (has n numbers))
+      (λ row passes. ap (λ m. not (has m numbers)) (eqb-true row.number n (second (selects_row p row) (row.number == n) passes))) rows
+      ∙ ap (λ b. not (has n numbers) && b) (sym (has-set_at n rows))
+    where
+      second : (a b : Bool) → (a && b) ≡ true → b ≡ true
+      second true b both = both
+      second false b both = absurd (let wrong : ⊥ = cc in wrong)
+
+  none_above : (n : ℕ) (rows : List IdentityRow) → AllByRecursion (λ m. n < m) (map (λ row. row.number) rows) → list_any (is_selected_as n) rows ≡ false
+  none_above n [] above = refl
+  none_above n (row ∷ rows) above =
+      let other : (row.number == n) ≡ false = ne_eqb row.number n (λ same. let more = above.0 in omega arith) in
+      ap (λ b. b || list_any (is_selected_as n) rows) (and_right (selects_row p row) (row.number == n) other)
+      ∙ none_above n rows above.1
+
+  -- a number is in the set exactly where it is held and selected
+  pub has-held : (n : ℕ) (rows : List IdentityRow) → RowsAscend rows → selects_held rows p n ≡ has n (set_at rows p)
+  has-held n rows ascend = held n rows ascend ∙ sym (has-set_at n rows)
+    where
+      held : (n : ℕ) (rows : List IdentityRow) → RowsAscend rows → selects_held rows p n ≡ list_any (is_selected_as n) rows
+      held n [] ascend = refl
+      held n (row ∷ rows) ascend =
+          elim (cases_Bool (row.number == n)) [
+            | inl same ↦
+                let none = none_above n rows (subst (λ m. AllByRecursion (λ k. m < k) (map (λ r. r.number) rows)) (eqb-true row.number n same) ascend.0) in
+                rw (same, none) (sides (selects_row p row))
+            | inr other ↦
+                let rest = held n rows ascend.1 in
+                ap (λ b. option_map_or (selects_row p) (cond b (Some row) (row_of n rows)) false) other
+                ∙ rest
+                ∙ ap (λ b. b || list_any (is_selected_as n) rows) (sym (and_right (selects_row p row) (row.number == n) other))
+          ]
+        where
+          sides : (b : Bool) → b ≡ ((b && true) || false)
+          sides true = refl
+          sides false = refl
+
+  pub set_sorted : (rows : List IdentityRow) → RowsAscend rows → IsStrictlySortedBy nat_cmp (set_at rows p)
+  set_sorted rows ascend = strict_from_ascends (set_at rows p) (set_ascends rows p ascend)
+
+pub rows_without_ascend : (numbers : List ℕ) (rows : List IdentityRow) → RowsAscend rows → RowsAscend (rows_without numbers rows)
+rows_without_ascend numbers rows ascend = filter_ascends (λ row. row.number) (λ row. not (has row.number numbers)) rows ascend
+
+-- what is told of a held number is what its row has
+pub held_is : (rows : List IdentityRow) (p : Peer) (n : ℕ) (labels : List Label) (prefix : Option Prefix) → Some labels ≡ labels_at n rows → prefix ≡ prefix_at n rows
+    → selects_row p (row_with n labels prefix) ≡ selects_held rows p n
+held_is rows p n labels prefix its_labels its_prefix = by (row_of n rows) refl
+  where
+    by : (o : Option IdentityRow) → row_of n rows ≡ o → selects_row p (row_with n labels prefix) ≡ option_map_or (selects_row p) o false
+    by None is = absurd (let none : labels_at n rows ≡ None = ap (λ o. option_map (λ (row : IdentityRow). row.labels) o) is in let wrong : ⊥ = cc in wrong)
+    by (Some row) is =
+        let at : row.number ≡ n = eqb-true row.number n (find-In (λ r. r.number == n) row rows is).1 in
+        let same_labels : labels ≡ row.labels = same_Some labels row.labels (its_labels ∙ ap (λ o. option_map (λ (r : IdentityRow). r.labels) o) is) in
+        let same_prefix : prefix ≡ row.prefix = its_prefix ∙ ap (λ o. option_and_then (λ (r : IdentityRow). r.prefix) o) is in
+        let give : ℕ → List Label → Option Prefix → Bool = λ m ls o. selects_row p (row_with m ls o) in
+        λ i. give (sym at i) (same_labels i) (same_prefix i)
+
+-- of all held numbers those that the peer selects are its set
+pub all_selected : (rows : List IdentityRow) (p : Peer) → RowsAscend rows → filter (selects_held rows p) (map (λ row. row.number) rows) ≡ set_at rows p
+all_selected rows p ascend =
+    same_numbers _ _
+    (IsStrictlySortedBy-filter nat_cmp (selects_held rows p) _ (strict_from_ascends (map (λ row. row.number) rows) ascend))
+    (set_sorted p rows ascend)
+    (λ n. has-filter (selects_held rows p) n (map (λ row. row.number) rows)
+    ∙ ap (λ b. b && has n (map (λ row. row.number) rows)) (has-held p n rows ascend)
+    ∙ within (has n (set_at rows p)) (has n (map (λ row. row.number) rows)) (is_held_too n rows))
+  where
+    within : (a b : Bool) → (a ≡ true → b ≡ true) → (a && b) ≡ a
+    within true b implies = implies refl
+    within false b implies = refl
+
+    is_held_too : (n : ℕ) (others : List IdentityRow) → has n (set_at others p) ≡ true → has n (map (λ row. row.number) others) ≡ true
+    is_held_too n others there =
+        let found = In-map (λ (row : IdentityRow). row.number) n (filter (selects_row p) others) (In-has n (set_at others p) there) in
+        has-In n (map (λ row. row.number) others) (subst (λ m. In m (map (λ row. row.number) others)) found.2 (map-In (λ (row : IdentityRow). row.number) found.0 others (In-filter (selects_row p) found.0 others found.1).0))

@@ -1,0 +1,95 @@
+//! The cache, and what it tells.
+ghost use Rattle.std.specs.Prelude.{◌≡◌, ◌↔◌, ◌<◌, IfOk, IsNone, OnOk, OnErr, [], Some, true, option_map};
+ghost use Rattle.std.specs.Arc.{arc_value};
+ghost use Rattle.pol_changes.specs.Log.{empty_log, since};
+ghost use Rattle.pol_selcache.specs.Live.{is_live, selector_of};
+ghost use Rattle.pol_selcache.specs.Cache.{Cache, IsSound, dropped};
+
+use crate::table::Table;
+use pol_changes::ChangeLog;
+use pol_data::Memory;
+use pol_sets::{IdSet, Move};
+use std::alloc::Global;
+use std::marker::Model;
+use std::sync::Arc;
+
+/// The sets of identity numbers that the peers of policies select, kept as numbers come and go (Cilium, "Selector
+/// cache"). Equal peers share one selector, whose number of 64 bits no other ever has, and which goes with its last
+/// reference ('profile').
+#[derive(Drop)]
+pub struct SelectorCache {
+    pub(crate) alloc: Global,
+    pub(crate) table: Table,
+    // The number of the next new selector.
+    pub(crate) next: u64,
+    pub(crate) log: ChangeLog,
+}
+
+impl Model for SelectorCache {
+    ghost use Rattle.pol_selcache.specs.Cache.{Cache, IsSound};
+
+    ghost Value = { Cache };
+
+    ghost view = { λ c. record { live = c.table; next = c.next; log = c.log } };
+
+    ghost invariant = { λ c. IsSound (record { live = c.table; next = c.next; log = c.log }) };
+}
+
+impl SelectorCache {
+    /// No selector yet, and no change. It takes no memory.
+    pub fn new(alloc: Global) -> SelectorCache
+        ensures live { result.live ≡ [] }
+        ensures next { result.next ≡ 0 }
+        ensures log { result.log ≡ empty_log }
+        ensures sound { IsSound result }
+    {
+        SelectorCache {
+            alloc,
+            table: Table::new(alloc),
+            next: 0,
+            log: ChangeLog::new(alloc),
+        }
+    }
+
+    /// One reference less to a live selector, which goes with its last one. It takes no memory.
+    pub fn drop_ref(&mut self, selector: u64)
+        requires live { is_live selector self.old.live ≡ true }
+        ensures dropped { self.new ≡ dropped selector self.old }
+        ensures sound { IsSound self.new }
+    {
+        self.table.unrefer(selector);
+    }
+
+    /// The set of a live selector: the numbers that its peer selects. `Memory` is want of memory.
+    pub fn set_at_now(&self, selector: u64) -> Result<Arc<IdSet>, Memory>
+        requires live { is_live selector self.now.live ≡ true }
+        ensures set { IfOk result (λ set. option_map (λ s. s.set) (selector_of selector self.now.live) ≡ Some (arc_value set)) }
+        ensures sound { IsSound self.now }
+    {
+        Arc::try_clone(self.table.set_of(selector))
+    }
+
+    /// What the set of a live selector gained and lost in all since a revision: the net change of its changes of a later
+    /// revision. None exactly where the revision is below the horizon. The one error is want of memory.
+    pub fn changes_since(
+        &self,
+        alloc: Global,
+        selector: u64,
+        revision: u64,
+    ) -> Result<Option<Move>, Memory>
+        requires live { is_live selector self.now.live ≡ true }
+        ensures since { IfOk result (λ m. m ≡ since self.now.log selector revision) }
+        ensures none { IfOk result (λ m. IsNone m ↔ (revision < self.now.log.horizon)) }
+        ensures sound { IsSound self.now }
+    {
+        self.log.since(alloc, selector, revision)
+    }
+
+    /// The revision of the newest change that was dropped, 0 if none was. The last 65,536 changes are kept ('profile').
+    pub fn horizon(&self) -> u64
+        ensures horizon { result ≡ self.now.log.horizon }
+        ensures sound { IsSound self.now }
+    {
+        self.log.horizon()
+    }
+}

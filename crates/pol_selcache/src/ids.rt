@@ -1,0 +1,79 @@
+//! Sets of numbers, made of numbers and of other sets.
+ghost use Rattle.std.specs.Prelude.{◌≡◌, ℕ, ◌≤◌, ◌&&◌, ◌||◌, not, IfOk, filter, length, vec_len};
+ghost use Rattle.std.specs.List.Sorted.{IsStrictlySortedBy};
+ghost use Rattle.std.specs.Ordering.{nat_cmp};
+ghost use Rattle.pol_sets.specs.IdSet.{IsIdSet};
+ghost use Rattle.pol_changes.specs.Ids.{has, without};
+
+use pol_data::Memory;
+use pol_sets::IdSet;
+use std::alloc::Global;
+
+/// The set of these numbers, in whatever order and however often each stands there. The sort merges the runs that it
+/// finds, so of two sets, one behind the other, it takes linear time.
+fn set_of_vec(numbers: Vec<u32>) -> Result<IdSet, Memory>
+    ensures members { IfOk result (λ set. (number : ℕ) → has number set ≡ has number numbers.items) }
+    ensures short { IfOk result (λ set. length set ≤ vec_len numbers) }
+    ensures set { IfOk result (λ set. IsIdSet set) }
+{
+    let mut numbers = numbers;
+    numbers.sort()?;
+    numbers.dedup();
+    Ok(IdSet::from_ascending(numbers))
+}
+
+/// The same of a slice.
+pub(crate) fn set_of_slice(alloc: Global, numbers: &[u32]) -> Result<IdSet, Memory>
+    ensures members { IfOk result (λ set. (number : ℕ) → has number set ≡ has number numbers.now) }
+    ensures short { IfOk result (λ set. length set ≤ length numbers.now) }
+    ensures set { IfOk result (λ set. IsIdSet set) }
+{
+    let set = set_of_vec(Vec::from_slice(alloc, numbers)?)?;
+    Ok(set)
+}
+
+/// Those of the numbers that the set has too.
+fn found_in(alloc: Global, numbers: &[u32], set: &IdSet) -> Result<Vec<u32>, Memory>
+    ensures { IfOk result (λ found. found.items ≡ filter (λ number. has number set.now) numbers.now) }
+{
+    numbers
+        .iter()
+        .copied()
+        .filter(|number| set.contains(*number))
+        .collect(alloc)
+}
+
+/// Those of the numbers that the set has not.
+fn missing_in(alloc: Global, numbers: &[u32], set: &IdSet) -> Result<Vec<u32>, Memory>
+    ensures { IfOk result (λ missing. missing.items ≡ without numbers.now set.now) }
+{
+    numbers
+        .iter()
+        .copied()
+        .filter(|number| !set.contains(*number))
+        .collect(alloc)
+}
+
+/// The numbers of both sets.
+pub(crate) fn in_both(alloc: Global, numbers: &IdSet, others: &IdSet) -> Result<IdSet, Memory>
+    ensures { IfOk result (λ set. set ≡ filter (λ number. has number others.now) numbers.now) }
+{
+    let both = found_in(alloc, numbers.as_slice(), others)?;
+    Ok(IdSet::from_ascending(both))
+}
+
+/// The set with the numbers that it gained and without those that it lost.
+pub(crate) fn moved(
+    alloc: Global,
+    set: &IdSet,
+    gained: &IdSet,
+    lost: &IdSet,
+) -> Result<IdSet, Memory>
+    ensures members { IfOk result (λ after. (number : ℕ) → has number after ≡ ((has number set.now && not (has number lost.now)) || has number gained.now)) }
+    ensures set { IfOk result (λ after. IsIdSet after) }
+{
+    let mut numbers = missing_in(alloc, set.as_slice(), lost)?;
+    numbers.extend_from_slice(gained.as_slice())?;
+    let after = set_of_vec(numbers)?;
+    Ok(after)
+}

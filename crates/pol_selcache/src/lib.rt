@@ -1,0 +1,19 @@
+//! The selector cache: the sets of identity numbers that the peers of policies select, kept as numbers come and go.
+//!
+//! `add` gives a peer a selector, and `drop_ref` takes a reference back. `plan` finds what numbers that come and go
+//! change, and takes all memory; `carry_out` makes the changes. `changes_since` tells how a set changed.
+#![tactic(auto)]
+
+mod add;
+mod cache;
+mod ids;
+mod judge;
+pub mod laws;
+mod plan;
+mod table;
+#[cfg(test)]
+mod tests;
+
+pub use cache::SelectorCache;
+pub use plan::Plan;
+pub use pol_sets::{IdSet, Move};
