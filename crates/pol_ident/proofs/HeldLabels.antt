@@ -79,12 +79,11 @@ module _ (reserved : List IdentityRow) (cluster : List (Slot (List Label))) (loc
   old = rows_of cluster local
 
   number-found : (number : ℕ) → number_of_labels labels old ≡ Some number → (number ≡ number_for labels old) × (with_holder number old ≡ labels_held labels old) × (is_exhausted labels old ≡ false)
-  number-found number is =
-      (
-        sym (ap (λ o. or_free o (free_number CLUSTER_FIRST old)) is),
-        sym (ap (λ o. held_or_new o (record { number = free_number CLUSTER_FIRST old; labels = labels; prefix = None; holders = 1 }) old) is),
-        ap (λ o. is_none o && nat_lt CLUSTER_LAST (free_number CLUSTER_FIRST old)) is,
-      )
+  number-found number is = (
+    sym (ap (λ o. or_free o (free_number CLUSTER_FIRST old)) is),
+    sym (ap (λ o. held_or_new o (record { number = free_number CLUSTER_FIRST old; labels = labels; prefix = None; holders = 1 }) old) is),
+    ap (λ o. is_none o && nat_lt CLUSTER_LAST (free_number CLUSTER_FIRST old)) is,
+  )
 
   -- the set has a place
   place-found : (place : ℕ) → HasPlace same_labels labels cluster place → (place < length cluster) × (number_of_labels labels old ≡ Some (CLUSTER_FIRST + place))
@@ -147,7 +146,7 @@ module _ (reserved : List IdentityRow) (cluster : List (Slot (List Label))) (loc
       let number = free-number cluster local few (omega (arith, room)) in
       let exhausted = ap (λ o. is_none o && nat_lt CLUSTER_LAST (free_number CLUSTER_FIRST old)) absent ∙ le-ltb CLUSTER_LAST (free_number CLUSTER_FIRST old) (omega (arith, number, room)) in
       let is = sym (new-rows cluster local (free_number CLUSTER_FIRST old) labels number room)
-          ∙ sym (ap (λ o. held_or_new o (record { number = free_number CLUSTER_FIRST old; labels = labels; prefix = None; holders = 1 }) old) absent) in
+      ∙ sym (ap (λ o. held_or_new o (record { number = free_number CLUSTER_FIRST old; labels = labels; prefix = None; holders = 1 }) old) absent) in
       record {
         number = sym (ap (λ o. or_free o (free_number CLUSTER_FIRST old)) absent ∙ number ∙ ap (λ p. CLUSTER_FIRST + p) (sym least));
         is = is;

@@ -88,8 +88,8 @@ module _ (cluster : List (Slot (List Label))) (local : List (Slot Prefix)) (few 
   more-rows n place is =
       more-front n reserved_identities (cluster_rows cluster (local_rows local)) (reserved-below n (omega (arith, is)))
       ∙ ap (λ rest. reserved_identities ++ rest) (
-        more-past plain without n CLUSTER_FIRST cluster (local_rows local) (omega (arith, is, few))
-        ∙ ap (cluster_rows cluster) (more-here worlds Some n LOCAL_FIRST place local [] is (unreserved n (omega (arith, is))) tt)
+      more-past plain without n CLUSTER_FIRST cluster (local_rows local) (omega (arith, is, few))
+      ∙ ap (cluster_rows cluster) (more-here worlds Some n LOCAL_FIRST place local [] is (unreserved n (omega (arith, is))) tt)
       )
 
   pub less-rows : (n place : ℕ) → n ≡ LOCAL_FIRST + place → AreHeld rows → released n rows ≡ rows_of cluster (changed one_less place local)
@@ -97,16 +97,16 @@ module _ (cluster : List (Slot (List Label))) (local : List (Slot Prefix)) (few 
       let behind = held-behind reserved_identities (cluster_rows cluster (local_rows local)) held in
       less-front n reserved_identities (cluster_rows cluster (local_rows local)) (reserved-below n (omega (arith, is))) held
       ∙ ap (λ rest. reserved_identities ++ rest) (
-        less-past plain without n CLUSTER_FIRST cluster (local_rows local) (omega (arith, is, few)) behind
-        ∙ ap (cluster_rows cluster) (less-here worlds Some n LOCAL_FIRST place local [] is (unreserved n (omega (arith, is))) tt (held-past plain without CLUSTER_FIRST cluster (local_rows local) behind))
+      less-past plain without n CLUSTER_FIRST cluster (local_rows local) (omega (arith, is, few)) behind
+      ∙ ap (cluster_rows cluster) (less-here worlds Some n LOCAL_FIRST place local [] is (unreserved n (omega (arith, is))) tt (held-past plain without CLUSTER_FIRST cluster (local_rows local) behind))
       )
 
   new-rows : (n : ℕ) (prefix : Prefix) → n ≡ LOCAL_FIRST + free_place local → placed_by (λ row. row.number) (prefix_row prefix n) rows ≡ rows_of cluster (filled (prefix, 1) local)
   new-rows n prefix is =
       placed_behind (λ row. row.number) (prefix_row prefix n) reserved_identities (cluster_rows cluster (local_rows local)) (reserved-below n (omega (arith, is)))
       ∙ ap (λ rest. reserved_identities ++ rest) (
-        placed-past plain without (prefix_row prefix n) CLUSTER_FIRST cluster (local_rows local) (omega (arith, is, few))
-        ∙ ap (cluster_rows cluster) (placed-here worlds Some n LOCAL_FIRST (prefix, 1) local [] is tt)
+      placed-past plain without (prefix_row prefix n) CLUSTER_FIRST cluster (local_rows local) (omega (arith, is, few))
+      ∙ ap (cluster_rows cluster) (placed-here worlds Some n LOCAL_FIRST (prefix, 1) local [] is tt)
       )
 
 -- What a call that gave the prefix this number owes.
@@ -128,11 +128,10 @@ module _ (reserved : List IdentityRow) (cluster : List (Slot (List Label))) (loc
   old = rows_of cluster local
 
   number-found : (number : ℕ) → number_of_prefix prefix old ≡ Some number → (number ≡ number_for_prefix prefix old) × (with_holder number old ≡ prefix_held prefix old)
-  number-found number is =
-      (
-        sym (ap (λ o. or_free o (free_number LOCAL_FIRST old)) is),
-        sym (ap (λ o. held_or_new o (prefix_row prefix (free_number LOCAL_FIRST old)) old) is),
-      )
+  number-found number is = (
+    sym (ap (λ o. or_free o (free_number LOCAL_FIRST old)) is),
+    sym (ap (λ o. held_or_new o (prefix_row prefix (free_number LOCAL_FIRST old)) old) is),
+  )
 
   some_room : (number : ℕ) → number_of_prefix prefix old ≡ Some number → (locals_held old ≡ LOCAL_IDENTITIES) × (number_of_prefix prefix old ≡ None) → ⊥
   some_room number is full = some_is_none (sym is ∙ full.1)
@@ -198,7 +197,7 @@ module _ (reserved : List IdentityRow) (cluster : List (Slot (List Label))) (loc
       let number = free-number cluster local known.cluster_few in
       let room = locals-room cluster local known.cluster_few free few in
       let is = sym (new-rows cluster local known.cluster_few (free_number LOCAL_FIRST old) prefix number)
-          ∙ sym (ap (λ o. held_or_new o (prefix_row prefix (free_number LOCAL_FIRST old)) old) absent) in
+      ∙ sym (ap (λ o. held_or_new o (prefix_row prefix (free_number LOCAL_FIRST old)) old) absent) in
       record {
         number = sym (ap (λ o. or_free o (free_number LOCAL_FIRST old)) absent ∙ number ∙ ap (λ p. LOCAL_FIRST + p) (sym least));
         is = is;

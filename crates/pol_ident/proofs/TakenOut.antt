@@ -105,7 +105,7 @@ module _ {K : Type 0} (entries : List (K × ℕ)) (index : ℕ) (gone : K × ℕ
           let from = left-from within i (key, other) at in
           let slot = tied.slot from.0 key other from.3 in
           let differs : other ≢ place = λ same.
-              from.1 (sym slot.2 ∙ ap (λ h. h.index) (same_Some slot.0 held (sym slot.1 ∙ ap (λ p. get_or slots p None) same ∙ taken)) ∙ its) in
+          from.1 (sym slot.2 ∙ ap (λ h. h.index) (same_Some slot.0 held (sym slot.1 ∙ ap (λ p. get_or slots p None) same ∙ taken)) ∙ its) in
           (record slot.0 { index = moved slot.0.index }, out.rest other differs ∙ ap moved_slot slot.1, ap moved slot.2 ∙ from.2);
     }
       where
@@ -235,7 +235,7 @@ module _ {K : Type 0} (entries others : List (K × ℕ)) (slots : List (Option H
       is_out (set slots place None) (out-last entries index gone.entry slots place gone.held tied gone.there gone.its (past (left entries index gone.entry) (none ∙ ap (λ es. slice_get es index) gone.left_are)))
     where
       past : (es : List (K × ℕ)) → None ≡ slice_get es index → length es ≤ index
-      past es none = elim (cases_lt index (length es)) [ | inl within ↦ absurd (none_is_some (none ∙ slice_get-get_or es index gone.entry within)) | inr beyond ↦ beyond ]
+      past es none = elim (cases_lt index (length es)) [ inl within ↦ absurd (none_is_some (none ∙ slice_get-get_or es index gone.entry within)) | inr beyond ↦ beyond ]
         where
           none_is_some : {e : K × ℕ} → None ≡ Some e → ⊥
           none_is_some e = cc
@@ -266,8 +266,7 @@ module _ {K : Type 0} (entries : List (K × ℕ)) (slots : List (Option Held)) (
       → IsFreeOf free (all_shown entries slots) × HasRoom (all_shown entries slots) capacity → all_shown others now ≡ set (all_shown entries slots) place None
       → IsPermutation (record { 0 = place } ∷ free) more → KeepsHeap least_first free more → capacity ≤ room
       → IsFreeOf more (all_shown others now) × HasRoom (all_shown others now) room
-  given-back others now free more capacity room is seen perm keeps wide =
-      (
-        subst (IsFreeOf more) (sym seen) (IsFreeOf-pushed (all_shown entries slots) free more (record { 0 = place }) (own.0, held.holders) is.0 own.1 perm (keeps is.0.heap)),
-        wider-room (all_shown others now) capacity room (same-room (all_shown entries slots) (all_shown others now) capacity (ap length seen ∙ length-set (all_shown entries slots) place None) is.1) wide,
-      )
+  given-back others now free more capacity room is seen perm keeps wide = (
+    subst (IsFreeOf more) (sym seen) (IsFreeOf-pushed (all_shown entries slots) free more (record { 0 = place }) (own.0, held.holders) is.0 own.1 perm (keeps is.0.heap)),
+    wider-room (all_shown others now) capacity room (same-room (all_shown entries slots) (all_shown others now) capacity (ap length seen ∙ length-set (all_shown entries slots) place None) is.1) wide,
+  )
