@@ -1,5 +1,5 @@
 -- A label set and the rows: what its number is, and what the rows are once it is held.
-use Rattle.std.proofs.Common.{◌≡◌, ◌≢◌, ℕ, ◌+◌, ◌<◌, ◌≤◌, ◌&&◌, Bool, true, false, not, cond, List, [], ◌∷◌, ◌++◌, length, nat_lt, Option, None, Some, ◌⊎◌, inl, inr, ⊎_elim, is_none, refl, sym, ap, subst, ◌∙◌, arith}
+use Rattle.std.proofs.Common.{◌≡◌, ℕ, ◌+◌, ◌<◌, ◌≤◌, ◌&&◌, Bool, true, false, not, List, [], ◌∷◌, ◌++◌, length, nat_lt, Option, None, Some, inl, inr, is_none, refl, sym, ap, subst, ◌∙◌, arith}
 use Rattle.std.specs.Prelude.{codes}
 use Rattle.std.proofs.lemmas.Bool.{and_parts, and_right, both_ways, le-leb, le-ltb, lt-leb, lt-ltb, not-true}
 use Rattle.pol_addr.specs.declared.network.Prefix.{Prefix}
@@ -7,8 +7,8 @@ use Rattle.pol_labels.specs.declared.label.Label.{Label}
 use Rattle.pol_labels.specs.Order.{IsLabelSet}
 use Rattle.pol_labels.specs.Same.{same_labels}
 use Rattle.pol_labels.specs.SameLaws.{same_labels-Decides}
-use Rattle.pol_data.proofs.Members.{In, Contains-from_In}
-use Rattle.pol_model.specs.declared.limits.TheConstants.{CLUSTER_FIRST, CLUSTER_IDENTITIES, CLUSTER_LAST, INIT_IDENTITY, LOCAL_FIRST, LOCAL_IDENTITIES, RESERVED_LAST}
+use Rattle.pol_data.proofs.Members.{Contains-from_In}
+use Rattle.pol_model.specs.declared.limits.TheConstants.{CLUSTER_FIRST, CLUSTER_IDENTITIES, CLUSTER_LAST, INIT_IDENTITY, LOCAL_FIRST, RESERVED_LAST}
 use Rattle.pol_model.specs.declared.row.IdentityRow.{IdentityRow}
 use Rattle.pol_model.specs.Fault.{has_reserved, is_exhausted, is_init}
 use Rattle.pol_model.specs.Identities.{free_number, held_or_new, is_local, is_reserved, labels_held, number_for, number_of_labels, or_free, released, reserved_identities, reserved_row, with_holder}
@@ -17,11 +17,11 @@ use Rattle.pol_model.specs.Worlds.{reserved_label}
 use Rattle.pol_facts.specs.Keeps.{KeepsRows}
 use Rattle.pol_facts.proofs.FoundRows.{found-labels, found_with, labels_pass, reserved-there}
 use Rattle.pol_facts.proofs.Keyed.{placed_behind}
-use Rattle.pol_facts.proofs.Membership.{In-append, In-left, In-right}
-use Rattle.pol_facts.proofs.RowLaws.{keep_labels, keep_released}
+use Rattle.pol_facts.proofs.Membership.{In-append, In-right}
+use Rattle.pol_facts.proofs.RowLaws.{keep_labels}
 use Rattle.pol_facts.proofs.StartRows.{start_row}
-use Rattle.pol_ident.specs.Rows.{IsIdentities, cluster_rows, local_rows, row_with, rows_of, rows_then}
-use Rattle.pol_ident.specs.Slots.{HasNone, HasPlace, Slot, changed, filled, free_place, one_less, one_more, slot_at}
+use Rattle.pol_ident.specs.Rows.{IsIdentities, cluster_rows, local_rows, row_with, rows_of}
+use Rattle.pol_ident.specs.Slots.{HasNone, HasPlace, Slot, changed, filled, free_place, one_less, one_more}
 use Rattle.pol_ident.proofs.FreePlaces.{free_place-le, taken_within}
 use Rattle.pol_ident.proofs.RowLists.{AllAbove, AreHeld, recounted-reserved}
 use Rattle.pol_ident.proofs.RowsOf.{In-here, In-slots, held-behind, length-changed, length-filled, less-front, more-front, reserved-below}

@@ -1,7 +1,7 @@
 -- A prefix and the rows: what its number is, and what the rows are once it is held.
-use Rattle.std.proofs.Common.{◌≡◌, ◌≢◌, ℕ, ◌+◌, ◌-◌, ◌<◌, ◌≤◌, ◌&&◌, Bool, true, false, not, cond, List, [], ◌∷◌, ◌++◌, length, nat_lt, nat_le, count_by, Option, None, Some, ◌⊎◌, inl, inr, refl, sym, ap, subst, ◌∙◌, arith}
+use Rattle.std.proofs.Common.{◌≡◌, ◌≢◌, ℕ, ◌+◌, ◌-◌, ◌<◌, ◌≤◌, Bool, true, false, cond, List, [], ◌∷◌, ◌++◌, length, Option, None, Some, inl, inr, refl, sym, ap, subst, ◌∙◌, arith}
 use Rattle.std.specs.Prelude.{codes}
-use Rattle.std.proofs.lemmas.Bool.{both_ways, le-leb, lt-leb}
+use Rattle.std.proofs.lemmas.Bool.{both_ways, lt-leb}
 use Rattle.std.proofs.lemmas.List.Sums.{sum_by-cons}
 use Rattle.pol_addr.specs.Cidr.{IsPrefix}
 use Rattle.pol_addr.specs.Prefix.{world}
@@ -10,7 +10,7 @@ use Rattle.pol_addr.specs.declared.network.Prefix.{Prefix}
 use Rattle.pol_addr.proofs.Equality.{prefix_eq-Decides}
 use Rattle.pol_labels.specs.declared.label.Label.{Label}
 use Rattle.pol_data.proofs.Members.{In, Contains-from_In, every-in}
-use Rattle.pol_model.specs.declared.limits.TheConstants.{CLUSTER_FIRST, CLUSTER_IDENTITIES, LOCAL_FIRST, LOCAL_IDENTITIES, RESERVED_LAST, WORLD_IDENTITY}
+use Rattle.pol_model.specs.declared.limits.TheConstants.{CLUSTER_FIRST, CLUSTER_IDENTITIES, LOCAL_FIRST, LOCAL_IDENTITIES, WORLD_IDENTITY}
 use Rattle.pol_model.specs.declared.row.IdentityRow.{IdentityRow}
 use Rattle.pol_model.specs.Fault.{locals_held}
 use Rattle.pol_model.specs.Identities.{free_number, held_or_new, is_local, or_free, released, reserved_identities, reserved_row, with_holder}
@@ -22,12 +22,11 @@ use Rattle.pol_facts.proofs.FoundRows.{found-prefix, found_with, locals-few, res
 use Rattle.pol_facts.proofs.Keyed.{placed_behind}
 use Rattle.pol_facts.proofs.Ledger.{has_prefix-is}
 use Rattle.pol_facts.proofs.Membership.{In-append, In-right}
-use Rattle.pol_facts.proofs.PrefixHolders.{has_prefix-at, least_free-within}
+use Rattle.pol_facts.proofs.PrefixHolders.{least_free-within}
 use Rattle.pol_facts.proofs.RowLaws.{keep_prefix}
 use Rattle.pol_ident.specs.Look.{number_for_prefix}
 use Rattle.pol_ident.specs.Rows.{IsIdentities, cluster_rows, local_rows, row_with, rows_of, rows_then}
-use Rattle.pol_ident.specs.Slots.{HasNone, HasPlace, Slot, changed, filled, free_place, one_less, one_more, slot_at}
-use Rattle.pol_ident.proofs.FreePlaces.{free_place-le, taken_within}
+use Rattle.pol_ident.specs.Slots.{HasNone, HasPlace, Slot, changed, filled, free_place, one_less, one_more}
 use Rattle.pol_ident.proofs.HeldLabels.{plain, unreserved, without}
 use Rattle.pol_ident.proofs.RowLists.{AreHeld, recounted-reserved}
 use Rattle.pol_ident.proofs.RowsOf.{AllBelow, In-here, In-past, In-slots, held-behind, held-past, length-changed, length-filled, less-front, more-front, reserved-below}
