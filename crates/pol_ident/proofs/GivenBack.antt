@@ -1,9 +1,9 @@
 -- A number that is given back, and the rows.
-use Rattle.std.proofs.Common.{◌≡◌, ℕ, ◌+◌, ◌-◌, ◌<◌, ◌≤◌, Bool, true, false, cond, List, [], ◌∷◌, length, map, filter, nat_lt, nat_le, Option, None, Some, is_some, option_map, refl, sym, ap, subst, ◌∙◌, arith}
+use Rattle.std.proofs.Common.{◌≡◌, ℕ, ◌-◌, true, cond, List, [], ◌∷◌, filter, nat_lt, nat_le, Option, None, Some, is_some, option_map, refl, sym, ap, subst, ◌∙◌, arith}
 use Rattle.std.proofs.lemmas.Bool.{and_from, both_ways, le-leb, lt-ltb}
 use Rattle.pol_addr.specs.declared.network.Prefix.{Prefix}
 use Rattle.pol_labels.specs.declared.label.Label.{Label}
-use Rattle.pol_model.specs.declared.limits.TheConstants.{CLUSTER_FIRST, LOCAL_FIRST, RESERVED_LAST}
+use Rattle.pol_model.specs.declared.limits.TheConstants.{RESERVED_LAST}
 use Rattle.pol_model.specs.declared.row.IdentityRow.{IdentityRow}
 use Rattle.pol_model.specs.Identities.{is_reserved, released}
 use Rattle.pol_facts.specs.Holding.{has_row, row_of}

@@ -1,5 +1,5 @@
 -- A label set and the rows: what its number is, and what the rows are once it is held.
-use Rattle.std.proofs.Common.{◌≡◌, ◌≢◌, ℕ, ◌+◌, ◌<◌, ◌≤◌, ◌&&◌, Bool, true, false, not, cond, List, [], ◌∷◌, ◌++◌, length, nat_lt, Option, None, Some, ◌⊎◌, inl, inr, ⊎_elim, is_none, refl, sym, ap, subst, ◌∙◌, arith}
+use Rattle.std.proofs.Common.{◌≡◌, ℕ, ◌+◌, ◌<◌, ◌≤◌, ◌&&◌, Bool, true, false, not, List, [], ◌∷◌, ◌++◌, length, nat_lt, Option, None, Some, inl, inr, is_none, refl, sym, ap, subst, ◌∙◌, arith}
 use Rattle.std.specs.Prelude.{codes}
 use Rattle.std.proofs.lemmas.Bool.{and_parts, and_right, both_ways, le-leb, le-ltb, lt-leb, lt-ltb, not-true}
 use Rattle.pol_addr.specs.declared.network.Prefix.{Prefix}
@@ -7,8 +7,8 @@ use Rattle.pol_labels.specs.declared.label.Label.{Label}
 use Rattle.pol_labels.specs.Order.{IsLabelSet}
 use Rattle.pol_labels.specs.Same.{same_labels}
 use Rattle.pol_labels.specs.SameLaws.{same_labels-Decides}
-use Rattle.pol_data.proofs.Members.{In, Contains-from_In}
-use Rattle.pol_model.specs.declared.limits.TheConstants.{CLUSTER_FIRST, CLUSTER_IDENTITIES, CLUSTER_LAST, INIT_IDENTITY, LOCAL_FIRST, LOCAL_IDENTITIES, RESERVED_LAST}
+use Rattle.pol_data.proofs.Members.{Contains-from_In}
+use Rattle.pol_model.specs.declared.limits.TheConstants.{CLUSTER_FIRST, CLUSTER_IDENTITIES, CLUSTER_LAST, INIT_IDENTITY, LOCAL_FIRST, RESERVED_LAST}
 use Rattle.pol_model.specs.declared.row.IdentityRow.{IdentityRow}
 use Rattle.pol_model.specs.Fault.{has_reserved, is_exhausted, is_init}
 use Rattle.pol_model.specs.Identities.{free_number, held_or_new, is_local, is_reserved, labels_held, number_for, number_of_labels, or_free, released, reserved_identities, reserved_row, with_holder}
@@ -17,11 +17,11 @@ use Rattle.pol_model.specs.Worlds.{reserved_label}
 use Rattle.pol_facts.specs.Keeps.{KeepsRows}
 use Rattle.pol_facts.proofs.FoundRows.{found-labels, found_with, labels_pass, reserved-there}
 use Rattle.pol_facts.proofs.Keyed.{placed_behind}
-use Rattle.pol_facts.proofs.Membership.{In-append, In-left, In-right}
-use Rattle.pol_facts.proofs.RowLaws.{keep_labels, keep_released}
+use Rattle.pol_facts.proofs.Membership.{In-append, In-right}
+use Rattle.pol_facts.proofs.RowLaws.{keep_labels}
 use Rattle.pol_facts.proofs.StartRows.{start_row}
-use Rattle.pol_ident.specs.Rows.{IsIdentities, cluster_rows, local_rows, row_with, rows_of, rows_then}
-use Rattle.pol_ident.specs.Slots.{HasNone, HasPlace, Slot, changed, filled, free_place, one_less, one_more, slot_at}
+use Rattle.pol_ident.specs.Rows.{IsIdentities, cluster_rows, local_rows, row_with, rows_of}
+use Rattle.pol_ident.specs.Slots.{HasNone, HasPlace, Slot, changed, filled, free_place, one_less, one_more}
 use Rattle.pol_ident.proofs.FreePlaces.{free_place-le, taken_within}
 use Rattle.pol_ident.proofs.RowLists.{AllAbove, AreHeld, recounted-reserved}
 use Rattle.pol_ident.proofs.RowsOf.{In-here, In-slots, held-behind, length-changed, length-filled, less-front, more-front, reserved-below}
@@ -79,12 +79,11 @@ module _ (reserved : List IdentityRow) (cluster : List (Slot (List Label))) (loc
   old = rows_of cluster local
 
   number-found : (number : ℕ) → number_of_labels labels old ≡ Some number → (number ≡ number_for labels old) × (with_holder number old ≡ labels_held labels old) × (is_exhausted labels old ≡ false)
-  number-found number is =
-      (
-        sym (ap (λ o. or_free o (free_number CLUSTER_FIRST old)) is),
-        sym (ap (λ o. held_or_new o (record { number = free_number CLUSTER_FIRST old; labels = labels; prefix = None; holders = 1 }) old) is),
-        ap (λ o. is_none o && nat_lt CLUSTER_LAST (free_number CLUSTER_FIRST old)) is,
-      )
+  number-found number is = (
+    sym (ap (λ o. or_free o (free_number CLUSTER_FIRST old)) is),
+    sym (ap (λ o. held_or_new o (record { number = free_number CLUSTER_FIRST old; labels = labels; prefix = None; holders = 1 }) old) is),
+    ap (λ o. is_none o && nat_lt CLUSTER_LAST (free_number CLUSTER_FIRST old)) is,
+  )
 
   -- the set has a place
   place-found : (place : ℕ) → HasPlace same_labels labels cluster place → (place < length cluster) × (number_of_labels labels old ≡ Some (CLUSTER_FIRST + place))
@@ -147,7 +146,7 @@ module _ (reserved : List IdentityRow) (cluster : List (Slot (List Label))) (loc
       let number = free-number cluster local few (omega (arith, room)) in
       let exhausted = ap (λ o. is_none o && nat_lt CLUSTER_LAST (free_number CLUSTER_FIRST old)) absent ∙ le-ltb CLUSTER_LAST (free_number CLUSTER_FIRST old) (omega (arith, number, room)) in
       let is = sym (new-rows cluster local (free_number CLUSTER_FIRST old) labels number room)
-          ∙ sym (ap (λ o. held_or_new o (record { number = free_number CLUSTER_FIRST old; labels = labels; prefix = None; holders = 1 }) old) absent) in
+      ∙ sym (ap (λ o. held_or_new o (record { number = free_number CLUSTER_FIRST old; labels = labels; prefix = None; holders = 1 }) old) absent) in
       record {
         number = sym (ap (λ o. or_free o (free_number CLUSTER_FIRST old)) absent ∙ number ∙ ap (λ p. CLUSTER_FIRST + p) (sym least));
         is = is;

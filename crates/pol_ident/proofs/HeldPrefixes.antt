@@ -1,7 +1,7 @@
 -- A prefix and the rows: what its number is, and what the rows are once it is held.
-use Rattle.std.proofs.Common.{◌≡◌, ◌≢◌, ℕ, ◌+◌, ◌-◌, ◌<◌, ◌≤◌, ◌&&◌, Bool, true, false, not, cond, List, [], ◌∷◌, ◌++◌, length, nat_lt, nat_le, count_by, Option, None, Some, ◌⊎◌, inl, inr, refl, sym, ap, subst, ◌∙◌, arith}
+use Rattle.std.proofs.Common.{◌≡◌, ◌≢◌, ℕ, ◌+◌, ◌-◌, ◌<◌, ◌≤◌, Bool, true, false, cond, List, [], ◌∷◌, ◌++◌, length, Option, None, Some, inl, inr, refl, sym, ap, subst, ◌∙◌, arith}
 use Rattle.std.specs.Prelude.{codes}
-use Rattle.std.proofs.lemmas.Bool.{both_ways, le-leb, lt-leb}
+use Rattle.std.proofs.lemmas.Bool.{both_ways, lt-leb}
 use Rattle.std.proofs.lemmas.List.Sums.{sum_by-cons}
 use Rattle.pol_addr.specs.Cidr.{IsPrefix}
 use Rattle.pol_addr.specs.Prefix.{world}
@@ -10,7 +10,7 @@ use Rattle.pol_addr.specs.declared.network.Prefix.{Prefix}
 use Rattle.pol_addr.proofs.Equality.{prefix_eq-Decides}
 use Rattle.pol_labels.specs.declared.label.Label.{Label}
 use Rattle.pol_data.proofs.Members.{In, Contains-from_In, every-in}
-use Rattle.pol_model.specs.declared.limits.TheConstants.{CLUSTER_FIRST, CLUSTER_IDENTITIES, LOCAL_FIRST, LOCAL_IDENTITIES, RESERVED_LAST, WORLD_IDENTITY}
+use Rattle.pol_model.specs.declared.limits.TheConstants.{CLUSTER_FIRST, CLUSTER_IDENTITIES, LOCAL_FIRST, LOCAL_IDENTITIES, WORLD_IDENTITY}
 use Rattle.pol_model.specs.declared.row.IdentityRow.{IdentityRow}
 use Rattle.pol_model.specs.Fault.{locals_held}
 use Rattle.pol_model.specs.Identities.{free_number, held_or_new, is_local, or_free, released, reserved_identities, reserved_row, with_holder}
@@ -22,12 +22,11 @@ use Rattle.pol_facts.proofs.FoundRows.{found-prefix, found_with, locals-few, res
 use Rattle.pol_facts.proofs.Keyed.{placed_behind}
 use Rattle.pol_facts.proofs.Ledger.{has_prefix-is}
 use Rattle.pol_facts.proofs.Membership.{In-append, In-right}
-use Rattle.pol_facts.proofs.PrefixHolders.{has_prefix-at, least_free-within}
+use Rattle.pol_facts.proofs.PrefixHolders.{least_free-within}
 use Rattle.pol_facts.proofs.RowLaws.{keep_prefix}
 use Rattle.pol_ident.specs.Look.{number_for_prefix}
 use Rattle.pol_ident.specs.Rows.{IsIdentities, cluster_rows, local_rows, row_with, rows_of, rows_then}
-use Rattle.pol_ident.specs.Slots.{HasNone, HasPlace, Slot, changed, filled, free_place, one_less, one_more, slot_at}
-use Rattle.pol_ident.proofs.FreePlaces.{free_place-le, taken_within}
+use Rattle.pol_ident.specs.Slots.{HasNone, HasPlace, Slot, changed, filled, free_place, one_less, one_more}
 use Rattle.pol_ident.proofs.HeldLabels.{plain, unreserved, without}
 use Rattle.pol_ident.proofs.RowLists.{AreHeld, recounted-reserved}
 use Rattle.pol_ident.proofs.RowsOf.{AllBelow, In-here, In-past, In-slots, held-behind, held-past, length-changed, length-filled, less-front, more-front, reserved-below}
@@ -88,8 +87,8 @@ module _ (cluster : List (Slot (List Label))) (local : List (Slot Prefix)) (few 
   more-rows n place is =
       more-front n reserved_identities (cluster_rows cluster (local_rows local)) (reserved-below n (omega (arith, is)))
       ∙ ap (λ rest. reserved_identities ++ rest) (
-        more-past plain without n CLUSTER_FIRST cluster (local_rows local) (omega (arith, is, few))
-        ∙ ap (cluster_rows cluster) (more-here worlds Some n LOCAL_FIRST place local [] is (unreserved n (omega (arith, is))) tt)
+      more-past plain without n CLUSTER_FIRST cluster (local_rows local) (omega (arith, is, few))
+      ∙ ap (cluster_rows cluster) (more-here worlds Some n LOCAL_FIRST place local [] is (unreserved n (omega (arith, is))) tt)
       )
 
   pub less-rows : (n place : ℕ) → n ≡ LOCAL_FIRST + place → AreHeld rows → released n rows ≡ rows_of cluster (changed one_less place local)
@@ -97,16 +96,16 @@ module _ (cluster : List (Slot (List Label))) (local : List (Slot Prefix)) (few 
       let behind = held-behind reserved_identities (cluster_rows cluster (local_rows local)) held in
       less-front n reserved_identities (cluster_rows cluster (local_rows local)) (reserved-below n (omega (arith, is))) held
       ∙ ap (λ rest. reserved_identities ++ rest) (
-        less-past plain without n CLUSTER_FIRST cluster (local_rows local) (omega (arith, is, few)) behind
-        ∙ ap (cluster_rows cluster) (less-here worlds Some n LOCAL_FIRST place local [] is (unreserved n (omega (arith, is))) tt (held-past plain without CLUSTER_FIRST cluster (local_rows local) behind))
+      less-past plain without n CLUSTER_FIRST cluster (local_rows local) (omega (arith, is, few)) behind
+      ∙ ap (cluster_rows cluster) (less-here worlds Some n LOCAL_FIRST place local [] is (unreserved n (omega (arith, is))) tt (held-past plain without CLUSTER_FIRST cluster (local_rows local) behind))
       )
 
   new-rows : (n : ℕ) (prefix : Prefix) → n ≡ LOCAL_FIRST + free_place local → placed_by (λ row. row.number) (prefix_row prefix n) rows ≡ rows_of cluster (filled (prefix, 1) local)
   new-rows n prefix is =
       placed_behind (λ row. row.number) (prefix_row prefix n) reserved_identities (cluster_rows cluster (local_rows local)) (reserved-below n (omega (arith, is)))
       ∙ ap (λ rest. reserved_identities ++ rest) (
-        placed-past plain without (prefix_row prefix n) CLUSTER_FIRST cluster (local_rows local) (omega (arith, is, few))
-        ∙ ap (cluster_rows cluster) (placed-here worlds Some n LOCAL_FIRST (prefix, 1) local [] is tt)
+      placed-past plain without (prefix_row prefix n) CLUSTER_FIRST cluster (local_rows local) (omega (arith, is, few))
+      ∙ ap (cluster_rows cluster) (placed-here worlds Some n LOCAL_FIRST (prefix, 1) local [] is tt)
       )
 
 -- What a call that gave the prefix this number owes.
@@ -128,11 +127,10 @@ module _ (reserved : List IdentityRow) (cluster : List (Slot (List Label))) (loc
   old = rows_of cluster local
 
   number-found : (number : ℕ) → number_of_prefix prefix old ≡ Some number → (number ≡ number_for_prefix prefix old) × (with_holder number old ≡ prefix_held prefix old)
-  number-found number is =
-      (
-        sym (ap (λ o. or_free o (free_number LOCAL_FIRST old)) is),
-        sym (ap (λ o. held_or_new o (prefix_row prefix (free_number LOCAL_FIRST old)) old) is),
-      )
+  number-found number is = (
+    sym (ap (λ o. or_free o (free_number LOCAL_FIRST old)) is),
+    sym (ap (λ o. held_or_new o (prefix_row prefix (free_number LOCAL_FIRST old)) old) is),
+  )
 
   some_room : (number : ℕ) → number_of_prefix prefix old ≡ Some number → (locals_held old ≡ LOCAL_IDENTITIES) × (number_of_prefix prefix old ≡ None) → ⊥
   some_room number is full = some_is_none (sym is ∙ full.1)
@@ -198,7 +196,7 @@ module _ (reserved : List IdentityRow) (cluster : List (Slot (List Label))) (loc
       let number = free-number cluster local known.cluster_few in
       let room = locals-room cluster local known.cluster_few free few in
       let is = sym (new-rows cluster local known.cluster_few (free_number LOCAL_FIRST old) prefix number)
-          ∙ sym (ap (λ o. held_or_new o (prefix_row prefix (free_number LOCAL_FIRST old)) old) absent) in
+      ∙ sym (ap (λ o. held_or_new o (prefix_row prefix (free_number LOCAL_FIRST old)) old) absent) in
       record {
         number = sym (ap (λ o. or_free o (free_number LOCAL_FIRST old)) absent ∙ number ∙ ap (λ p. LOCAL_FIRST + p) (sym least));
         is = is;

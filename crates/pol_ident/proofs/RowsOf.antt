@@ -1,19 +1,17 @@
 -- The rows of slots: which there are, and that the reserved ones stand in front.
-use Rattle.std.proofs.Common.{zero, suc, ◌≡◌, ◌≢◌, ℕ, ◌+◌, ◌-◌, ◌<◌, ◌≤◌, ◌==◌, Bool, true, false, cond, List, [], ◌∷◌, ◌++◌, length, map, filter, Option, None, Some, ◌⊎◌, inl, inr, refl, sym, ap, ◌∙◌, arith}
+use Rattle.std.proofs.Common.{zero, suc, ◌≡◌, ℕ, ◌+◌, ◌-◌, ◌<◌, ◌≤◌, cond, List, [], ◌∷◌, ◌++◌, length, Option, None, Some, ◌⊎◌, inl, inr, refl, ap, ◌∙◌, arith}
 use Rattle.std.specs.List.{AllByRecursion}
 use Rattle.std.proofs.lemmas.Bool.{ne_eqb}
 use Rattle.pol_addr.specs.declared.network.Prefix.{Prefix}
 use Rattle.pol_labels.specs.declared.label.Label.{Label}
 use Rattle.pol_data.proofs.Members.{In}
-use Rattle.pol_model.specs.declared.limits.TheConstants.{CLUSTER_FIRST, CLUSTER_IDENTITIES, LOCAL_FIRST, LOCAL_IDENTITIES, RESERVED_LAST}
+use Rattle.pol_model.specs.declared.limits.TheConstants.{RESERVED_LAST}
 use Rattle.pol_model.specs.declared.row.IdentityRow.{IdentityRow}
-use Rattle.pol_model.specs.Identities.{recounted, released, reserved_identities, with_holder}
-use Rattle.pol_model.specs.Numbers.{placed_by}
+use Rattle.pol_model.specs.Identities.{released, reserved_identities, with_holder}
 use Rattle.pol_facts.specs.Holding.{row_of}
-use Rattle.pol_facts.proofs.Keyed.{placed_behind}
 use Rattle.pol_ident.specs.Rows.{row_with, rows_then}
 use Rattle.pol_ident.specs.Slots.{Slot, changed, filled, free_place, slot_at}
-use Rattle.pol_ident.proofs.RowLists.{AreHeld, numbers, recounted-other, released-cons}
+use Rattle.pol_ident.proofs.RowLists.{AreHeld, recounted-other, released-cons}
 
 -- each number is below this one
 abbrev pub AllBelow : ℕ → List IdentityRow → Type 0

@@ -1,15 +1,11 @@
 -- What the parts of a numbering show, and how they stay tied, as keys come and go.
-use Rattle.std.proofs.Common.{zero, suc, ◌≡◌, ◌≢◌, ℕ, ◌+◌, ◌-◌, ◌<◌, ◌≤◌, Bool, true, false, cond, List, [], ◌∷◌, ◌++◌, length, get_or, set, take, map, slice_get, Option, None, Some, IsSome, option_map, refl, sym, ap, subst, ◌∙◌, inl, inr, arith, eqb, min}
-use Rattle.std.specs.Prelude.{is_none}
-use Rattle.std.proofs.lemmas.Bool.{eq-eqb, ne_eqb}
+use Rattle.std.proofs.Common.{zero, suc, ◌≡◌, ℕ, ◌<◌, ◌≤◌, Bool, false, List, [], ◌∷◌, ◌++◌, length, get_or, set, slice_get, Option, None, Some, option_map, refl, sym, ap, subst, ◌∙◌, inl, inr, arith}
 use Rattle.std.proofs.lemmas.Bool.Decides.{eqb_tells}
-use Rattle.std.proofs.lemmas.List.{get_or-map, get_or-set_same, get_or-set_other, get_or-take, get_or_past, get_or_append_left, length-append, length-map, length-set, length-take, map-append, map-set, ext_get_or}
+use Rattle.std.proofs.lemmas.List.{get_or-set_same, get_or-set_other, length-map, length-set, map-set}
 use Rattle.std.proofs.lemmas.Map.{lookup-none, none_passes_from_lookup, NonePasses}
-use Rattle.std.proofs.lemmas.Option.{get_or_from_slice_get, same_Some, slice_get-get_or, slice_get_past, slice_get_within}
-use Rattle.std.proofs.Math.Seq.{get_or-append_seam}
+use Rattle.std.proofs.lemmas.Option.{same_Some}
 use Rattle.pol_ident.specs.declared.numbering.Held.{Held}
 use Rattle.std.proofs.lemmas.Map.Made.{lookup_key_passes}
-use Rattle.std.specs.List.{swap_remove}
 use Rattle.std.specs.Map.{lookup, lookup_key}
 use Rattle.std.specs.declared.cmp.Reverse.{Reverse}
 use Rattle.pol_ident.specs.Slots.{HasNone, HasPlace, Slot, changed, filled, free_place, slot_at}

@@ -1,11 +1,10 @@
 -- How a change of slots changes the rows that they stand for.
-use Rattle.std.proofs.Common.{zero, suc, ◌≡◌, ℕ, ◌+◌, ◌-◌, ◌<◌, ◌≤◌, ◌≢◌, ◌==◌, ◌&&◌, ◌||◌, Bool, true, false, not, cond, List, [], ◌∷◌, ◌++◌, length, map, filter, find, nat_lt, nat_le, Option, None, Some, option_map, refl, sym, ap, ◌∙◌, inl, inr, arith}
-use Rattle.std.specs.List.{AllByRecursion, list_any}
+use Rattle.std.proofs.Common.{zero, suc, ◌≡◌, ℕ, ◌+◌, ◌-◌, ◌<◌, ◌≤◌, Bool, true, false, not, cond, List, [], ◌∷◌, ◌++◌, length, nat_lt, nat_le, Option, None, Some, option_map, refl, sym, ap, ◌∙◌, inl, inr, arith}
 use Rattle.std.proofs.lemmas.Bool.{ne_eqb, eq-eqb, cases_lt, le-leb, lt-leb, le-ltb, lt-ltb}
 use Rattle.pol_addr.specs.declared.network.Prefix.{Prefix}
 use Rattle.pol_labels.specs.declared.label.Label.{Label}
 use Rattle.pol_model.specs.declared.row.IdentityRow.{IdentityRow}
-use Rattle.pol_model.specs.Identities.{is_reserved, recounted, released, with_holder}
+use Rattle.pol_model.specs.Identities.{is_reserved, released, with_holder}
 use Rattle.pol_model.specs.Numbers.{least_free, placed_by}
 use Rattle.pol_model.proofs.Ascents.{placed_later}
 use Rattle.pol_facts.specs.Holding.{row_of}

@@ -1,20 +1,15 @@
 -- What the parts of a numbering show, and how they stay tied, where a key is taken out.
-use Rattle.std.proofs.Common.{zero, suc, ◌≡◌, ◌≢◌, ℕ, ◌+◌, ◌-◌, ◌<◌, ◌≤◌, Bool, true, false, cond, List, [], ◌∷◌, ◌++◌, length, get_or, set, take, map, slice_get, Option, None, Some, IsSome, IfSome, option_map, refl, sym, ap, subst, ◌∙◌, inl, inr, arith, eqb, min}
-use Rattle.std.specs.Prelude.{is_none}
+use Rattle.std.proofs.Common.{◌≡◌, ◌≢◌, ℕ, ◌-◌, ◌<◌, ◌≤◌, cond, List, ◌∷◌, length, get_or, set, slice_get, Option, None, Some, IfSome, option_map, refl, sym, ap, subst, ◌∙◌, inl, inr, arith, eqb, min}
 use Rattle.std.proofs.lemmas.Bool.{cases_lt, eq-eqb, ne_eqb}
 use Rattle.std.proofs.lemmas.Bool.Decides.{eqb_tells}
-use Rattle.std.proofs.lemmas.List.{get_or-map, get_or-set_same, get_or-set_other, get_or-take, get_or_past, get_or_append_left, length-append, length-map, length-set, length-take, map-append, map-set, ext_get_or}
-use Rattle.std.proofs.lemmas.Map.{lookup-none, none_passes_from_lookup, NonePasses}
-use Rattle.std.proofs.lemmas.Option.{get_or_from_slice_get, same_Some, slice_get-get_or, slice_get_past, slice_get_within}
-use Rattle.std.proofs.Math.Seq.{get_or-append_seam}
+use Rattle.std.proofs.lemmas.List.{get_or-set_same, get_or-set_other, get_or-take, length-map, length-set, length-take, ext_get_or}
+use Rattle.std.proofs.lemmas.Option.{same_Some, slice_get-get_or, slice_get_within}
 use Rattle.pol_ident.specs.declared.numbering.Held.{Held}
-use Rattle.std.proofs.lemmas.Map.Made.{lookup_key_passes}
 use Rattle.std.specs.List.{swap_remove}
 use Rattle.std.specs.BinaryHeap.{KeepsHeap}
 use Rattle.std.specs.List.Sorted.{IsPermutation}
-use Rattle.std.specs.Map.{lookup, lookup_key}
 use Rattle.std.specs.declared.cmp.Reverse.{Reverse}
-use Rattle.pol_ident.specs.Slots.{HasNone, HasPlace, Slot, changed, filled, free_place, slot_at}
+use Rattle.pol_ident.specs.Slots.{Slot, changed, slot_at}
 use Rattle.pol_ident.proofs.FreePlaces.{taken_within, IsFreeOf-pushed}
 use Rattle.pol_ident.proofs.Shown.{changed-set, same-room, shown-entry, slot_at-shown, wider-room}
 use Rattle.pol_ident.specs.Tied.{all_shown, least_first, shown, with_index, IsIndexOf, HasRoom, IsFreeOf, IsTied}
@@ -105,7 +100,7 @@ module _ {K : Type 0} (entries : List (K × ℕ)) (index : ℕ) (gone : K × ℕ
           let from = left-from within i (key, other) at in
           let slot = tied.slot from.0 key other from.3 in
           let differs : other ≢ place = λ same.
-              from.1 (sym slot.2 ∙ ap (λ h. h.index) (same_Some slot.0 held (sym slot.1 ∙ ap (λ p. get_or slots p None) same ∙ taken)) ∙ its) in
+          from.1 (sym slot.2 ∙ ap (λ h. h.index) (same_Some slot.0 held (sym slot.1 ∙ ap (λ p. get_or slots p None) same ∙ taken)) ∙ its) in
           (record slot.0 { index = moved slot.0.index }, out.rest other differs ∙ ap moved_slot slot.1, ap moved slot.2 ∙ from.2);
     }
       where
@@ -235,7 +230,7 @@ module _ {K : Type 0} (entries others : List (K × ℕ)) (slots : List (Option H
       is_out (set slots place None) (out-last entries index gone.entry slots place gone.held tied gone.there gone.its (past (left entries index gone.entry) (none ∙ ap (λ es. slice_get es index) gone.left_are)))
     where
       past : (es : List (K × ℕ)) → None ≡ slice_get es index → length es ≤ index
-      past es none = elim (cases_lt index (length es)) [ | inl within ↦ absurd (none_is_some (none ∙ slice_get-get_or es index gone.entry within)) | inr beyond ↦ beyond ]
+      past es none = elim (cases_lt index (length es)) [ inl within ↦ absurd (none_is_some (none ∙ slice_get-get_or es index gone.entry within)) | inr beyond ↦ beyond ]
         where
           none_is_some : {e : K × ℕ} → None ≡ Some e → ⊥
           none_is_some e = cc
@@ -266,8 +261,7 @@ module _ {K : Type 0} (entries : List (K × ℕ)) (slots : List (Option Held)) (
       → IsFreeOf free (all_shown entries slots) × HasRoom (all_shown entries slots) capacity → all_shown others now ≡ set (all_shown entries slots) place None
       → IsPermutation (record { 0 = place } ∷ free) more → KeepsHeap least_first free more → capacity ≤ room
       → IsFreeOf more (all_shown others now) × HasRoom (all_shown others now) room
-  given-back others now free more capacity room is seen perm keeps wide =
-      (
-        subst (IsFreeOf more) (sym seen) (IsFreeOf-pushed (all_shown entries slots) free more (record { 0 = place }) (own.0, held.holders) is.0 own.1 perm (keeps is.0.heap)),
-        wider-room (all_shown others now) capacity room (same-room (all_shown entries slots) (all_shown others now) capacity (ap length seen ∙ length-set (all_shown entries slots) place None) is.1) wide,
-      )
+  given-back others now free more capacity room is seen perm keeps wide = (
+    subst (IsFreeOf more) (sym seen) (IsFreeOf-pushed (all_shown entries slots) free more (record { 0 = place }) (own.0, held.holders) is.0 own.1 perm (keeps is.0.heap)),
+    wider-room (all_shown others now) capacity room (same-room (all_shown entries slots) (all_shown others now) capacity (ap length seen ∙ length-set (all_shown entries slots) place None) is.1) wide,
+  )

@@ -10,8 +10,8 @@ use crate::{IdentError, Identities};
 use pol_addr::Prefix;
 use pol_labels::LabelSet;
 use pol_model::{
-    CLUSTER_FIRST, CLUSTER_IDENTITIES, INIT_IDENTITY, LOCAL_FIRST, LOCAL_IDENTITIES, WORLD_IDENTITY,
-    is_init,
+    CLUSTER_FIRST, CLUSTER_IDENTITIES, INIT_IDENTITY, LOCAL_FIRST, LOCAL_IDENTITIES,
+    WORLD_IDENTITY, is_init,
 };
 
 impl Identities {

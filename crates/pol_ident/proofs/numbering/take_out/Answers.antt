@@ -1,5 +1,3 @@
-use Rattle.std.proofs.Common.{ap, subst, sym, ◌∙◌}
-use Rattle.pol_ident.specs.Tied.{IsTied, all_shown}
 use Rattle.pol_ident.proofs.TakenOut.{out-none, out-some, out-within}
 use Rattle.pol_ident.proofs.numbering.take_out.Goals as goal
 

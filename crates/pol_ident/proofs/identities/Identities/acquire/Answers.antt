@@ -1,10 +1,6 @@
-use Rattle.std.proofs.Common.{◌≡◌, refl, sym, ap, subst, ◌∙◌, arith}
+use Rattle.std.proofs.Common.{refl, sym, ◌∙◌}
 use Rattle.std.proofs.lemmas.Bool.{both_ways}
-use Rattle.pol_model.specs.Fault.{is_exhausted}
-use Rattle.pol_facts.specs.Keeps.{KeepsRows}
-use Rattle.pol_ident.specs.Rows.{IsIdentities}
 use Rattle.pol_ident.proofs.HeldLabels.{hold-found, hold-full, hold-init, hold-new, not_reserved}
-use Rattle.pol_ident.proofs.FreePlaces.{free_place-le}
 use Rattle.pol_ident.proofs.Refusals.{memory_only}
 use Rattle.pol_ident.proofs.identities.Identities.acquire.Goals as goal
 

@@ -1,8 +1,4 @@
-use Rattle.std.proofs.Common.{◌≡◌, refl, sym, ap, subst, ◌∙◌, arith}
-use Rattle.std.proofs.lemmas.Bool.{both_ways}
-use Rattle.pol_model.specs.Fault.{is_exhausted}
-use Rattle.pol_facts.specs.Keeps.{KeepsRows}
-use Rattle.pol_ident.specs.Rows.{IsIdentities}
+use Rattle.std.proofs.Common.{refl, sym, ◌∙◌}
 use Rattle.pol_ident.proofs.HeldPrefixes.{hold-found, hold-full, hold-new, hold-world}
 use Rattle.pol_addr.proofs.World.{world_from_len}
 use Rattle.pol_ident.proofs.Refusals.{memory_only}

@@ -1,4 +1,4 @@
-use Rattle.std.proofs.Common.{◌≡◌, ◌+◌, ◌<◌, ◌^◌, length, refl, sym, ap, subst, ◌∙◌, arith}
+use Rattle.std.proofs.Common.{◌+◌, ◌<◌, ◌^◌, length, sym, ap, subst, ◌∙◌, arith}
 use Rattle.std.specs.BinaryHeap.{heap_capacity, heap_items}
 use Rattle.indexmap.proofs.CallerLemmas.{insert_entry-new}
 use Rattle.pol_ident.specs.Slots.{HasNone, free_place}

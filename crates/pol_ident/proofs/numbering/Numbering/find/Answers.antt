@@ -1,4 +1,4 @@
-use Rattle.std.proofs.Common.{refl, sym}
+use Rattle.std.proofs.Common.{sym}
 use Rattle.pol_ident.proofs.Shown.{found-place, none-placed}
 use Rattle.pol_ident.proofs.numbering.Numbering.find.Goals as goal
 
