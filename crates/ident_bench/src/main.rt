@@ -27,7 +27,9 @@ fn pod(alloc: Global, number: u32) -> Option<LabelSet> {
     let value = format!(in alloc; "service-{number}").ok()?;
     let mut labels = Vec::new(alloc);
     labels.push(label(alloc, "app", value.as_str())?).ok()?;
-    labels.push(label(alloc, "io.kubernetes.pod.namespace", "default")?).ok()?;
+    labels
+        .push(label(alloc, "io.kubernetes.pod.namespace", "default")?)
+        .ok()?;
     labels.push(label(alloc, "tier", "backend")?).ok()?;
     labels.push(label(alloc, "version", "v1")?).ok()?;
     LabelSet::from_labels(alloc, labels).ok()
@@ -80,7 +82,10 @@ fn measure<R: Clock + Eprint + AllocGlobal>(rt: &R, size: u32) -> Result<()> {
     let known = start.elapsed(rt)?.as_nanos() / u128::from(SETS);
     let gone = release_all(&mut identities, 256, SETS);
     let start = Instant::now(rt)?;
-    let reused = acquire_all(&mut identities, first.as_slice().get(..SETS as usize).unwrap_or(&[]));
+    let reused = acquire_all(
+        &mut identities,
+        first.as_slice().get(..SETS as usize).unwrap_or(&[]),
+    );
     let reuse = start.elapsed(rt)?.as_nanos() / u128::from(SETS);
     eprintln!(rt;
         "{size} identities: a new set {new} ns ({held} + {taken}), a known set {known} ns ({again}), a number again {reuse} ns ({gone} given back, {reused} taken)"
