@@ -100,7 +100,7 @@ impl MapTable {
     }
 
     /// The kind of the longest key of that identity that covers the packet: of the prefixes of the port from the
-    /// longest on, and of the key of every protocol. These are 18 searches at most.
+    /// longest on, and of the key of every protocol.
     fn longest(&self, dir: Direction, id: u32, proto: Proto, port: u16) -> Option<Kind>
         ensures { result ≡ option_map (λ e. e.1) (longest self.now dir id proto port) }
     {
@@ -115,7 +115,7 @@ impl MapTable {
     }
 
     /// What the map says of a packet to or from the identity (profile: how the keys of two identities are
-    /// weighed). It searches the table 36 times at most, and takes no memory.
+    /// weighed).
     pub fn look(&self, dir: Direction, id: u32, proto: Proto, port: u16) -> Word
         ensures word { result ≡ read_map self.now dir id proto port }
     {

@@ -1,4 +1,4 @@
--- A legal history, and some that are not, each for one reason.
+-- A legal history, and some that are not: each breaks one condition, and that of an older report two.
 use Rattle.std.specs.Prelude.{List, [], ◌∷◌}
 use Rattle.pol_model.specs.declared.options.Mode.TheVariants.{Always, Default}
 use Rattle.pol_model.specs.declared.request.Request.TheVariants.{SetMode}

@@ -1,4 +1,4 @@
-//! Small histories: a legal one, and some that are not, each for one reason. And small runs of the machine.
+//! Small histories: a legal one, and some that are not. And small runs of the machine.
 ghost use Rattle.std.specs.Prelude.{◌≡◌};
 ghost use Rattle.pol_history.specs.ExampleEvents.{at_most};
 ghost use Rattle.pol_history.specs.Legal.{IsLegal};

@@ -1,7 +1,7 @@
 //! Security identities: the numbers that label sets and prefixes hold (Cilium, Terminology, "Identity").
 //!
 //! `Identities` is seen as the list of its rows, which ascend by number. Label sets and prefixes are found by an index,
-//! rows by their number, and the least free number without a scan.
+//! rows by their number, and the least free number by a heap.
 #![tactic(auto)]
 
 mod acquire;

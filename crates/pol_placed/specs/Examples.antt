@@ -1,4 +1,4 @@
--- Histories that place small outputs: those of `RightRuns` in `pol_run`, written out.
+-- Histories that place small outputs: three of `RightRuns` in `pol_run`, written out.
 use Rattle.std.specs.Prelude.{ℕ, List, [], ◌∷◌}
 use Rattle.pol_mapkey.specs.Entries.{Entry as MapEntry}
 use Rattle.pol_model.specs.PolicyMap.{allow_every}

@@ -1,5 +1,5 @@
 //! Small outputs that a legal history places, so that the premises of the law of runs are possible. They are
-//! those of `pol_run` that no lines answered in input order give.
+//! three of those of `pol_run` that no lines answered in input order give.
 ghost use Rattle.pol_history.specs.Legal.{IsLegal};
 ghost use Rattle.pol_placed.specs.Examples as history;
 ghost use Rattle.pol_placed.specs.Placed.{IsPlaced};

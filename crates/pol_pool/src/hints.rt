@@ -27,7 +27,7 @@ pub struct HintsFull;
 
 impl Hints {
     /// A queue with room for so many hints, of 1 and more, and a pass of it that has seen nothing. The one error is want
-    /// of memory; no other call takes any.
+    /// of memory.
     pub fn new(alloc: Global, room: u32) -> Result<(Hints, HintPass), Memory>
         requires room { 1 ≤ room }
         ensures room { IfOk result (λ made. room_of made.0 ≡ room) }
@@ -62,9 +62,9 @@ impl Hints {
         self.queue.learn_as::<Sound>(&mut pass.pass);
     }
 
-    /// Puts a hint behind those that the queue holds. `HintsFull` comes only where the queue held as many hints as it has
-    /// room for at some moment of the call, and then the pass has seen nothing more. It may wait for a thread that has
-    /// stalled in a put or a take.
+    /// Puts a hint behind those that the queue holds. `HintsFull` hands on the answer of the kit's queue that it was full
+    /// at some moment of the call, and then the pass has seen nothing more. It may wait for a thread that has stalled in a
+    /// put or a take.
     pub fn put<R: Wait>(&self, rt: &R, pass: &mut HintPass, slot: u32) -> Result<(), HintsFull>
         requires pass { IsHintPassOf self.now pass.old }
         ensures pass { IsHintPassOf self.now pass.new }
@@ -79,8 +79,8 @@ impl Hints {
         }
     }
 
-    /// Takes the oldest hint. None comes only where the queue was empty at some moment of the call, and then the pass has
-    /// seen nothing more. It may wait for a thread that has stalled in a put or a take.
+    /// Takes the oldest hint. None hands on the answer of the kit's queue that it was empty at some moment of the call, and
+    /// then the pass has seen nothing more. It may wait for a thread that has stalled in a put or a take.
     pub fn take<R: Wait>(&self, rt: &R, pass: &mut HintPass) -> Option<u32>
         requires pass { IsHintPassOf self.now pass.old }
         ensures pass { IsHintPassOf self.now pass.new }

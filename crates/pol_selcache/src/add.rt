@@ -15,8 +15,8 @@ use std::sync::ledger::Ledger;
 
 impl SelectorCache {
     /// The number of the peer's selector, which has one reference more. A live selector of an equal peer is shared; a new
-    /// one has the held numbers that the peer selects as its set, and judges each held number once at most. `Memory` is
-    /// want of memory, or that no number or no count of 64 bits is left ('profile').
+    /// one has the held numbers that the peer selects as its set. `Memory` is want of memory, or that no number or no
+    /// count of 64 bits is left ('profile').
     pub fn add<L: Ledger>(
         &mut self,
         peer: &Peer,

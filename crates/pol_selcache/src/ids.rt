@@ -9,8 +9,7 @@ use pol_data::Memory;
 use pol_sets::IdSet;
 use std::alloc::Global;
 
-/// The set of these numbers, in whatever order and however often each stands there. The sort merges the runs that it
-/// finds, so of two sets, one behind the other, it takes linear time.
+/// The set of these numbers, in whatever order and however often each stands there.
 fn set_of_vec(numbers: Vec<u32>) -> Result<IdSet, Memory>
     ensures members { IfOk result (λ set. (number : ℕ) → has number set ≡ has number numbers.items) }
     ensures short { IfOk result (λ set. length set ≤ vec_len numbers) }

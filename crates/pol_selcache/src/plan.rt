@@ -122,8 +122,8 @@ fn plan_all<L: Ledger>(
 
 impl SelectorCache {
     /// What changes where some numbers come and others go, which are all held now: the sets afterwards are those over the
-    /// held numbers without the ones that go. All memory is taken here, and no set is changed. Each number that comes is
-    /// matched once at most against each live label selector. `Memory` is want of memory.
+    /// held numbers without the ones that go. All memory is taken here, and no set is changed. `Memory` is want of
+    /// memory.
     pub fn plan<L: Ledger>(
         &mut self,
         revision: u64,

@@ -107,7 +107,8 @@ impl PolicyTrie {
     }
 
     /// What the map says of a packet to or from the identity: a deny by the longest key of the identity or of identity 0
-    /// that covers it denies, else an allow by one of them allows. Each node that is visited is one step. It takes no memory.
+    /// that covers it denies, else an allow by one of them allows. Each node that is visited
+    /// is one step.
     pub fn look<L: Ledger>(
         &self,
         dir: Direction,
