@@ -7,6 +7,7 @@ pub mod Looks
 pub mod Refusals
 pub mod RowLists
 pub mod RowsOf
+pub mod Selected
 pub mod Shown
 pub mod SlotRows
 pub mod TakenOut

@@ -11,6 +11,7 @@ mod look;
 mod numbering;
 mod place;
 mod release;
+mod select;
 #[cfg(test)]
 mod tests;
 

@@ -1,5 +1,5 @@
 -- Which identities a peer selects (Cilium, Network Policy, "Endpoints based", "CIDR based" and "Entities based").
-use Rattle.std.specs.Prelude.{ℕ, ◌==◌, ◌&&◌, ◌||◌, not, nat_le, Bool, true, false, List, codes, map, filter}
+use Rattle.std.specs.Prelude.{ℕ, ◌==◌, ◌&&◌, ◌||◌, not, nat_le, Bool, true, false, List, codes, map, filter, Option}
 use Rattle.std.specs.List.{list_any}
 use Rattle.std.specs.Option.{option_map_or}
 use Rattle.pol_addr.specs.declared.network.Prefix.{Prefix}
@@ -51,12 +51,16 @@ selects known (peer.Entity entity) = entity_selects known entity
 abbrev pub is_core_number : ℕ → Bool
 is_core_number number = nat_le 1 number && nat_le number RESERVED_LAST && not (number == WORLD_IDENTITY)
 
-abbrev pub known_row : IdentityRow → Known
-known_row row = record {
-  labels = row.labels;
-  lies_in = λ prefix. option_map_or (covers prefix) row.prefix false;
-  is_core = is_core_number row.number;
+-- what is known of an identity of this number, these labels and this prefix
+abbrev pub known_as : ℕ → List Label → Option Prefix → Known
+known_as number labels prefix = record {
+  labels = labels;
+  lies_in = λ within. option_map_or (covers within) prefix false;
+  is_core = is_core_number number;
 }
+
+abbrev pub known_row : IdentityRow → Known
+known_row row = known_as row.number row.labels row.prefix
 
 -- whether the peer selects the row
 abbrev pub selects_row : Peer → IdentityRow → Bool

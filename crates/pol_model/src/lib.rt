@@ -27,7 +27,7 @@ pub use limits::{
     INIT_IDENTITY, LOCAL_FIRST, LOCAL_IDENTITIES, LOCAL_LAST, RESERVED_LAST, WORLD_IDENTITY,
 };
 pub use options::{Mode, Options};
-pub use peers::selects_every_number;
+pub use peers::{selects, selects_every_number};
 pub use request::{Query, Remote, Request};
 pub use reserved::{has_reserved, is_init, reserved_rows};
 pub use row::{Endpoint, IdentityRow, NamedIdentity, Stamped};

@@ -1,8 +1,8 @@
 //! Which rows of identities a peer selects.
-ghost use Rattle.std.specs.Prelude.{◌≡◌};
+ghost use Rattle.std.specs.Prelude.{◌≡◌, None, []};
 ghost use Rattle.std.specs.List.{list_any};
 ghost use Rattle.pol_labels.specs.Match.{carries};
-ghost use Rattle.pol_model.specs.Selects.{entity_selects, is_all, is_core_number, known_row, selects_row};
+ghost use Rattle.pol_model.specs.Selects.{entity_selects, is_all, is_core_number, known_as, selects, selects_row};
 ghost use Rattle.pol_model.specs.Worlds.{reserved_label};
 
 use crate::limits::{RESERVED_LAST, WORLD_IDENTITY};
@@ -24,10 +24,9 @@ fn is_core(number: u32) -> bool
     1 <= number && number <= RESERVED_LAST && number != WORLD_IDENTITY
 }
 
-fn entity_selects(entity: Entity, row: &IdentityRow) -> bool
-    ensures { result ≡ entity_selects (known_row row.now) entity }
+fn entity_selects(entity: Entity, number: u32, labels: &LabelSet) -> bool
+    ensures { result ≡ entity_selects (known_as number labels.now None) entity }
 {
-    let labels = &row.labels;
     match entity {
         Entity::All => true,
         Entity::World => is_reserved_as(labels, "world"),
@@ -39,25 +38,39 @@ fn entity_selects(entity: Entity, row: &IdentityRow) -> bool
         Entity::Health => is_reserved_as(labels, "health"),
         Entity::Unmanaged => is_reserved_as(labels, "unmanaged"),
         Entity::Cluster => {
-            is_core(row.number)
+            is_core(number)
                 || labels.carries_parts("k8s", "io.cilium.k8s.policy.cluster", "default")
         }
     }
 }
 
-fn lies_in(row: &IdentityRow, prefix: &Prefix) -> bool
-    ensures { result ≡ (known_row row.now).lies_in prefix.now }
+fn lies_in(own: &Option<Prefix>, prefix: &Prefix) -> bool
+    ensures { result ≡ (known_as 0 [] own.now).lies_in prefix.now }
 {
-    match &row.prefix {
+    match own {
         None => false,
         Some(own) => prefix.covers(own),
     }
 }
 
-fn lies_in_any(row: &IdentityRow, prefixes: &[Prefix]) -> bool
-    ensures { result ≡ list_any (known_row row.now).lies_in prefixes.now }
+fn lies_in_any(own: &Option<Prefix>, prefixes: &[Prefix]) -> bool
+    ensures { result ≡ list_any (known_as 0 [] own.now).lies_in prefixes.now }
 {
-    prefixes.iter().any(|prefix| lies_in(row, prefix))
+    prefixes.iter().any(|prefix| lies_in(own, prefix))
+}
+
+/// Whether the peer selects an identity of this number, these labels and this prefix (Cilium, Network Policy, "Layer 3
+/// Examples").
+pub fn selects(peer: &Peer, number: u32, labels: &LabelSet, own: &Option<Prefix>) -> bool
+    ensures answer { result ≡ selects (known_as number labels.now own.now) peer.now }
+{
+    match peer {
+        Peer::Labels(selector) => selector.is_met_by(labels),
+        Peer::Cidr { prefix, except } => {
+            lies_in(own, prefix) && !lies_in_any(own, except.as_slice())
+        }
+        Peer::Entity(entity) => entity_selects(*entity, number, labels),
+    }
 }
 
 impl IdentityRow {
@@ -65,13 +78,7 @@ impl IdentityRow {
     pub fn is_selected_by(&self, peer: &Peer) -> bool
         ensures answer { result ≡ selects_row peer.now self.now }
     {
-        match peer {
-            Peer::Labels(selector) => selector.is_met_by(&self.labels),
-            Peer::Cidr { prefix, except } => {
-                lies_in(self, prefix) && !lies_in_any(self, except.as_slice())
-            }
-            Peer::Entity(entity) => entity_selects(*entity, self),
-        }
+        selects(peer, self.number, &self.labels, &self.prefix)
     }
 }
 

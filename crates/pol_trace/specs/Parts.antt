@@ -1,0 +1,51 @@
+-- What a verdict and an explanation look at: the parts of a state, and the number of the other side.
+use Rattle.std.specs.Prelude.{ℕ, ◌≡◌, Bool, List, []}
+use Rattle.pol_mapkey.specs.declared.Word.{Word}
+use Rattle.pol_rule.specs.Covers.{entry_covers}
+use Rattle.pol_rule.specs.declared.policy.Entry.{Entry}
+use Rattle.pol_model.specs.declared.answer.Trace.{Trace}
+use Rattle.pol_model.specs.declared.options.Mode.{Mode}
+use Rattle.pol_model.specs.declared.options.Options.{Options}
+use Rattle.pol_model.specs.declared.request.Query.{Query}
+use Rattle.pol_model.specs.declared.row.Endpoint.{Endpoint}
+use Rattle.pol_model.specs.declared.row.IdentityRow.{IdentityRow}
+use Rattle.pol_model.specs.declared.row.Stamped.{Stamped}
+use Rattle.pol_model.specs.Enforced.{allow_section, deny_section}
+use Rattle.pol_model.specs.Explain.{covering_places}
+use Rattle.pol_model.specs.Selects.{selects_number}
+use Rattle.pol_model.specs.State.{State}
+use Rattle.pol_model.specs.Verdict.{verdict_of}
+
+-- a state with this mode, these policies and these identities
+abbrev pub parts_of : Mode → List Stamped → List IdentityRow → State
+parts_of mode policies rows = record {
+  revision = 0;
+  mode = mode;
+  identities = rows;
+  named = [];
+  policies = policies;
+  endpoints = [];
+}
+
+-- the state has this mode, these policies and these identities
+pub record HasParts (s : State) (mode : Mode) (policies : List Stamped) (rows : List IdentityRow) : Type 0 where
+  pub mode_is : mode ≡ s.mode
+  pub policies_are : policies ≡ s.policies
+  pub rows_are : rows ≡ s.identities
+
+-- the verdict on the query's packet at the endpoint, from or to the identity of this number
+abbrev pub word_of : Options → State → Query → Endpoint → ℕ → Word
+word_of options s query endpoint number = verdict_of options s endpoint query.dir number query.proto query.port
+
+-- the entry covers that packet
+abbrev pub covers_number : List IdentityRow → Query → ℕ → Entry → Bool
+covers_number rows query number = entry_covers (selects_number rows number) query.proto query.port
+
+-- that verdict, and the places of the entries that cover the packet
+abbrev pub trace_of : Options → State → Query → Endpoint → ℕ → Trace
+trace_of options s query endpoint number = record {
+  word = word_of options s query endpoint number;
+  remote = number;
+  denies = covering_places s.policies endpoint (deny_section query.dir) (covers_number s.identities query number);
+  allows = covering_places s.policies endpoint (allow_section query.dir) (covers_number s.identities query number);
+}
