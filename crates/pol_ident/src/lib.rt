@@ -11,8 +11,6 @@ mod look;
 mod numbering;
 mod place;
 mod release;
-#[cfg(test)]
-mod tests;
 
 pub use error::IdentError;
 pub use identities::Identities;

@@ -11,8 +11,6 @@ mod judge;
 pub mod laws;
 mod plan;
 mod table;
-#[cfg(test)]
-mod tests;
 
 pub use cache::SelectorCache;
 pub use plan::Plan;

@@ -1,4 +1,6 @@
-use crate::generated;
+//! A script with ample memory.
+
+use pol_gen::generated;
 use std::test::Fail;
 
 #[test]

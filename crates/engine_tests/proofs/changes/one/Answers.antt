@@ -1,5 +1,5 @@
 use Rattle.std.specs.List.Sorted.{IsStrictlySortedBy}
-use Rattle.pol_changes.proofs.tests.one.Goals as goal
+use Rattle.engine_tests.proofs.changes.one.Goals as goal
 
 pub from_ascending-requires : goal.from_ascending-requires
 unfolding IsStrictlySortedBy

@@ -3,7 +3,7 @@ use Rattle.pol_model.specs.declared.row.IdentityRow.{IdentityRow}
 use Rattle.pol_model.specs.Identities.{number_for}
 use Rattle.pol_selcache.specs.Cache.{MayPlan}
 use Rattle.pol_selcache.proofs.Coming.{change_lives, one_comes}
-use Rattle.pol_selcache.proofs.tests.comes.Goals as goal
+use Rattle.engine_tests.proofs.selectors.comes.Goals as goal
 
 pub change-requires : goal.change-requires
 change-requires g c =

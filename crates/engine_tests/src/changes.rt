@@ -2,7 +2,7 @@
 ghost use Rattle.std.specs.Prelude.{◌≡◌, IfOk};
 ghost use Rattle.pol_changes.specs.Log.{newest};
 
-use crate::{Change, ChangeLog};
+use pol_changes::{Change, ChangeLog};
 use pol_data::Memory;
 use pol_sets::IdSet;
 use std::alloc::Global;

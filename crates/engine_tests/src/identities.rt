@@ -1,8 +1,8 @@
 //! Numbers run out, are given back and are taken again.
 
-use crate::{IdentError, Identities};
 use pol_addr::{Addr, Prefix};
 use pol_data::Text;
+use pol_ident::{IdentError, Identities};
 use pol_labels::{Label, LabelSet};
 use pol_model::has_reserved;
 use std::alloc::Global;

@@ -1,11 +1,10 @@
 //! Tables of small maps, written out.
 ghost use Rattle.std.specs.Prelude.{◌≤◌};
 
-use crate::keys::{every_key, port_key};
-use crate::{MapTable, distill, have_sets};
 use pol_data::{Memory, Text};
+use pol_distill::{MapTable, distill, have_sets};
 use pol_l4::{Filter, FilterList, Filters};
-use pol_mapkey::{Kind, MapKey, Word};
+use pol_mapkey::{KeyProto, Kind, MapKey, Word};
 use pol_ports::{Direction, PortPrefix, PortRange, Proto};
 use pol_rule::{Entity, Peer, PeerList, Peers, Place, PolicyKey, PortSpec, PortSpecs, Section};
 use pol_sets::{IdSet, SetRow, Sets};
@@ -101,13 +100,23 @@ fn denied_on_ports(alloc: Global) -> Result<Option<MapTable>, Memory> {
     table(alloc, &filters(alloc, list))
 }
 
+/// The key of an identity for every protocol and port.
+fn every_key(dir: Direction, id: u32) -> MapKey {
+    MapKey {
+        dir,
+        id,
+        proto: KeyProto::Every,
+        port: PortPrefix { bits: 0, len: 0 },
+    }
+}
+
 fn is_let_in(table: &MapTable) -> bool {
-    let web = port_key(
-        Direction::Ingress,
-        257,
-        Proto::Tcp,
-        PortPrefix { bits: 80, len: 16 },
-    );
+    let web = MapKey {
+        dir: Direction::Ingress,
+        id: 257,
+        proto: KeyProto::Tcp,
+        port: PortPrefix { bits: 80, len: 16 },
+    };
     table.count() == 3
         && has(table, 0, every_key(Direction::Ingress, 1), Kind::Allow)
         && has(table, 1, web, Kind::Allow)

@@ -1,7 +1,7 @@
 use Rattle.std.proofs.Common.{rules, ◌≡◌, [], ◌∷◌, sym, subst}
 use Rattle.std.specs.List.Sorted.{IsStrictlySortedBy}
 use Rattle.std.specs.Ordering.{nat_cmp}
-use Rattle.pol_distill.proofs.tests.sets.Goals as goal
+use Rattle.engine_tests.proofs.maps.sets.Goals as goal
 
 pub from_ascending-requires : goal.from_ascending-requires
 unfolding IsStrictlySortedBy

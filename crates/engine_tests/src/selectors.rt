@@ -3,12 +3,12 @@ ghost use Rattle.std.specs.Prelude.{◌≡◌, ℕ, ◌<◌, true, IfSome};
 ghost use Rattle.pol_changes.specs.Log.{newest};
 ghost use Rattle.pol_selcache.specs.Live.{AreExact, is_live};
 
-use crate::{Move, SelectorCache};
 use pol_data::{Items, Memory, Steps, Text};
 use pol_ident::Identities;
 use pol_labels::{Label, LabelSet, Operator, Requirement, Selector};
 use pol_model::has_reserved;
 use pol_rule::Peer;
+use pol_selcache::{Move, SelectorCache};
 use std::alloc::Global;
 use std::marker::Brand;
 use std::sync::ledger::{Blank, Ledger};
