@@ -1,6 +1,6 @@
 -- The shares of passes: what a pass has can be taken out of the sum, and a pass that has all of it is the only one.
 use Rattle.std.proofs.Common.{◌≡◌, ℕ, zero, suc, ◌≤◌, ◌<◌, ◌+◌, ◌*◌, List, [], ◌∷◌, ◌++◌, set, refl, sym, ap, subst, arith}
-use Rattle.std.proofs.Math.Nat.{eq_of_mul-eq-mul_right, le-mul_of_pos_right}
+use Rattle.std.proofs.Math.Nat.{eq_of_mul-eq-mul_right, le-mul_of_pos_right, le_of_mul-le-mul_right, mul-le-mul_right}
 use mathlib.Core.Option.{some, some-injective, some-ne-none}
 use lib.ListN.{get_elem?}
 use Rattle.pol_pool.specs.declared.share.Share.{Share}
@@ -57,6 +57,24 @@ both_part s t one other = record {
   part = (let more = product_some s.part t.of one.part other.of in omega (arith, more));
   of = product_some s.of t.of one.of other.of;
 }
+
+pub no_more : (whole units : ℕ) (s : Share) → Measures whole units s → 1 ≤ whole → units ≤ whole → s.part ≤ s.of
+no_more whole units s it least few =
+    let more = mul-le-mul_right s.of few in
+    let is = it.is in
+    let same : s.part * whole ≤ s.of * whole = omega (arith, more, is) in
+    let positive : 0 < whole = omega (arith, least) in le_of_mul-le-mul_right same positive
+
+-- of two that come to no more than the whole neither is all of it
+pub not_all : (s t : Share) → IsPart s → IsPart t → (together s t).part ≤ (together s t).of → IsAll s → ⊥
+not_all s t one other few all =
+    let more = product_some t.part s.of other.part one.of in
+    let same = ap (λ (k : ℕ). k * t.of) all in omega (arith, few, more, same)
+
+pub not_all_either : (s t : Share) → IsPart s → IsPart t → (together s t).part ≤ (together s t).of → IsAll t → ⊥
+not_all_either s t one other few all =
+    let more = product_some s.part t.of one.part other.of in
+    let same = ap (λ (k : ℕ). k * s.of) all in omega (arith, few, more, same)
 
 -- ---- shares that come together again
 

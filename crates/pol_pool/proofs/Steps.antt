@@ -9,10 +9,10 @@ use Rattle.crossbeam_queue.specs.Fifo.{Pushes, Pops, Forks, Merges, Learns}
 use Rattle.crossbeam_queue.proofs.Lists.{at_longer, at_set, at_snoc, set_else}
 use Rattle.pol_pool.specs.declared.seen.Seen.{Seen}
 use Rattle.pol_pool.specs.declared.share.Standing.{Standing}
-use Rattle.pol_pool.specs.Queue.{GoesOn, HasSeen, IsHistory, IsKnown, IsQueue, KnowsItems, TellsPut, TellsTaken, joined, newly_made, of_both, seen, spent, standing, waiting, with_half, with_put, with_taken}
+use Rattle.pol_pool.specs.Queue.{GoesOn, HasSeen, IsHistory, IsKnown, IsQueue, IsSound, KnowsItems, TellsPut, TellsTaken, joined, newly_made, of_both, seen, spent, standing, waiting, with_half, with_put, with_taken}
 use Rattle.pol_pool.specs.Shares.{AreShares, IsAll, IsPart}
 use Rattle.pol_pool.proofs.Beginnings.{begins_itself, begins_longer, goes_further, joined_knows, joined_sound, joined_whole, sound_from}
-use Rattle.pol_pool.proofs.Shares.{all_units, both_part, both_units, doubled, finer, half_part, half_units, none_units, one_measure, one_more, one_of, some_units}
+use Rattle.pol_pool.proofs.Shares.{all_units, both_part, both_units, doubled, finer, half_part, half_units, no_more, none_units, one_measure, one_more, one_of, some_units}
 
 -- ---- what holds of each pass
 
@@ -231,5 +231,10 @@ holds port v items views it at all =
     let is = knows_all items views it port v at all in
     sym (drop-append_seam it.whole.taken items) ∙ ap (drop (length it.whole.taken)) (sym it.holds) ∙ ap waiting (sym is)
 
-pub sounds : (port : ℕ) (v : Standing) → Learns IsQueue port v (λ items. IsHistory v.seen)
-sounds port v items views it at = (it.each port v at).sound
+pub sounds : (port : ℕ) (v : Standing) → Learns IsQueue port v (λ items. IsSound v)
+sounds port v items views it at =
+    let shares = it.shares in
+    let mine = one_of shares.whole shares.units port views v at shares.come in
+    let few = shares.few in
+    let sum = mine.sum in
+    record { history = (it.each port v at).sound; at_most = no_more shares.whole mine.mine v.share mine.is shares.least (omega (arith, few, sum)) }

@@ -1,5 +1,5 @@
 -- What is known of a queue of hints that threads share: a history of what was put and what was taken.
-use Rattle.std.specs.Prelude.{◌≡◌, ℕ, nat_le, List, [], ◌∷◌, ◌++◌, length, take, drop, if◌then◌else◌}
+use Rattle.std.specs.Prelude.{◌≡◌, ◌≤◌, ℕ, nat_le, List, [], ◌∷◌, ◌++◌, length, take, drop, if◌then◌else◌}
 use mathlib.Core.List.{IsPrefix}
 use mathlib.Core.Option.{some}
 use lib.ListN.{get_elem?}
@@ -87,6 +87,11 @@ pub record TellsTaken (before : Standing) (slot : ℕ) (after : Standing) : Type
 -- a pass with the whole share knows what the queue holds
 abbrev pub KnowsItems : Standing → List ℕ → Type 0
 KnowsItems v items = IsAll v.share → items ≡ waiting v.seen
+
+-- what a pass has seen is a history, and its share is no more than the whole
+pub record IsSound (v : Standing) : Type 0 where
+  pub history : IsHistory v.seen
+  pub at_most : v.share.part ≤ v.share.of
 
 abbrev pub longer : List ℕ → List ℕ → List ℕ
 longer a b = if nat_le (length a) (length b) then b else a

@@ -54,13 +54,16 @@ impl Hints {
         Ok(HintPass { pass: other })
     }
 
-    /// Puts two passes together: this one has then seen what either has, and has the shares of both.
+    /// Puts two passes together: this one has then seen what either has, and has the shares of both. Neither was the only
+    /// one.
     pub fn join<R: Wait>(&self, _rt: &R, pass: &mut HintPass, other: HintPass)
         requires pass { IsHintPassOf self.now pass.old }
         requires other { IsHintPassOf self.now other }
         ensures pass { IsHintPassOf self.now pass.new }
         ensures seen { seen_by pass.new ≡ joined (seen_by pass.old) (seen_by other) }
         ensures share { share_of pass.new ≡ together (share_of pass.old) (share_of other) }
+        ensures not_only { IsOnly pass.old → ⊥ }
+        ensures other_not_only { IsOnly other → ⊥ }
     {
         let HintPass { pass: theirs } = other;
         self.queue.absorb::<Together>(&mut pass.pass, theirs);

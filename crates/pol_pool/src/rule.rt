@@ -66,11 +66,11 @@ impl Lesson<u32, Standing> for Takes {
     ghost fact = { KnowsItems };
 }
 
-/// What was taken was put before.
+/// What was taken was put before, and no share is more than the whole.
 pub(crate) struct Sound;
 
 impl Lesson<u32, Standing> for Sound {
-    ghost use Rattle.pol_pool.specs.Queue.{IsHistory};
+    ghost use Rattle.pol_pool.specs.Queue.{IsSound};
 
-    ghost fact = { λ v items. IsHistory v.seen };
+    ghost fact = { λ v items. IsSound v };
 }
