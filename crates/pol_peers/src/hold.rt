@@ -57,10 +57,12 @@ fn hold_each<L: Ledger>(
     ensures log { cache.new.log ≡ cache.old.log }
 {
     for (i, peer) in peers.iter().enumerate() {
-        let held = hold_peer(cache, peer, identities, steps);
-        if held.is_err() {
-            drop_each(cache, &peers[..i]);
-            return held;
+        match hold_peer(cache, peer, identities, steps) {
+            Ok(()) => (),
+            Err(memory) => {
+                drop_each(cache, &peers[..i]);
+                return Err(memory);
+            }
         }
     }
     Ok(())

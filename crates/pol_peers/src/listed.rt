@@ -34,6 +34,7 @@ fn push_section<'a>(out: &mut Vec<&'a Peer>, entries: &'a [Entry]) -> Result<(),
     Ok(())
 }
 
+#[tactic(auto, using(crate::proofs::Sections::rule_by_section))]
 fn push_rule<'a>(out: &mut Vec<&'a Peer>, rule: &'a Rule) -> Result<(), Memory>
     ensures { OnOk result (map (λ p. p.now) out.new.items ≡ map (λ p. p.now) out.old.items ++ rule_peers rule.now) }
 {

@@ -1,9 +1,11 @@
 //! Prefixes held: all of them, or none.
 ghost use Rattle.std.specs.Prelude.{◌≡◌, ◌+◌, ◌++◌, ◌<◌, ◌≤◌, ◌↔◌, nat_lt, [], IfOk, OnOk, OnErr, IsErrOf};
 ghost use Rattle.std.specs.List.{cons_option};
+ghost use Rattle.pol_addr.specs.Cidr.{IsPrefix};
 ghost use Rattle.pol_model.specs.declared.limits.TheConstants.{LOCAL_IDENTITIES as MOST};
 ghost use Rattle.pol_model.specs.Fault.{locals_held, locals_wanted};
 ghost use Rattle.pol_model.specs.Prefixes.{prefix_held, prefixes_held};
+ghost use Rattle.pol_facts.specs.Keeps.{KeepsRows};
 ghost use Rattle.pol_prefixes.specs.Beyond.{AreBeyond};
 ghost use Rattle.pol_prefixes.specs.Coming.{all_coming, coming};
 ghost use Rattle.pol_prefixes.specs.Tables.{IsTableOf};
@@ -27,7 +29,10 @@ fn hold_prefix(
     ensures come { IfOk result (λ come. come ≡ coming prefix identities.old) }
     ensures err { OnErr result (identities.new ≡ identities.old) }
     ensures table { IsTableOf identities.new table.new }
+    ensures within { OnOk result (IsPrefix prefix) }
 {
+    // The call tells that its bits and its length fit.
+    let _len = prefix.len();
     let known = identities.number_of_prefix(&prefix).is_some();
     let number = match identities.acquire_prefix(prefix) {
         Ok(number) => number,
@@ -57,6 +62,7 @@ fn hold_next(
     ensures come { OnOk result (come.new.items ≡ come.old.items ++ cons_option (coming prefix identities.old) []) }
     ensures err { OnErr result (identities.new ≡ identities.old) }
     ensures table { IsTableOf identities.new table.new }
+    ensures within { OnOk result (IsPrefix prefix) }
 {
     come.reserve(1)?;
     if let Some(number) = hold_prefix(identities, table, prefix)? {
@@ -73,6 +79,7 @@ fn hold_each(
     come: &mut Vec<u32>,
 ) -> Result<(), Memory>
     requires table { IsTableOf identities.old table.old }
+    requires keeps { KeepsRows identities.old }
     requires room { locals_held identities.old + locals_wanted identities.old prefixes.now ≤ MOST }
     ensures ok { OnOk result (identities.new ≡ prefixes_held prefixes.now identities.old) }
     ensures come { OnOk result (come.new.items ≡ come.old.items ++ all_coming prefixes.now identities.old) }
@@ -80,10 +87,12 @@ fn hold_each(
     ensures table { IsTableOf identities.new table.new }
 {
     for (i, prefix) in prefixes.iter().enumerate() {
-        let held = hold_next(identities, table, *prefix, come);
-        if held.is_err() {
-            release_prefixes(identities, table, &prefixes[..i]);
-            return held;
+        match hold_next(identities, table, *prefix, come) {
+            Ok(()) => (),
+            Err(memory) => {
+                release_prefixes(identities, table, &prefixes[..i]);
+                return Err(memory);
+            }
         }
     }
     Ok(())
@@ -101,7 +110,8 @@ fn wanted(identities: &Identities, prefixes: &[Prefix]) -> usize
 
 /// Whether the prefixes want more numbers than are left.
 fn are_too_many(identities: &Identities, prefixes: &[Prefix]) -> bool
-    ensures { result ≡ nat_lt MOST (locals_held identities.now + locals_wanted identities.now prefixes.now) }
+    ensures many { result ≡ nat_lt MOST (locals_held identities.now + locals_wanted identities.now prefixes.now) }
+    ensures keeps { KeepsRows identities.now }
 {
     let most = LOCAL_IDENTITIES as usize;
     let held = identities.locals_held();
