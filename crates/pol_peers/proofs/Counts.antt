@@ -56,3 +56,13 @@ left_has all xs ys old now has is p = omega (arith, has p, is p, times_append p 
 
 pub left_next : (all xs ys : List Peer) (old now next : List Live) → Left all (xs ++ ys) old now → IsMoreBy xs next now → Left all ys old next
 left_next all xs ys old now next is less p = omega (arith, is p, less p, times_append p xs ys)
+
+pub left_start : (all xs : List Peer) (live : List Live) → all ≡ xs → Left all xs live live
+left_start all xs live same p = ap (λ ps. references_of p live + times_in p ps) (sym same)
+
+-- and the last of them
+pub left_last_has : (all xs : List Peer) (old now : List Live) → HasRefs all old → Left all xs old now → HasRefs xs now
+left_last_has all xs old now has is p = omega (arith, has p, is p)
+
+pub left_last : (all xs : List Peer) (old now next : List Live) → Left all xs old now → IsMoreBy xs next now → IsMoreBy all next old
+left_last all xs old now next is less p = omega (arith, is p, less p)

@@ -27,6 +27,8 @@ fn hold_peer<L: Ledger>(
     ensures exact { AreExact identities.now cache.new.live }
     ensures log { cache.new.log ≡ cache.old.log }
 {
+    // The call tells that the selectors fit together.
+    let _known = cache.selector_of(peer);
     cache.add(peer, identities, steps)?;
     Ok(())
 }

@@ -43,7 +43,7 @@ fn all_going(
         .collect(alloc)
 }
 
-/// The numbers that `release_prefixes` would let go: those that these prefixes alone hold, each once. The reserved
+/// The numbers that `release_prefixes` would let go: those that these prefixes alone hold. The reserved
 /// number 2 of 0.0.0.0/0 stays. The one error is want of memory.
 pub fn gone_numbers(
     alloc: Global,

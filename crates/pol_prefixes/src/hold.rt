@@ -119,7 +119,7 @@ fn are_too_many(identities: &Identities, prefixes: &[Prefix]) -> bool
 }
 
 /// Takes a number for each prefix, one after another: its own, or else the least free one of 16777217 to 16842751. Gives
-/// the numbers that weren't held before, each once. The table stays that of the rows.
+/// the numbers that weren't held before. The table stays that of the rows.
 ///
 /// `Exhausted` comes exactly where more numbers would be held than there are ('profile'). `Memory` is want of memory, or a
 /// count of holders at its end. After an error the identities and the table are as before.
