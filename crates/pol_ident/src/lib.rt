@@ -6,10 +6,12 @@
 
 mod acquire;
 mod error;
+mod holders;
 mod identities;
 mod look;
 mod numbering;
 mod place;
+mod prefixes;
 mod release;
 
 pub use error::IdentError;

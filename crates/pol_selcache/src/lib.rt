@@ -6,6 +6,7 @@
 
 mod add;
 mod cache;
+mod find;
 mod ids;
 mod judge;
 pub mod laws;

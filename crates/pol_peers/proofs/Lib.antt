@@ -1,0 +1,4 @@
+pub mod Found
+pub mod Counts
+pub mod Holds
+pub mod Sections

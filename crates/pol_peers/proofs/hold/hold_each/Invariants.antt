@@ -1,0 +1,12 @@
+use Rattle.std.proofs.Common.{◌≡◌, map, take}
+use Rattle.pol_selcache.specs.Live.{AreExact}
+use Rattle.pol_peers.specs.References.{IsMoreBy}
+use Rattle.pol_peers.proofs.hold.hold_each.Given as goal
+
+-- the first peers are held
+abbrev pub invariant-loop-i : goal.invariant-loop-i
+invariant-loop-i l = record {
+  more : IsMoreBy (map (λ p. p.now) (take l.i l.peers)) l.initial.cache.live l.cache.live;
+  exact : AreExact l.identities l.cache.live;
+  log : l.cache.log ≡ l.initial.cache.log;
+}
