@@ -13,6 +13,7 @@ pub mod KeptStates
 pub mod KeyOrder
 pub mod Keyed
 pub mod Ledger
+pub mod Lives
 pub mod LocalNumbers
 pub mod Membership
 pub mod Merged

@@ -70,9 +70,10 @@ impl Hints {
         self.queue.learn_as::<Sound>(&mut pass.pass);
     }
 
-    /// Puts a hint behind those that the queue holds. `HintsFull` where the queue was full at some moment of the call; then
-    /// the pass has seen nothing more. What a pass has seen tells what the queue holds where it is the only one: a pass
-    /// beside others can't tell a full queue from another. It may wait for a thread that has stalled in a put or a take.
+    /// Puts a hint behind those that the queue holds. At `HintsFull` the pass has seen nothing more. For the only pass of the
+    /// queue it comes only where as many hints wait as there is room; for a pass beside others, whose view fits a full queue
+    /// and another, it hands on the answer of the kit's queue that it was full at some moment of the call. It may wait for a
+    /// thread that has stalled in a put or a take.
     pub fn put<R: Wait>(&self, rt: &R, pass: &mut HintPass, slot: u32) -> Result<(), HintsFull>
         requires pass { IsHintPassOf self.now pass.old }
         ensures pass { IsHintPassOf self.now pass.new }
@@ -89,9 +90,9 @@ impl Hints {
         }
     }
 
-    /// Takes the oldest hint. None where the queue was empty at some moment of the call; then the pass has seen nothing
-    /// more. As with `put`, what a pass has seen tells that the queue is empty where it is the only one. It may wait for a
-    /// thread that has stalled in a put or a take.
+    /// Takes the oldest hint. At None the pass has seen nothing more. For the only pass of the queue it comes only where no
+    /// hint waits; for a pass beside others it hands on the answer of the kit's queue that it was empty at some moment of the
+    /// call. It may wait for a thread that has stalled in a put or a take.
     pub fn take<R: Wait>(&self, rt: &R, pass: &mut HintPass) -> Option<u32>
         requires pass { IsHintPassOf self.now pass.old }
         ensures pass { IsHintPassOf self.now pass.new }

@@ -1,7 +1,9 @@
--- An endpoint that is live at a revision was live at each one before, since it was added.
-use Rattle.std.proofs.Common.{◌≡◌, ◌≢◌, ℕ, zero, suc, ◌≤◌, Bool, true, false, cond, not, List, [], ◌∷◌, length, take, drop, find, filter, insert, count_by, nat_lt, bytes_eq, Option, None, Some, refl, ap, sym, ◌∙◌, subst, arith, length-take}
+-- An endpoint that is live after so many requests was live after fewer, where it was added by then.
+use Rattle.std.proofs.Common.{◌≡◌, ◌≢◌, ℕ, zero, suc, ◌≤◌, ◌<◌, ◌-◌, Bool, true, false, cond, not, List, [], ◌∷◌, length, take, drop, find, filter, insert, count_by, nat_lt, bytes_eq, ◌++◌, Option, None, Some, refl, ap, sym, ◌∙◌, subst, arith, length-take}
 use Rattle.std.proofs.lemmas.List.{take-append-drop, take-take}
+use Rattle.std.proofs.lemmas.Option.{slice_get_within}
 use Rattle.std.proofs.lemmas.Slice.Eq.{bytes_eq-Decides}
+use Rattle.pol_data.proofs.Members.{Contains-from_In}
 use Rattle.pol_model.specs.State.{State}
 use Rattle.pol_model.specs.After.{after, after_all, start, state_of, new_endpoint}
 use Rattle.pol_model.specs.Endpoints.{endpoint_of}
@@ -9,9 +11,9 @@ use Rattle.pol_model.specs.declared.options.Options.{Options}
 use Rattle.pol_model.specs.declared.request.Request.{Request}
 use Rattle.pol_model.specs.declared.request.Request.TheVariants.{AddEndpoint, RemoveEndpoint, AddIdentity, RemoveIdentity, Apply, Remove, SetMode}
 use Rattle.pol_model.specs.declared.row.Endpoint.{Endpoint}
-use Rattle.pol_run.specs.Spots.{Spot}
-use Rattle.pol_run.specs.History.{history_of, state_at}
-use Rattle.pol_run.proofs.States.{after_append, revision_of_state, IsAddedBy, added_by_now, every_found}
+use Rattle.pol_model.proofs.Histories.{state_of-revision}
+use Rattle.pol_facts.proofs.Membership.{find-In}
+use Rattle.pol_facts.proofs.Remembered.{added-by}
 
 -- ---- look-ups in a list with one element more, and with fewer
 
@@ -40,7 +42,7 @@ kept_step p false true y left all kept is others = simp is others
 kept_step p false false y left all kept is others = others
 
 -- a filter that keeps all that passes
-found_kept : {X : Type 0} (p q : X → Bool) (xs : List X) → ((x : X) → p x ≡ true → q x ≡ true) → find p (filter q xs) ≡ find p xs
+pub found_kept : {X : Type 0} (p q : X → Bool) (xs : List X) → ((x : X) → p x ≡ true → q x ≡ true) → find p (filter q xs) ≡ find p xs
 found_kept p q [] kept = refl
 found_kept p q (y ∷ ys) kept = kept_step p (p y) (q y) y (filter q ys) ys (kept y) refl (found_kept p q ys kept)
 
@@ -52,7 +54,7 @@ lost_step p false true y left lost is others = simp is others
 lost_step p false false y left lost is others = others
 
 -- a filter that keeps nothing that passes
-found_lost : {X : Type 0} (p q : X → Bool) (xs : List X) → ((x : X) → p x ≡ true → q x ≡ false) → find p (filter q xs) ≡ None
+pub found_lost : {X : Type 0} (p q : X → Bool) (xs : List X) → ((x : X) → p x ≡ true → q x ≡ false) → find p (filter q xs) ≡ None
 found_lost p q [] lost = refl
 found_lost p q (y ∷ ys) lost = lost_step p (p y) (q y) y (filter q ys) (lost y) refl (found_lost p q ys lost)
 
@@ -63,7 +65,7 @@ found_filtered p q xs e false alike found = absurd (let none = found_lost p q xs
 
 -- ---- endpoints
 
-named_alike : (name removed : List ℕ) (endpoint : Endpoint) → bytes_eq endpoint.name name ≡ true
+pub named_alike : (name removed : List ℕ) (endpoint : Endpoint) → bytes_eq endpoint.name name ≡ true
     → not (bytes_eq endpoint.name removed) ≡ not (bytes_eq name removed)
 named_alike name removed endpoint is =
     ap (λ (n : List ℕ). not (bytes_eq n removed)) ((bytes_eq-Decides endpoint.name name).0 is)
@@ -91,13 +93,20 @@ live_before_all s [] name e old found = found
 live_before_all s (request ∷ requests) name e old found =
     live_before s request name e old (live_before_all (after s request) requests name e (omega arith) found)
 
-pub added_within : (options : Options) (requests : List Request) (name : List ℕ) (e : Endpoint)
-    → endpoint_of name (state_of options requests).endpoints ≡ Some e → e.added ≤ length requests
-added_within options requests name e found =
-    let young : e.added ≤ (state_of options requests).revision =
-    every_found (IsAddedBy (state_of options requests).revision) (λ (endpoint : Endpoint). bytes_eq endpoint.name name)
-    (state_of options requests).endpoints e (added_by_now options requests) found in
-    omega (arith, revision_of_state options requests)
+-- a live endpoint was added by one of the requests
+pub added-within : (options : Options) (requests : List Request) (name : List ℕ) (e : Endpoint)
+    → endpoint_of name (state_of options requests).endpoints ≡ Some e → (0 < e.added) × (e.added ≤ length requests)
+added-within options requests name e found =
+    let inside = find-In (λ (x : Endpoint). bytes_eq x.name name) e (state_of options requests).endpoints found in
+    let there = Contains-from_In (state_of options requests).endpoints e inside.0 in
+    let by = added-by options requests e there in
+    let below = slice_get_within requests (e.added - 1) _ by.1 in
+    (by.0, omega (arith, by.0, below))
+
+-- the state after a front and a back
+pub after_append : (s : State) (front back : List Request) → after_all s (front ++ back) ≡ after_all (after_all s front) back
+after_append s [] back = refl
+after_append s (request ∷ front) back = after_append (after s request) front back
 
 -- the state after k requests is that after fewer, and then the rest
 state_split : (options : Options) (requests : List Request) (r k : ℕ) → r ≤ k
@@ -107,13 +116,12 @@ state_split options requests r k fewer =
     ∙ after_append (start options) (take r (take k requests)) (drop r (take k requests))
     ∙ ap (λ (xs : List Request). after_all (state_of options xs) (drop r (take k requests))) (take-take r k requests fewer)
 
--- an endpoint that is live after k commits was live after r, where it was added by then
-pub live_back : (options : Options) (spots : List Spot) (r k : ℕ) (name : List ℕ) (e : Endpoint) → r ≤ k → e.added ≤ r
-    → endpoint_of name (state_at options spots k).endpoints ≡ Some e → endpoint_of name (state_at options spots r).endpoints ≡ Some e
-live_back options spots r k name e fewer old found =
-    let requests = history_of spots in
-    let within : e.added ≤ length (take k requests) = added_within options (take k requests) name e found in
+-- what is live after k requests was live after r of them, where it was added by then
+pub found_back : (options : Options) (requests : List Request) (r k : ℕ) (name : List ℕ) (e : Endpoint) → r ≤ k → e.added ≤ r
+    → endpoint_of name (state_of options (take k requests)).endpoints ≡ Some e → endpoint_of name (state_of options (take r requests)).endpoints ≡ Some e
+found_back options requests r k name e fewer old found =
+    let within = added-within options (take k requests) name e found in
     let reached : e.added ≤ (state_of options (take r requests)).revision =
-    omega (arith, revision_of_state options (take r requests), length-take r requests, length-take k requests) in
+    omega (arith, within.1, state_of-revision options (take r requests), length-take r requests, length-take k requests) in
     live_before_all (state_of options (take r requests)) (drop r (take k requests)) name e reached
     (subst (λ (t : State). endpoint_of name t.endpoints ≡ Some e) (state_split options requests r k fewer) found)
