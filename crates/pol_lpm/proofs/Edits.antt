@@ -8,7 +8,7 @@ use Rattle.pol_addr.specs.Prefix.{world}
 use Rattle.pol_addr.proofs.Containment.{covers_from_half}
 use Rattle.pol_addr.proofs.Halves.{half_moved, covers_moved}
 use Rattle.pol_lpm.specs.declared.node.Node.{Node}
-use Rattle.pol_lpm.specs.Trie.{child, with_child, IsTree, IsTrie, HasRoot, FitsBelow, HasOnly, number_of, Numbers, SameNumbers, StillThere}
+use Rattle.pol_lpm.specs.Trie.{child, with_child, IsTree, IsTrie, HasRoot, FitsBelow, HasOnly, number_of, Numbers, SameNumbers, StillThere, AllStillThere}
 use Rattle.pol_lpm.proofs.Attach.{Attached, attached_tree, attached_keeps, attached_from, absent}
 use Rattle.pol_lpm.proofs.Splice.{Spliced, spliced_tree, spliced_keeps, spliced_from}
 use Rattle.pol_lpm.proofs.Lookup.{number_in-absent}
@@ -38,8 +38,14 @@ IsTrie-rooted s t root = record {
   tree = t;
 }
 
-HasRoot-kept : (old new : ℕ → Option Node) → HasRoot old → ((n : Node) → old 0 ≡ Some n → (m : Node) × (new 0 ≡ Some m) × (m.prefix ≡ n.prefix)) → HasRoot new
+pub HasRoot-kept : (old new : ℕ → Option Node) → HasRoot old → ((n : Node) → old 0 ≡ Some n → (m : Node) × (new 0 ≡ Some m) × (m.prefix ≡ n.prefix)) → HasRoot new
 HasRoot-kept old new (root, is, prefix_is) keeps = let (m, is', same) = keeps root is in (m, is', same ∙ prefix_is)
+
+pub still_twice : (old mid new : Slab Node) → AllStillThere old mid → AllStillThere mid new → AllStillThere old new
+still_twice old mid new first second j n is =
+    let (m, is', same) = first j n is in
+    let (m', is'', same') = second j m is' in
+    (m', is'', same' ∙ same)
 
 module _ (old mid new : Slab Node) (i key : ℕ) (high : Bool) (c : Node) (t : IsTrie old) (fits : FitsBelow old i high c) (vacant : get old key ≡ None)
     (inserted : Updates old mid key (Some c)) (linked : Updates mid new i (Some (with_child fits.parent high (Some key)))) where
@@ -68,6 +74,9 @@ module _ (old mid new : Slab Node) (i key : ℕ) (high : Bool) (c : Node) (t : I
 
   keeps : (k : ℕ) (m : Node) → get old k ≡ Some m → (m' : Node) × (get new k ≡ Some m') × (m'.prefix ≡ m.prefix) × (m'.number ≡ m.number)
   keeps = attached_keeps (get old) (get new) i key fits.parent (with_child fits.parent high (Some key)) c high t.tree attached
+
+  pub attached_kept : AllStillThere old new
+  attached_kept k m is = let (m', is', same, _) = keeps k m is in (m', is', same)
 
   pub attached_trie : IsTrie new
   attached_trie = IsTrie-rooted new tree' (HasRoot-kept (get old) (get new) (t.rooted i fits.parent fits.there) (λ n is. let (m, is', same, _) = keeps 0 n is in (m, is', same)))
@@ -141,11 +150,14 @@ module _ (old mid new : Slab Node) (i k : ℕ) (high : Bool) (only : Option ℕ)
         let nodes : n ≡ h.node = same_Some n h.node (sym is ∙ ap (get old) same ∙ h.is) in
         omega (arith, link_longer (get old) t.tree i k h.parent h.node high h.there h.is h.link, ap (λ x. x.prefix.len) nodes, ap (λ p. p.len) prefix_is)
 
-    pub spliced_trie : IsTrie new
-    spliced_trie =
+    pub spliced_root : HasRoot (get new)
+    spliced_root =
         let (root, is, prefix_is) = t.rooted i h.parent h.there in
         let (m, is', same) = splice_others 0 root (not_root root is prefix_is) is in
-        IsTrie-rooted new spliced' (m, is', same ∙ prefix_is)
+        (m, is', same ∙ prefix_is)
+
+    pub spliced_trie : IsTrie new
+    spliced_trie = IsTrie-rooted new spliced' spliced_root
 
     pub spliced_numbers : h.node.number ≡ None → SameNumbers old new
     spliced_numbers none q = same_number old new t.tree spliced' q
@@ -182,6 +194,9 @@ module _ (old new : Slab Node) (i : ℕ) (n : Node) (number : Option ℕ) (t : I
         | inl same ↦ (record n { number = number }, ap (get new) same ∙ u.changed, ap (λ x. x.prefix) (same_Some n m (sym is ∙ ap (get old) (sym same) ∙ is')))
         | inr differs ↦ (m, u.others k differs ∙ is', refl)
       ]
+
+  pub numbered_kept : AllStillThere old new
+  numbered_kept = new_of
 
   numbered_tree : IsTree (get new)
   numbered_tree =

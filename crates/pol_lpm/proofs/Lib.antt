@@ -9,3 +9,5 @@ pub mod Places
 pub mod Taking
 pub mod Maps
 pub mod Scan
+pub mod Reached
+pub mod StartLists

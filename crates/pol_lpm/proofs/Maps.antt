@@ -38,10 +38,9 @@ IsTrie-room s new same t = subst IsTrie (sym same) (record { fresh = t.fresh; ro
 pub numbers_room : (s new : Slab Node) → new ≡ record s { capacity = new.capacity } → SameNumbers s new
 numbers_room s new same q = ap (λ x. number_of x q) same
 
--- room, a root and then a number
-pub numbers_put : (s room rooted new : Slab Node) (p : Prefix) (x : Option ℕ) → SameNumbers s room → SameNumbers room rooted → Numbers rooted new p x → Numbers s new p x
-numbers_put s room rooted new p x first second third q =
-    third q ∙ ap (cond (eq_by_cmp prefix_cmp q p) x) (second q ∙ first q)
+-- a number that comes after a change that left all numbers
+pub numbers_after : (old mid new : Slab Node) (p : Prefix) (x : Option ℕ) → SameNumbers old mid → Numbers mid new p x → Numbers old new p x
+numbers_after old mid new p x first second q = second q ∙ ap (cond (eq_by_cmp prefix_cmp q p) x) (first q)
 
 -- ---- the longest match
 node_found : (s : Slab Node) (t : IsTree (get s)) (p : Prefix) → IsSome (map.get (map_of s) p) → (x : ℕ) × HasNumber s p x

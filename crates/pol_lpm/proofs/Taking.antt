@@ -43,6 +43,10 @@ in_spot s t p i high spot j n is same =
 pub spot_shorter : (s : Slab Node) (t : IsTree (get s)) (p : Prefix) (i : ℕ) (high : Bool) (spot : IsSpot s p i high) → spot.parent.prefix.len < p.len
 spot_shorter s t p i high spot = (covers_from_half spot.parent.prefix p high (t.valid i spot.parent spot.there) spot.valid spot.under).1
 
+pub spot_over : (s : Slab Node) (t : IsTree (get s)) (p : Prefix) (i : ℕ) (high : Bool) (spot : IsSpot s p i high) (n : Node) → get s i ≡ Some n → covers n.prefix p ≡ true
+spot_over s t p i high spot n is =
+    ap (λ x. covers x.prefix p) (same_Some n spot.parent (sym is ∙ spot.there)) ∙ (covers_from_half spot.parent.prefix p high (t.valid i spot.parent spot.there) spot.valid spot.under).0
+
 pub spot_apart : (s : Slab Node) (t : IsTree (get s)) (n : Node) (i j : ℕ) (high : Bool) (spot : IsSpot s n.prefix i high) → get s j ≡ Some n → i ≢ j
 spot_apart s t n i j high spot is same =
     let nodes : spot.parent ≡ n = same_Some spot.parent n (sym spot.there ∙ ap (get s) same ∙ is) in

@@ -146,6 +146,15 @@ SameNumbers old new = (q : Prefix) → number_of new q ≡ number_of old q
 abbrev pub StillThere : Slab Node → Slab Node → ℕ → Type 0
 StillThere old new k = (j : ℕ) (n : Node) → j ≢ k → get old j ≡ Some n → (m : Node) × (get new j ≡ Some m) × (m.prefix ≡ n.prefix)
 
+-- each node is still there with its prefix
+abbrev pub AllStillThere : Slab Node → Slab Node → Type 0
+AllStillThere old new = (j : ℕ) (n : Node) → get old j ≡ Some n → (m : Node) × (get new j ≡ Some m) × (m.prefix ≡ n.prefix)
+
+-- the same of each node that this prefix doesn't cover
+abbrev pub StillThereOutside : Slab Node → Slab Node → Prefix → Type 0
+StillThereOutside old new over =
+    (j : ℕ) (n : Node) → covers over n.prefix ≡ false → get old j ≡ Some n → (m : Node) × (get new j ≡ Some m) × (m.prefix ≡ n.prefix)
+
 -- the nodes as a map
 abbrev pub map_of : Slab Node → PrefixMap
 map_of s = map.from_entries (numbered s.slots)

@@ -2,7 +2,7 @@
 ghost use Rattle.std.specs.Prelude.{◌≡◌, ◌+◌, ◌≤◌, Some, None};
 ghost use Rattle.slab.specs.Slab.{get, ContainsKey, HasRoomFor, Updates, slab_len};
 ghost use Rattle.pol_lpm.specs.declared.node.Node.{Node};
-ghost use Rattle.pol_lpm.specs.Trie.{IsTrie, HasRoot, FitsBelow, HasOnly, Numbers, SameNumbers, StillThere, number_of, with_child};
+ghost use Rattle.pol_lpm.specs.Trie.{IsTrie, HasRoot, FitsBelow, HasOnly, Numbers, SameNumbers, StillThere, AllStillThere, number_of, with_child};
 
 use crate::node::Node;
 use slab::Slab;
@@ -30,6 +30,7 @@ pub(crate) fn set_number(nodes: &mut Slab<Node>, at: usize, number: Option<u32>)
     ensures trie { IsTrie nodes.new }
     ensures there { ContainsKey nodes.new at }
     ensures numbers { (n : Node) → get nodes.old at ≡ Some n → Numbers nodes.old nodes.new n.prefix number }
+    ensures kept { AllStillThere nodes.old nodes.new }
     ensures len { slab_len nodes.new ≡ slab_len nodes.old }
     ensures capacity { nodes.new.capacity ≡ nodes.old.capacity }
 {
@@ -45,6 +46,7 @@ pub(crate) fn attach(nodes: &mut Slab<Node>, parent: usize, high: bool, node: No
     ensures there { get nodes.new result ≡ Some node }
     ensures numbers { Numbers nodes.old nodes.new node.prefix node.number }
     ensures was_absent { number_of nodes.old node.prefix ≡ None }
+    ensures kept { AllStillThere nodes.old nodes.new }
     ensures len { slab_len nodes.new ≡ slab_len nodes.old + 1 }
     ensures capacity { nodes.new.capacity ≡ nodes.old.capacity }
 {
@@ -67,6 +69,7 @@ pub(crate) fn splice(
     ensures trie { IsTrie nodes.new }
     ensures numbers { SameNumbers nodes.old nodes.new }
     ensures others { StillThere nodes.old nodes.new at }
+    ensures rooted { HasRoot (get nodes.new) }
 {
     link(nodes, parent, high, only);
     nodes.remove(at);

@@ -18,3 +18,8 @@ returns-then-not-contains-clause-numbers c =
     let leaf = c.leaf.ensures in
     root_numbers c.args.nodes.now c.insert_reserved.new.self c.insert_reserved.result c.leaf.result (no_nodes c.args.nodes.now c.requires.trie missing) c.insert_reserved.ensures.updates
     (ap (λ n. n.prefix) leaf ∙ c.world.ensures) (ap (λ n. n.number) leaf) (ap (λ n. n.low) leaf) (ap (λ n. n.high) leaf) c.requires.trie
+
+pub returns-then-not-contains-clause-kept : goal.returns-then-not-contains-clause-kept
+returns-then-not-contains-clause-kept c = λ j n is.
+    let missing : get c.args.nodes.now 0 ≡ None = none_from_test (get c.args.nodes.now 0) (λ some. both_ways _ c.if-not-contains.true (c.contains.ensures.1 some)) in
+    absurd (no_nodes c.args.nodes.now c.requires.trie missing j n is)

@@ -2,6 +2,7 @@ use Rattle.std.proofs.Common.{Some, None, sym, ap, ◌∙◌, subst, arith}
 use Rattle.pol_addr.specs.Prefix.{bit_of}
 use Rattle.pol_lpm.specs.Trie.{FitsBelow, Numbers, number_of}
 use Rattle.pol_lpm.proofs.Places.{leaf_of, fork_over_node, fork_over_new, fork_fits, leaf_fits, numbers_twice, over_prefix, over_number}
+use Rattle.pol_lpm.proofs.Edits.{still_twice}
 use Rattle.pol_lpm.proofs.put.put_beside.Goals as goal
 
 pub over-node-requires : goal.over-node-requires
@@ -50,3 +51,6 @@ returns-clause-numbers c =
     let second : Numbers c.attach-key.new.nodes c.attach.new.nodes c.args.prefix (Some c.args.number) =
     subst (λ n. Numbers c.attach-key.new.nodes c.attach.new.nodes n.prefix n.number) c.leaf.ensures c.attach.ensures.numbers in
     numbers_twice c.args.nodes.now c.attach-key.new.nodes c.attach.new.nodes c.common-fork.result c.args.prefix (Some c.args.number) (ap (number_of c.args.nodes.now) (sym prefix_is) ∙ c.attach-key.ensures.was_absent) first second
+
+pub returns-clause-kept : goal.returns-clause-kept
+returns-clause-kept c = still_twice c.args.nodes.now c.attach-key.new.nodes c.attach.new.nodes c.attach-key.ensures.kept c.attach.ensures.kept
