@@ -11,3 +11,7 @@ pub mod Maps
 pub mod Scan
 pub mod Reached
 pub mod StartLists
+pub mod Sums
+pub mod Balance
+pub mod Tight
+pub mod Bound

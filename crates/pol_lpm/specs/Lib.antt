@@ -1,3 +1,4 @@
+pub mod Sizes
 pub mod Starts
 pub mod Table
 pub mod Trie

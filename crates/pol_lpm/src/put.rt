@@ -3,6 +3,7 @@ ghost use Rattle.std.specs.Prelude.{◌≡◌, ◌<◌, ◌≤◌, ◌+◌, ◌�
 ghost use Rattle.slab.specs.Slab.{get, ContainsKey, HasRoomFor, slab_len};
 ghost use Rattle.pol_addr.specs.Prefix.{covers};
 ghost use Rattle.pol_lpm.specs.declared.node.Node.{Node};
+ghost use Rattle.pol_lpm.specs.Sizes.{IsTight};
 ghost use Rattle.pol_lpm.specs.Trie.{IsTrie, HasRoot, IsSpot, Numbers, SameNumbers, AllStillThere, child};
 
 use crate::edit::{attach, set_number};
@@ -14,8 +15,10 @@ use slab::Slab;
 /// Makes the root, if no node is there yet.
 fn make_root(nodes: &mut Slab<Node>)
     requires trie { IsTrie nodes.old }
+    requires tight { IsTight nodes.old }
     requires room { HasRoomFor nodes.old 1 }
     ensures trie { IsTrie nodes.new }
+    ensures tight { IsTight nodes.new }
     ensures rooted { HasRoot (get nodes.new) }
     ensures numbers { SameNumbers nodes.old nodes.new }
     ensures kept { AllStillThere nodes.old nodes.new }
@@ -31,9 +34,11 @@ fn make_root(nodes: &mut Slab<Node>)
 /// which that changes nodes.
 pub(crate) fn put(nodes: &mut Slab<Node>, prefix: Prefix, number: u32) -> Prefix
     requires trie { IsTrie nodes.old }
+    requires tight { IsTight nodes.old }
     requires room { HasRoomFor nodes.old 3 }
     ensures over { covers result prefix ≡ true }
     ensures trie { IsTrie nodes.new }
+    ensures tight { IsTight nodes.new }
     ensures rooted { HasRoot (get nodes.new) }
     ensures numbers { Numbers nodes.old nodes.new prefix (Some number) }
     ensures kept { AllStillThere nodes.old nodes.new }
@@ -45,10 +50,12 @@ pub(crate) fn put(nodes: &mut Slab<Node>, prefix: Prefix, number: u32) -> Prefix
 /// The same where the root is there.
 fn put_below(nodes: &mut Slab<Node>, prefix: Prefix, number: u32) -> Prefix
     requires trie { IsTrie nodes.old }
+    requires tight { IsTight nodes.old }
     requires rooted { HasRoot (get nodes.old) }
     requires room { HasRoomFor nodes.old 2 }
     ensures over { covers result prefix ≡ true }
     ensures trie { IsTrie nodes.new }
+    ensures tight { IsTight nodes.new }
     ensures numbers { Numbers nodes.old nodes.new prefix (Some number) }
     ensures kept { AllStillThere nodes.old nodes.new }
 {
@@ -65,9 +72,11 @@ fn put_below(nodes: &mut Slab<Node>, prefix: Prefix, number: u32) -> Prefix
 /// The same in the prefix's spot.
 fn put_in(nodes: &mut Slab<Node>, spot: (usize, bool), prefix: Prefix, number: u32)
     requires trie { IsTrie nodes.old }
+    requires tight { IsTight nodes.old }
     requires spot { IsSpot nodes.old prefix spot.0 spot.1 }
     requires room { HasRoomFor nodes.old 2 }
     ensures trie { IsTrie nodes.new }
+    ensures tight { IsTight nodes.new }
     ensures numbers { Numbers nodes.old nodes.new prefix (Some number) }
     ensures kept { AllStillThere nodes.old nodes.new }
 {
@@ -82,10 +91,12 @@ fn put_in(nodes: &mut Slab<Node>, spot: (usize, bool), prefix: Prefix, number: u
 /// The same where a node is in the spot already.
 fn put_over(nodes: &mut Slab<Node>, spot: (usize, bool), below: usize, prefix: Prefix, number: u32)
     requires trie { IsTrie nodes.old }
+    requires tight { IsTight nodes.old }
     requires spot { IsSpot nodes.old prefix spot.0 spot.1 }
     requires link { (n : Node) → get nodes.old spot.0 ≡ Some n → child n spot.1 ≡ Some below }
     requires room { HasRoomFor nodes.old 2 }
     ensures trie { IsTrie nodes.new }
+    ensures tight { IsTight nodes.new }
     ensures numbers { Numbers nodes.old nodes.new prefix (Some number) }
     ensures kept { AllStillThere nodes.old nodes.new }
 {
@@ -109,6 +120,7 @@ fn put_beside(
     number: u32,
 )
     requires trie { IsTrie nodes.old }
+    requires tight { IsTight nodes.old }
     requires spot { IsSpot nodes.old prefix spot.0 spot.1 }
     requires link { (n : Node) → get nodes.old spot.0 ≡ Some n → child n spot.1 ≡ Some below }
     requires differs { (n : Node) → get nodes.old below ≡ Some n → n.prefix ≢ prefix }
@@ -116,6 +128,7 @@ fn put_beside(
     requires there { ContainsKey nodes.old below }
     requires room { HasRoomFor nodes.old 2 }
     ensures trie { IsTrie nodes.new }
+    ensures tight { IsTight nodes.new }
     ensures numbers { Numbers nodes.old nodes.new prefix (Some number) }
     ensures kept { AllStillThere nodes.old nodes.new }
 {

@@ -21,7 +21,7 @@ fn bits_for(nodes: usize) -> Option<u8>
 {
     if nodes < 64 {
         None
-    } else if nodes < 16_384 {
+    } else if nodes < 65_536 {
         Some(8)
     } else {
         Some(START_BITS)

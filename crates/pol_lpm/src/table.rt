@@ -1,5 +1,5 @@
 //! The table: a trie seen as a finite map.
-ghost use Rattle.std.specs.Prelude.{◌≡◌, ◌↔◌, OnOk, OnErr, IfOk, IfSome, IsNone};
+ghost use Rattle.std.specs.Prelude.{◌≡◌, ◌+◌, ◌*◌, ◌≤◌, ◌↔◌, OnOk, OnErr, IfOk, IfSome, IsNone};
 ghost use Rattle.std.specs.FinMap as map;
 ghost use Rattle.pol_lpm.specs.Table.{IsLongestMatch, NoneMatches, look_up};
 
@@ -30,11 +30,12 @@ impl Model for PrefixTable {
     ghost coded = { table_code };
 
     ghost use Rattle.pol_lpm.specs.Trie.{map_of, IsTrie};
+    ghost use Rattle.pol_lpm.specs.Sizes.{IsTight};
     ghost use Rattle.pol_lpm.specs.Starts.{AreStarts};
 
     ghost view = { λ t. map_of t.nodes };
 
-    ghost invariant = { λ t. IsTrie t.nodes × AreStarts t.nodes t.starts.items };
+    ghost invariant = { λ t. IsTrie t.nodes × AreStarts t.nodes t.starts.items × IsTight t.nodes };
 }
 
 impl PrefixTable {
@@ -78,6 +79,15 @@ impl PrefixTable {
         ensures none { IsNone result ↔ NoneMatches self.now addr }
     {
         longest_over(&self.nodes, self.starts.as_slice(), addr)
+    }
+
+    /// How many nodes it takes: each prefix has one, and there are at most twice as many and one more. So what `remove` leaves
+    /// empty is free again, and a copy takes no more.
+    pub fn nodes(&self) -> usize
+        ensures least { map.len self.now ≤ result }
+        ensures most { result ≤ 2 * map.len self.now + 1 }
+    {
+        self.nodes.len()
     }
 
     /// The same table once more. The one error is want of memory.

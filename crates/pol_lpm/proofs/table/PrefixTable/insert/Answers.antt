@@ -1,13 +1,13 @@
 use Rattle.std.proofs.Common.{Some, ap, ◌∙◌}
 use Rattle.std.specs.FinMap as map
-use Rattle.pol_lpm.proofs.Maps.{IsTrie-room, numbers_room, numbers_after, map_of-insert}
+use Rattle.pol_lpm.proofs.Maps.{IsTrie-room, tight_room, numbers_room, numbers_after, map_of-insert}
 use Rattle.pol_lpm.proofs.StartLists.{starts_room, starts_outside, all_outside}
 use Rattle.pol_lpm.proofs.table.PrefixTable.insert.Goals as goal
 
 pub invariant_of-self : goal.invariant_of-self
 invariant_of-self c =
     let trie = IsTrie-room c.self.inside.nodes c.reserve.new.self c.reserve.ensures.rest_kept c.self.invariant.0 in
-    (trie, starts_room c.self.inside.nodes c.reserve.new.self c.reserve.ensures.rest_kept c.self.invariant.0 trie c.self.inside.starts.items c.self.invariant.1)
+    (trie, starts_room c.self.inside.nodes c.reserve.new.self c.reserve.ensures.rest_kept c.self.invariant.0 trie c.self.inside.starts.items c.self.invariant.1, tight_room c.self.inside.nodes c.reserve.new.self c.reserve.ensures.rest_kept c.self.invariant.2)
 
 pub grow-requires-clause-trie : goal.grow-requires-clause-trie
 grow-requires-clause-trie c = IsTrie-room c.self.inside.nodes c.reserve.new.self c.reserve.ensures.rest_kept c.self.invariant.0
@@ -18,10 +18,13 @@ grow-requires-clause-starts c =
     starts_room c.self.inside.nodes c.reserve.new.self c.reserve.ensures.rest_kept c.self.invariant.0 trie c.self.inside.starts.items c.self.invariant.1
 
 pub invariant_of-self-in_err-grow : goal.invariant_of-self-in_err-grow
-invariant_of-self-in_err-grow c = (IsTrie-room c.self.inside.nodes c.reserve.new.self c.reserve.ensures.rest_kept c.self.invariant.0, c.grow.ensures)
+invariant_of-self-in_err-grow c = (IsTrie-room c.self.inside.nodes c.reserve.new.self c.reserve.ensures.rest_kept c.self.invariant.0, c.grow.ensures, tight_room c.self.inside.nodes c.reserve.new.self c.reserve.ensures.rest_kept c.self.invariant.2)
 
 pub put-over-requires-clause-trie : goal.put-over-requires-clause-trie
 put-over-requires-clause-trie c = IsTrie-room c.self.inside.nodes c.reserve.new.self c.reserve.ensures.rest_kept c.self.invariant.0
+
+pub put-over-requires-clause-tight : goal.put-over-requires-clause-tight
+put-over-requires-clause-tight c = tight_room c.self.inside.nodes c.reserve.new.self c.reserve.ensures.rest_kept c.self.invariant.2
 
 pub renew-requires-clause-outside : goal.renew-requires-clause-outside
 renew-requires-clause-outside c =

@@ -6,7 +6,7 @@ use Rattle.pol_lpm.proofs.StartLists.{starts_outside}
 use Rattle.pol_lpm.proofs.table.PrefixTable.remove.Goals as goal
 
 pub invariant_of-self : goal.invariant_of-self
-invariant_of-self c = (c.take.ensures.trie, subst (λ s. AreStarts s c.self.inside.starts.items) (sym c.in_err-number.ensures.none) c.self.invariant.1)
+invariant_of-self c = (c.take.ensures.trie, subst (λ s. AreStarts s c.self.inside.starts.items) (sym c.in_err-number.ensures.none) c.self.invariant.1, c.take.ensures.tight)
 
 pub renew-requires-clause-outside : goal.renew-requires-clause-outside
 renew-requires-clause-outside c =
