@@ -1,10 +1,10 @@
 -- Each node but the root stands right below exactly one, before and after an edit.
-use Rattle.std.proofs.Common.{◌≡◌, ℕ, ◌+◌, ◌≤◌, Bool, true, false, not, IsSome, if◌then◌else◌, Option, Some, None, refl, ap, sym, ◌∙◌, arith}
+use Rattle.std.proofs.Common.{◌≡◌, ℕ, ◌+◌, ◌≤◌, Bool, true, false, not, IsSome, Option, Some, None, refl, ap, arith}
 use Rattle.std.specs.Option.{option_or}
 use Rattle.slab.specs.Slab.{Slab, get, Updates}
 use Rattle.pol_addr.specs.declared.network.Prefix.{Prefix}
 use Rattle.pol_lpm.specs.declared.node.Node.{Node}
-use Rattle.pol_lpm.specs.Sizes.{sum_of, one, count, links, weight, IsBalanced}
+use Rattle.pol_lpm.specs.Sizes.{sum_of, one, count, links, IsBalanced}
 use Rattle.pol_lpm.specs.Trie.{child, with_child}
 use Rattle.pol_lpm.proofs.Sums.{sum_updated}
 

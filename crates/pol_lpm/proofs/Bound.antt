@@ -1,16 +1,15 @@
 -- A trie has at most twice as many nodes as numbers, and one more.
-use Rattle.std.proofs.Common.{◌≡◌, ◌≢◌, ℕ, zero, suc, ◌+◌, ◌*◌, ◌≤◌, cond, length, List, [], ◌∷◌, is_some, Option, Some, None, refl, sym, ap, ◌∙◌, arith}
-use Rattle.std.specs.Prelude.{count_by}
+use Rattle.std.proofs.Common.{◌≡◌, ℕ, suc, ◌+◌, ◌*◌, ◌≤◌, cond, length, List, [], ◌∷◌, is_some, Option, Some, None, refl, sym, ap, ◌∙◌, arith}
 use Rattle.std.specs.FinMap as map
 use Rattle.slab.specs.Slab.{Slab, get, slab_len}
 use Rattle.pol_addr.specs.declared.network.Prefix.{Prefix}
 use Rattle.pol_addr.specs.Order.{prefix_cmp}
 use Rattle.pol_addr.proofs.Order.{prefix_cmp_total}
 use Rattle.pol_lpm.specs.declared.node.Node.{Node}
-use Rattle.pol_lpm.specs.Sizes.{sum_of, one, count, links, IsBalanced, IsTight}
+use Rattle.pol_lpm.specs.Sizes.{sum_of, one, count, links, IsTight}
 use Rattle.pol_lpm.specs.Trie.{IsTrie, numbered, entry_before, map_of}
 use Rattle.pol_lpm.proofs.Balance.{count_le}
-use Rattle.pol_lpm.proofs.Lookup.{slot, number_in, number_in-absent, Apart, apart_tail}
+use Rattle.pol_lpm.proofs.Lookup.{slot, number_in-absent, Apart, apart_tail}
 use Rattle.pol_lpm.proofs.Places.{no_nodes}
 use Rattle.pol_lpm.proofs.Sums.{sum_none, sum_one, sum_needed}
 

@@ -1,5 +1,5 @@
 -- The list of starts, written and kept.
-use Rattle.std.proofs.Common.{◌≡◌, ◌≢◌, ℕ, zero, suc, ◌+◌, ◌<◌, ◌≤◌, true, false, List, [], ◌∷◌, ◌++◌, length, slice_get, slice_set, Option, Some, None, refl, sym, ap, subst, ◌∙◌, ◌⊎◌, inl, inr, arith}
+use Rattle.std.proofs.Common.{◌≡◌, ◌≢◌, ℕ, zero, suc, ◌+◌, ◌<◌, ◌≤◌, true, List, [], ◌∷◌, ◌++◌, length, slice_get, slice_set, Option, Some, refl, sym, ap, subst, ◌∙◌, ◌⊎◌, inl, inr, arith}
 use Rattle.std.proofs.lemmas.Option.{none-some, same_Some}
 use Rattle.std.proofs.lemmas.Bool.{both_ways, false_from_ne_true}
 use Rattle.slab.specs.Slab.{Slab, get}
@@ -7,12 +7,11 @@ use Rattle.pol_addr.specs.declared.network.Prefix.{Prefix}
 use Rattle.pol_addr.specs.Prefix.{covers}
 use Rattle.pol_addr.proofs.Containment.{covers_trans}
 use Rattle.pol_addr.proofs.Halves.{covers_len}
-use Rattle.pol_addr.proofs.Order.{cases_same}
 use Rattle.pol_lpm.specs.declared.node.Node.{Node}
 use Rattle.pol_lpm.specs.declared.walk.Reached.{Reached}
 use Rattle.pol_lpm.specs.declared.starts.TheConstants.{START_BITS}
 use Rattle.pol_lpm.specs.Starts.{HasReached, AreStarts, AreStartsOutside}
-use Rattle.pol_lpm.specs.Trie.{IsTree, HasRoot, IsTrie, Numbers, SameNumbers, AllStillThere, StillThereOutside, number_of}
+use Rattle.pol_lpm.specs.Trie.{IsTree, IsTrie, Numbers, SameNumbers, AllStillThere, StillThereOutside, number_of}
 use Rattle.pol_addr.proofs.Order.{not_tied}
 use Rattle.std.proofs.Common.{cond}
 use Rattle.pol_lpm.proofs.Maps.{numbers_room}
@@ -72,15 +71,16 @@ starts_kept old new t t' still same xs are i r is =
 
 pub starts_outside : (old new : Slab Node) → IsTree (get old) → IsTree (get new) → (over p : Prefix) (number : Option ℕ) → covers over p ≡ true → StillThereOutside old new over → Numbers old new p number → (xs : List Reached) → AreStarts old xs → AreStartsOutside new over xs
 starts_outside old new t t' over p number above still numbers xs are i r is =
-    let (reached, few) = are i r is in
-    (λ outside.
-      reached_kept old new t t' r
-      (λ n there over_n. still r.at n (false_from_ne_true _ (λ covered. both_ways _ outside (covers_trans over n.prefix r.to covered over_n))) there)
-      (λ q over_q.
-        let differs : q ≢ p = λ same. both_ways _ outside (covers_trans over q r.to (ap (covers over) same ∙ above) over_q) in
-        numbers q ∙ ap (λ b. cond b number (number_of old q)) (not_tied q p differs))
-      reached,
-    few)
+    let (reached, few) = are i r is in (
+      λ outside.
+          reached_kept old new t t' r
+          (λ n there over_n. still r.at n (false_from_ne_true _ (λ covered. both_ways _ outside (covers_trans over n.prefix r.to covered over_n))) there)
+          (λ q over_q.
+          let differs : q ≢ p = λ same. both_ways _ outside (covers_trans over q r.to (ap (covers over) same ∙ above) over_q) in
+          numbers q ∙ ap (λ b. cond b number (number_of old q)) (not_tied q p differs))
+          reached,
+      few,
+    )
 
 pub all_outside : (old new : Slab Node) (over : Prefix) → AllStillThere old new → StillThereOutside old new over
 all_outside old new over still j n _ is = still j n is

@@ -6,7 +6,7 @@ use Rattle.std.specs.Option.{option_or}
 use Rattle.slab.specs.Slab.{Slab, get, Updates}
 use Rattle.pol_addr.specs.declared.network.Prefix.{Prefix}
 use Rattle.pol_lpm.specs.declared.node.Node.{Node}
-use Rattle.pol_lpm.specs.Sizes.{count, links, weight, IsTightBut, loosened}
+use Rattle.pol_lpm.specs.Sizes.{count, weight, IsTightBut, loosened}
 use Rattle.pol_lpm.specs.Trie.{child, with_child}
 use Rattle.pol_lpm.proofs.Attach.{Attached}
 use Rattle.pol_lpm.proofs.Splice.{Spliced}

@@ -67,7 +67,7 @@ returns-clause-tight c =
     let bit = bit_of m.prefix c.common-fork.result.len in
     let side = c.bit.ensures ∙ ap (bit_of c.args.prefix) c.len-len.ensures.value in
     let parts : c.bit.result ≡ bit → ⊥ = λ same.
-        fork_parts c.args.nodes.now c.requires.trie.tree c.args.prefix c.args.spot.0 c.args.spot.1 h c.args.below m (c.requires.link h.parent h.there) c.index.ensures c.common-fork.result c.len-len.ensures.valid f.this f.that f.longest (c.requires.differs m c.index.ensures) (c.requires.parts m c.index.ensures) (sym side ∙ same) in
+    fork_parts c.args.nodes.now c.requires.trie.tree c.args.prefix c.args.spot.0 c.args.spot.1 h c.args.below m (c.requires.link h.parent h.there) c.index.ensures c.common-fork.result c.len-len.ensures.valid f.this f.that f.longest (c.requires.differs m c.index.ensures) (c.requires.parts m c.index.ensures) (sym side ∙ same) in
     let first = c.attach-key.ensures.tight key (tight_weaker (get c.args.nodes.now) key c.requires.tight) (λ differs. absurd (differs refl)) in
     let leaf = needed_with_number c.leaf.result c.args.number (ap (λ n. n.number) c.leaf.ensures) in
     let second = c.attach.ensures.tight key first (λ _. leaf) in

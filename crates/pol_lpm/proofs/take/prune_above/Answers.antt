@@ -1,7 +1,7 @@
-use Rattle.std.proofs.Common.{◌≢◌, false, subst, ap, is_some, rules, if◌then◌else◌}
+use Rattle.std.proofs.Common.{◌≢◌, subst, rules, if◌then◌else◌}
 use Rattle.slab.specs.Slab.{get}
 use Rattle.pol_lpm.specs.Sizes.{IsTightBut}
-use Rattle.pol_lpm.proofs.Taking.{below_root, some_from_test, spot_of_node}
+use Rattle.pol_lpm.proofs.Taking.{below_root, spot_of_node}
 use Rattle.pol_lpm.proofs.take.prune_above.Goals as goal
 
 pub spot_of-spot-requires-clause-rooted : goal.spot_of-spot-requires-clause-rooted

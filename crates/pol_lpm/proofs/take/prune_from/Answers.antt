@@ -1,10 +1,9 @@
-use Rattle.std.proofs.Common.{◌≡◌, true, ap, subst, sym, ◌∙◌, is_some, if◌then◌else◌}
+use Rattle.std.proofs.Common.{ap, subst, sym, ◌∙◌, is_some, if◌then◌else◌}
 use Rattle.std.proofs.lemmas.Option.{same_Some}
 use Rattle.slab.specs.Slab.{get}
 use Rattle.pol_addr.specs.Prefix.{covers}
 use Rattle.pol_addr.proofs.Containment.{covers_refl}
 use Rattle.pol_lpm.specs.Sizes.{IsTightBut}
-use Rattle.pol_lpm.specs.Trie.{StillThereOutside}
 use Rattle.pol_lpm.proofs.Taking.{spot_apart, spot_over, spot_of_node, root_key, pruned_kept, kept_twice}
 use Rattle.pol_lpm.proofs.take.prune_from.Goals as goal
 

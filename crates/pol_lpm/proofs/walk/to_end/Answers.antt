@@ -1,4 +1,4 @@
-use Rattle.std.proofs.Common.{◌+◌, sym, ap, arith, subst}
+use Rattle.std.proofs.Common.{◌+◌, sym, arith, subst}
 use Rattle.pol_lpm.specs.Trie.{IsBest}
 use Rattle.pol_lpm.proofs.Best.{best_step}
 use Rattle.pol_lpm.proofs.walk.to_end.Goals as goal
