@@ -1,2 +1,4 @@
+pub mod Sizes
+pub mod Starts
 pub mod Table
 pub mod Trie

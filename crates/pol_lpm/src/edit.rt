@@ -1,8 +1,9 @@
 //! Changes of the trie, one link at a time.
-ghost use Rattle.std.specs.Prelude.{◌≡◌, ◌+◌, ◌≤◌, Some, None};
+ghost use Rattle.std.specs.Prelude.{◌≡◌, ◌≢◌, ℕ, ◌+◌, ◌≤◌, Some, None};
 ghost use Rattle.slab.specs.Slab.{get, ContainsKey, HasRoomFor, Updates, slab_len};
 ghost use Rattle.pol_lpm.specs.declared.node.Node.{Node};
-ghost use Rattle.pol_lpm.specs.Trie.{IsTrie, HasRoot, FitsBelow, HasOnly, Numbers, SameNumbers, StillThere, number_of, with_child};
+ghost use Rattle.pol_lpm.specs.Sizes.{weight, IsTightBut, IsTight, loosened};
+ghost use Rattle.pol_lpm.specs.Trie.{IsTrie, HasRoot, FitsBelow, HasOnly, Numbers, SameNumbers, StillThere, AllStillThere, number_of, with_child};
 
 use crate::node::Node;
 use slab::Slab;
@@ -30,6 +31,8 @@ pub(crate) fn set_number(nodes: &mut Slab<Node>, at: usize, number: Option<u32>)
     ensures trie { IsTrie nodes.new }
     ensures there { ContainsKey nodes.new at }
     ensures numbers { (n : Node) → get nodes.old at ≡ Some n → Numbers nodes.old nodes.new n.prefix number }
+    ensures kept { AllStillThere nodes.old nodes.new }
+    ensures tight { IsTight nodes.old → IsTightBut (get nodes.new) (loosened number at) }
     ensures len { slab_len nodes.new ≡ slab_len nodes.old }
     ensures capacity { nodes.new.capacity ≡ nodes.old.capacity }
 {
@@ -44,7 +47,10 @@ pub(crate) fn attach(nodes: &mut Slab<Node>, parent: usize, high: bool, node: No
     ensures trie { IsTrie nodes.new }
     ensures there { get nodes.new result ≡ Some node }
     ensures numbers { Numbers nodes.old nodes.new node.prefix node.number }
+    ensures parent { (n : Node) → get nodes.old parent ≡ Some n → get nodes.new parent ≡ Some (with_child n high (Some result)) }
     ensures was_absent { number_of nodes.old node.prefix ≡ None }
+    ensures tight { (k : ℕ) → IsTightBut (get nodes.old) k → (result ≢ k → 2 ≤ weight node) → IsTightBut (get nodes.new) k }
+    ensures kept { AllStillThere nodes.old nodes.new }
     ensures len { slab_len nodes.new ≡ slab_len nodes.old + 1 }
     ensures capacity { nodes.new.capacity ≡ nodes.old.capacity }
 {
@@ -64,9 +70,13 @@ pub(crate) fn splice(
     requires trie { IsTrie nodes.old }
     requires only { HasOnly nodes.old parent high at only }
     requires number { (n : Node) → get nodes.old at ≡ Some n → n.number ≡ None }
+    requires tight { IsTightBut (get nodes.old) at }
     ensures trie { IsTrie nodes.new }
     ensures numbers { SameNumbers nodes.old nodes.new }
     ensures others { StillThere nodes.old nodes.new at }
+    ensures rooted { HasRoot (get nodes.new) }
+    ensures tight { IsTightBut (get nodes.new) (loosened only parent) }
+    ensures left { (n : Node) → parent ≢ 0 → get nodes.new parent ≡ Some n → 1 ≤ weight n }
 {
     link(nodes, parent, high, only);
     nodes.remove(at);

@@ -1,5 +1,5 @@
 //! The nodes of the trie.
-ghost use Rattle.std.specs.Prelude.{◌≡◌, ◌<◌, Some, None, if◌then◌else◌};
+ghost use Rattle.std.specs.Prelude.{◌≡◌, ◌<◌, ◌≤◌, ◌↔◌, IsTrue, Some, None, if◌then◌else◌};
 
 use pol_addr::Prefix;
 use std::alloc::AllocError;
@@ -17,6 +17,7 @@ pub(crate) struct Node {
 
 impl Node {
     ghost use Rattle.pol_addr.specs.Prefix.{bit_of};
+    ghost use Rattle.pol_lpm.specs.Sizes.{weight};
     ghost use Rattle.pol_lpm.specs.Trie.{child, with_child};
 
     /// A node with nothing below it.
@@ -44,6 +45,13 @@ impl Node {
             node.low = Some(key);
         }
         node
+    }
+
+    /// Whether it has a number or a node below it on each side.
+    pub(crate) fn is_needed(&self) -> bool
+        ensures { IsTrue result ↔ (2 ≤ weight self.now) }
+    {
+        self.number.is_some() || self.low.is_some() && self.high.is_some()
     }
 
     /// The key of the node below on this side.
