@@ -23,3 +23,4 @@ pub mod OutputsInShort
 pub mod Examples
 pub mod WrongTexts
 pub mod RightExamples
+pub mod TextHistory
