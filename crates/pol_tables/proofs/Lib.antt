@@ -1,0 +1,4 @@
+mod Entries
+mod ByName
+mod InOrder
+mod Addresses
