@@ -53,15 +53,15 @@ module _ (old new : List (Addr × ℕ)) (endpoint : Endpoint) (list : List Endpo
         | inl same ↦
             find-no (λ (e : Endpoint). same_addr e.address address) (filter (λ e. not (p e)) list)
             (every-from_in (λ (e : Endpoint). same_addr e.address address ≡ false) (filter (λ e. not (p e)) list) (λ e there.
-              let stays = In-filter (λ e. not (p e)) e list there in
-              false_from_ne_true (same_addr e.address address) (λ its.
-                let both = (same_addr-Decides e.address address).0 its ∙ sym ((same_addr-Decides endpoint.address address).0 same) in
-                let one = one_of_key (λ (e : Endpoint). e.address) same_addr-Decides e endpoint list apart stays.0 own.0 both in
-                both_ways (p e) (not_true (p e) stays.1) (ap p one ∙ own.1))))
+            let stays = In-filter (λ e. not (p e)) e list there in
+            false_from_ne_true (same_addr e.address address) (λ its.
+            let both = (same_addr-Decides e.address address).0 its ∙ sym ((same_addr-Decides endpoint.address address).0 same) in
+            let one = one_of_key (λ (e : Endpoint). e.address) same_addr-Decides e endpoint list apart stays.0 own.0 both in
+            both_ways (p e) (not_true (p e) stays.1) (ap p one ∙ own.1))))
             ∙ sym (ap (λ b. cond b None (endpoint_at address list)) same)
         | inr differ ↦
             find-kept p (λ (e : Endpoint). same_addr e.address address) list (λ e there passes.
-              ap (λ (x : Endpoint). same_addr x.address address) (one_passes p e endpoint list once is there passes) ∙ differ)
+            ap (λ (x : Endpoint). same_addr x.address address) (one_passes p e endpoint list once is there passes) ∙ differ)
             ∙ sym (ap (λ b. cond b None (endpoint_at address list)) differ)
       ]
     where

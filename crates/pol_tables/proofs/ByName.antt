@@ -20,7 +20,7 @@ use Rattle.pol_model.specs.Policies.{applied, is_of_key, policy_at, removed}
 use Rattle.pol_facts.proofs.PolicyHolders.{same_key-Decides}
 use Rattle.pol_tables.specs.Tables.{number_named}
 use Rattle.pol_tables.specs.Tied.{IsKeyed, named_in}
-use Rattle.pol_tables.proofs.Entries.{Agree, agree-keyed, find-kept, find-left, found_by, pass_once, removed_by}
+use Rattle.pol_tables.proofs.Entries.{Agree, PassOnce, agree-keyed, find-kept, find-left, found_by, pass_once, removed_by}
 
 -- two tests that both decide whether two are one, from either side
 pub turned : {X : Type 0} {e f : X → X → Bool} → ((a b : X) → Decides (e a b) (a ≡ b)) → ((a b : X) → Decides (f a b) (a ≡ b)) → (a b : X) → e a b ≡ f b a
@@ -31,7 +31,7 @@ turned {e = e} {f = f} one other a b =
     ]
 
 -- ---- names
-pub name_test : {A : Type 0} (name : List ℕ) → IsKeyTest (string_eq {A}) (λ key. bytes_eq name (string_bytes key))
+pub name_test : {A : Type 0} (name : List ℕ) → IsKeyTest (string_eq {Z = A}) (λ key. bytes_eq name (string_bytes key))
 name_test name x y = nat_list_eq_equiv.congr name (string_bytes x) (string_bytes y)
 
 module _ {A V : Type 0} (name_of : V → List ℕ) (name : List ℕ) (es : List (String A × V)) (keyed : IsKeyed string_bytes name_of es) where
@@ -42,18 +42,21 @@ module _ {A V : Type 0} (name_of : V → List ℕ) (name : List ℕ) (es : List 
   pub found_by_name : lookup (λ key. bytes_eq name (string_bytes key)) es ≡ find (λ v. bytes_eq (name_of v) name) (values_of es)
   found_by_name = found_by _ (λ v. bytes_eq (name_of v) name) es names_agree
 
+  pub names_once : IsDistinct string_eq (map (λ e. e.0) es) → PassOnce (λ v. bytes_eq (name_of v) name) (values_of es)
+  names_once apart = pass_once _ (λ v. bytes_eq (name_of v) name) (name_test name) es names_agree apart
+
   pub removed_by_name : IsDistinct string_eq (map (λ e. e.0) es) → values_of (remove_entry (λ key. bytes_eq name (string_bytes key)) es) ≡ filter (λ v. not (bytes_eq (name_of v) name)) (values_of es)
-  removed_by_name apart = removed_by _ (λ v. bytes_eq (name_of v) name) es names_agree (pass_once _ (λ v. bytes_eq (name_of v) name) (name_test name) es names_agree apart)
+  removed_by_name apart = removed_by _ (λ v. bytes_eq (name_of v) name) es names_agree (names_once apart)
 
 -- ---- named identities
 module _ {A : Type 0} where
   pub number_found : (name : List ℕ) (es : List (String A × ℕ)) → number_named name (named_in es) ≡ lookup (λ key. bytes_eq name (string_bytes key)) es
   number_found name [] = refl
   number_found name (e ∷ es) = rw (turned bytes_decides bytes_decides (string_bytes e.0) name) (
-    elim (bytes_eq name (string_bytes e.0)) as (λ b. option_map (λ (i : NamedIdentity). i.number) (cond b (Some (record { name = string_bytes e.0; number = e.1 })) (named_of name (named_in es))) ≡ cond b (Some e.1) (lookup (λ key. bytes_eq name (string_bytes key)) es)) [
-      | true ↦ refl
-      | false ↦ number_found name es
-    ])
+      elim (bytes_eq name (string_bytes e.0)) as (λ b. option_map (λ (i : NamedIdentity). i.number) (cond b (Some (record { name = string_bytes e.0; number = e.1 })) (named_of name (named_in es))) ≡ cond b (Some e.1) (lookup (λ key. bytes_eq name (string_bytes key)) es)) [
+        | true ↦ refl
+        | false ↦ number_found name es
+      ])
 
   pub named_push : (es : List (String A × ℕ)) (e : String A × ℕ) → named_in (es ++ e ∷ []) ≡ named_in es ++ record { name = string_bytes e.0; number = e.1 } ∷ []
   named_push [] e = refl
@@ -69,8 +72,8 @@ number_without name other named =
           ap (λ n. number_named n (without_named name named)) (sym is) ∙ left ∙ sym (ap (λ b. cond b None (number_named other named)) same)
       | inr differ ↦
           ap (option_map (λ i. i.number)) (find-kept (λ (i : NamedIdentity). bytes_eq i.name name) (λ i. bytes_eq i.name other) named (λ i there passes.
-            let its = (bytes_decides i.name name).0 passes in
-            ap (λ n. bytes_eq n other) its ∙ differ))
+          let its = (bytes_decides i.name name).0 passes in
+          ap (λ n. bytes_eq n other) its ∙ differ))
           ∙ sym (ap (λ b. cond b None (number_named other named)) differ)
     ]
 

@@ -3,7 +3,9 @@ use Rattle.std.proofs.Common.{zero, suc, ◌≡◌, ℕ, Bool, true, false, not,
 use Rattle.std.specs.List.{AllByRecursion, IsDistinct, insert, remove}
 use Rattle.std.specs.Map.{IsKeyTest, keys_of, lookup, remove_entry, values_of}
 use Rattle.std.proofs.lemmas.Bool.{both_ways, cases_Bool}
-use Rattle.indexmap.specs.IndexMap.{move_index}
+use Rattle.indexmap.specs.IndexMap.{IndexMap, get, insert_entry, insert_index, move_index}
+use Rattle.indexmap.proofs.CallerLemmas.{insert_entry-new}
+use Rattle.indexmap.proofs.MapLemmas.{absent_from_lookup, or_len-absent}
 use Rattle.pol_data.proofs.Members.{In, every-in}
 use Rattle.pol_tables.specs.Tied.{IsKeyed}
 
@@ -78,6 +80,12 @@ module _ {K V : Type 0} where
   values-insert es zero e = refl
   values-insert [] (suc i) e = refl
   values-insert (f ∷ es) (suc i) e = ap (λ vs. f.1 ∷ vs) (values-insert es i e)
+
+  pub inserted_at : {S : Type 0} (eq : K → K → Bool) (m : IndexMap K V S) (k : K) (v : V) (i : ℕ) → get eq m k ≡ None
+      → move_index (insert_entry eq m.entries k v) (insert_index eq m k) i ≡ insert m.entries i (k, v)
+  inserted_at eq m k v i none =
+      (λ j. move_index (insert_entry-new eq m k v none j) (or_len-absent (eq k) m.entries (absent_from_lookup (eq k) m.entries none) j) i)
+      ∙ last_moved (k, v) m.entries i
 
   keyed_removed : {X : Type 0} (shown : K → X) (key : V → X) (b : Bool) (e : K × V) (es fs : List (K × V))
       → IsKeyed shown key (e ∷ es) → IsKeyed shown key fs → IsKeyed shown key (cond b es (e ∷ fs))

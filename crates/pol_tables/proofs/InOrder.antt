@@ -108,3 +108,14 @@ module _ (n : ℕ) (endpoints : List Endpoint) (ascends : Ascends (map (λ endpo
 
   pub slot_nowhere : slice_get endpoints lower ≡ None → endpoint_in n endpoints ≡ None
   slot_nowhere at = stands None at
+
+-- what a slice's `get` tells
+pub read_at : {X : Type 0} (xs : List X) (i : ℕ) (x : X) → i < length xs → x ≡ get_or xs i x → slice_get xs i ≡ Some x
+read_at [] i x within is = absurd (omega arith)
+read_at (y ∷ ys) zero x within is = ap Some (sym is)
+read_at (y ∷ ys) (suc i) x within is = read_at ys i x (omega arith) is
+
+pub read_past : {X : Type 0} (xs : List X) (i : ℕ) → length xs ≤ i → slice_get xs i ≡ None
+read_past [] i past = refl
+read_past (y ∷ ys) zero past = absurd (omega arith)
+read_past (y ∷ ys) (suc i) past = read_past ys i (omega arith)

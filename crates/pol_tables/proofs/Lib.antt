@@ -2,3 +2,4 @@ mod Entries
 mod ByName
 mod InOrder
 mod Addresses
+mod Kept

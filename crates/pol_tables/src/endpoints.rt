@@ -135,8 +135,12 @@ impl Endpoints {
         ensures list { self.new.list ≡ without_endpoint name.now self.old.list }
         ensures removed { result ≡ endpoint_of name.now self.old.list }
     {
-        let endpoint = self.by_name.shift_remove(name)?;
-        self.by_address.swap_remove(&endpoint.address);
-        Some(endpoint)
+        match self.by_name.shift_remove(name) {
+            Some(endpoint) => {
+                self.by_address.swap_remove(&endpoint.address);
+                Some(endpoint)
+            }
+            None => None,
+        }
     }
 }
