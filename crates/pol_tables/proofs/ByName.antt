@@ -13,9 +13,10 @@ use Rattle.pol_rule.specs.declared.policy.PolicyKey.{PolicyKey}
 use Rattle.pol_rule.specs.Keys.{same_key}
 use Rattle.pol_rule.specs.contracts.policy.PolicyKeyPartialEq.TheImpl as policy_key
 use Rattle.pol_rule.proofs.Equality.{policy_key_eq-Decides}
+use Rattle.pol_model.specs.declared.row.Endpoint.{Endpoint}
 use Rattle.pol_model.specs.declared.row.NamedIdentity.{NamedIdentity}
 use Rattle.pol_model.specs.declared.row.Stamped.{Stamped}
-use Rattle.pol_model.specs.Endpoints.{named_of, without_named}
+use Rattle.pol_model.specs.Endpoints.{endpoint_of, named_of, without_named}
 use Rattle.pol_model.specs.Policies.{applied, is_of_key, policy_at, removed}
 use Rattle.pol_facts.proofs.PolicyHolders.{same_key-Decides}
 use Rattle.pol_tables.specs.Tables.{number_named}
@@ -47,6 +48,11 @@ module _ {A V : Type 0} (name_of : V → List ℕ) (name : List ℕ) (es : List 
 
   pub removed_by_name : IsDistinct string_eq (map (λ e. e.0) es) → values_of (remove_entry (λ key. bytes_eq name (string_bytes key)) es) ≡ filter (λ v. not (bytes_eq (name_of v) name)) (values_of es)
   removed_by_name apart = removed_by _ (λ v. bytes_eq (name_of v) name) es names_agree (names_once apart)
+
+pub new_name : {A : Type 0} (es : List (String A × Endpoint)) → IsKeyed string_bytes (λ endpoint. endpoint.name) es → (key : String A) {name : List ℕ} → string_bytes key ≡ name
+    → endpoint_of name (values_of es) ≡ None → lookup (string_eq key) es ≡ None
+new_name es keyed key is none =
+    found_by_name (λ (endpoint : Endpoint). endpoint.name) (string_bytes key) es keyed ∙ ap (λ n. endpoint_of n (values_of es)) is ∙ none
 
 -- ---- named identities
 module _ {A : Type 0} where

@@ -33,28 +33,30 @@ use Rattle.pol_tables.proofs.Entries.{keyed-remove, values-insert}
 abbrev slots : List Endpoint → List ℕ
 slots list = map (λ endpoint. endpoint.slot) list
 
+pub values_placed : {A : Type 0} (es new : List (String A × Endpoint)) (endpoint : Endpoint) (key : String A)
+    → new ≡ insert es (count_by (λ e. nat_lt e.slot endpoint.slot) (values_of es)) (key, endpoint) → values_of new ≡ placed_by (λ e. e.slot) endpoint (values_of es)
+values_placed es new endpoint key put = ap values_of put ∙ values-insert es (count_by (λ e. nat_lt e.slot endpoint.slot) (values_of es)) (key, endpoint)
+
 pub values_left : {A : Type 0} (es new : List (String A × Endpoint)) (old : List (Addr × ℕ)) → IsEndpoints es old → (name : List ℕ)
     → new ≡ remove_entry (λ key. bytes_eq name (string_bytes key)) es → values_of new ≡ without_endpoint name (values_of es)
 values_left es new old is name less = ap values_of less ∙ removed_by_name (λ (e : Endpoint). e.name) name es is.keyed is.names
 
 module _ {A : Type 0} (es new : List (String A × Endpoint)) (old now : List (Addr × ℕ)) (is : IsEndpoints es old) (apart : IsDistinct string_eq (keys_of new)) (endpoint : Endpoint) where
   module _ (key : String A) (put : new ≡ insert es (count_by (λ e. nat_lt e.slot endpoint.slot) (values_of es)) (key, endpoint)) where
-    pub values_placed : values_of new ≡ placed_by (λ e. e.slot) endpoint (values_of es)
-    values_placed = ap values_of put ∙ values-insert es (count_by (λ e. nat_lt e.slot endpoint.slot) (values_of es)) (key, endpoint)
-
     pub kept_placed : string_bytes key ≡ endpoint.name → endpoint.slot ≡ free_slot (values_of es) → endpoint.slot < ENDPOINTS_MAX → endpoint_at endpoint.address (values_of es) ≡ None
         → ((address : Addr) → lookup (addr.ghosts.eq address) now ≡ cond (addr.ghosts.eq endpoint.address address) (Some endpoint.slot) (lookup (addr.ghosts.eq address) old)) → IsEndpoints new now
     kept_placed name free few unused updates =
         let list = values_of es in
+        let placed = values_placed es new endpoint key put in
         let place = count_by (λ (e : Endpoint). nat_lt e.slot endpoint.slot) list in
         let not_taken : list_any (λ n. n == endpoint.slot) (slots list) ≡ false = subst (λ slot. list_any (λ n. n == slot) (slots list) ≡ false) (sym free) (least_free-free 0 (slots list) is.slots) in
         record {
           keyed = subst (IsKeyed string_bytes (λ e. e.name)) (sym put) (every-insert _ es place (key, endpoint) is.keyed name);
           names = apart;
-          slots = subst (λ l. Ascends (slots l)) (sym values_placed) (placed_ascends (λ e. e.slot) endpoint list is.slots not_taken);
-          few = subst (AllByRecursion (λ (e : Endpoint). e.slot < ENDPOINTS_MAX)) (sym values_placed) (every-insert _ list place endpoint is.few few);
-          addresses = subst (λ (l : List Endpoint). IsDistinct same_addr (map (λ e. e.address) l)) (sym values_placed) (differ_inserted (λ (e : Endpoint). e.address) same_addr-Decides endpoint place list (find-none (λ (e : Endpoint). same_addr e.address endpoint.address) list unused) is.addresses);
-          found = λ address. tells_placed old now endpoint list is.found place updates unused address ∙ ap (λ l. option_map (λ (e : Endpoint). e.slot) (endpoint_at address l)) (sym values_placed);
+          slots = subst (λ l. Ascends (slots l)) (sym placed) (placed_ascends (λ e. e.slot) endpoint list is.slots not_taken);
+          few = subst (AllByRecursion (λ (e : Endpoint). e.slot < ENDPOINTS_MAX)) (sym placed) (every-insert _ list place endpoint is.few few);
+          addresses = subst (λ (l : List Endpoint). IsDistinct same_addr (map (λ e. e.address) l)) (sym placed) (differ_inserted (λ (e : Endpoint). e.address) same_addr-Decides endpoint place list (find-none (λ (e : Endpoint). same_addr e.address endpoint.address) list unused) is.addresses);
+          found = λ address. tells_placed old now endpoint list is.found place updates unused address ∙ ap (λ l. option_map (λ (e : Endpoint). e.slot) (endpoint_at address l)) (sym placed);
         }
 
   module _ (name : List ℕ) (less : new ≡ remove_entry (λ key. bytes_eq name (string_bytes key)) es) where
