@@ -1,14 +1,13 @@
 -- The index by address, as an endpoint comes and goes.
-use Rattle.std.proofs.Common.{◌≡◌, ℕ, Bool, true, false, not, cond, List, [], ◌∷◌, map, filter, find, Option, None, Some, option_map, inl, inr, refl, sym, ap, ◌∙◌, subst}
-use Rattle.std.specs.Bool.{Decides}
-use Rattle.std.specs.List.{AllByRecursion, IsDistinct, insert}
+use Rattle.std.proofs.Common.{◌≡◌, ℕ, Bool, true, false, not, cond, List, map, filter, find, Option, None, Some, option_map, inl, inr, refl, sym, ap, ◌∙◌}
+use Rattle.std.specs.List.{IsDistinct, insert}
 use Rattle.std.specs.Map.{lookup}
 use Rattle.std.proofs.lemmas.Bool.{both_ways, cases_Bool, false_from_ne_true}
 use Rattle.pol_addr.specs.declared.address.Addr.{Addr}
 use Rattle.pol_addr.specs.Address.{same_addr}
 use Rattle.pol_addr.specs.contracts.address.AddrPartialEq.TheImpl as addr
 use Rattle.pol_addr.proofs.Equality.{addr_eq-Decides}
-use Rattle.pol_data.proofs.Members.{In, every-from_in}
+use Rattle.pol_data.proofs.Members.{every-from_in}
 use Rattle.pol_model.specs.declared.row.Endpoint.{Endpoint}
 use Rattle.pol_model.specs.Remote.{endpoint_at}
 use Rattle.pol_facts.proofs.Distinct.{one_of_key}

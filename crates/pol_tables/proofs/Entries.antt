@@ -1,5 +1,5 @@
 -- Entries that stand under keys of their values: what is found and removed among them, as lists of values.
-use Rattle.std.proofs.Common.{zero, suc, ◌≡◌, ℕ, Bool, true, false, not, cond, List, [], ◌∷◌, ◌++◌, length, map, filter, find, slice_get, Option, None, Some, inl, inr, refl, sym, ap, ◌∙◌, subst, arith}
+use Rattle.std.proofs.Common.{zero, suc, ◌≡◌, ℕ, Bool, true, false, not, cond, List, [], ◌∷◌, ◌++◌, length, filter, find, slice_get, None, Some, inl, inr, refl, sym, ap, ◌∙◌}
 use Rattle.std.specs.List.{AllByRecursion, IsDistinct, insert, remove}
 use Rattle.std.specs.Map.{IsKeyTest, keys_of, lookup, remove_entry, values_of}
 use Rattle.std.proofs.lemmas.Bool.{both_ways, cases_Bool}

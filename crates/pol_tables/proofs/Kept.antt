@@ -1,5 +1,5 @@
 -- How endpoints fit together after one has come or gone, and what is found among them.
-use Rattle.std.proofs.Common.{◌≡◌, ℕ, ◌+◌, ◌<◌, ◌≤◌, ◌==◌, Bool, true, false, not, cond, nat_le, nat_lt, List, [], ◌∷◌, length, map, filter, find, count_by, Option, None, Some, option_map, refl, sym, ap, ◌∙◌, subst, arith}
+use Rattle.std.proofs.Common.{◌≡◌, ℕ, ◌<◌, ◌==◌, false, not, cond, nat_le, nat_lt, List, length, map, count_by, Option, None, Some, option_map, refl, sym, ap, ◌∙◌, subst, arith}
 use Rattle.std.specs.List.{AllByRecursion, IsDistinct, insert, list_any}
 use Rattle.std.specs.Map.{keys_of, lookup, remove_entry, values_of}
 use Rattle.std.specs.Str.{bytes_eq}
@@ -27,7 +27,7 @@ use Rattle.pol_facts.proofs.PrefixHolders.{least_free-within}
 use Rattle.pol_tables.specs.Tables.{endpoint_in}
 use Rattle.pol_tables.specs.Tied.{IsEndpoints, IsKeyed}
 use Rattle.pol_tables.proofs.Addresses.{tells_placed, tells_removed}
-use Rattle.pol_tables.proofs.ByName.{found_by_name, names_once, removed_by_name}
+use Rattle.pol_tables.proofs.ByName.{names_once, removed_by_name}
 use Rattle.pol_tables.proofs.Entries.{keyed-remove, values-insert}
 
 abbrev slots : List Endpoint → List ℕ

@@ -1,4 +1,4 @@
-use Rattle.std.proofs.Common.{◌≡◌, slice_get, sym, ap, ◌∙◌}
+use Rattle.std.proofs.Common.{slice_get, sym, ap, ◌∙◌}
 use Rattle.std.proofs.lemmas.Bool.{ltb-false, ltb-true}
 use Rattle.pol_tables.proofs.InOrder.{read_at, read_past, slot_nowhere, slot_other, slot_there}
 use Rattle.pol_tables.proofs.slots.at_slot.Goals.{in_default-via-in-Some+else-endpoint-slot, in_default-via-in_default}
