@@ -1,0 +1,5 @@
+mod Entries
+mod ByName
+mod InOrder
+mod Addresses
+mod Kept
