@@ -18,8 +18,9 @@ pub(crate) fn drop_peer(cache: &mut SelectorCache, peer: &Peer)
     ensures log { cache.new.log ≡ cache.old.log }
     ensures sound { IsSound cache.new }
 {
-    if let Some(selector) = cache.selector_of(peer) {
-        cache.drop_ref(selector);
+    match cache.selector_of(peer) {
+        Some(selector) => cache.drop_ref(selector),
+        None => (),
     }
 }
 
@@ -69,6 +70,17 @@ fn drop_rule(cache: &mut SelectorCache, rule: &Rule)
     drop_section(cache, rule.egress_deny.as_slice());
 }
 
+fn drop_rules(cache: &mut SelectorCache, rules: &[Rule])
+    requires held { HasRefs (flat_map rule_peers rules.now) cache.old.live }
+    ensures dropped { IsMoreBy (flat_map rule_peers rules.now) cache.new.live cache.old.live }
+    ensures exact { (rows : List OneRow) → AreExact rows cache.old.live → AreExact rows cache.new.live }
+    ensures log { cache.new.log ≡ cache.old.log }
+{
+    for rule in rules {
+        drop_rule(cache, rule);
+    }
+}
+
 /// Takes one reference back for each peer that the policy lists; a selector goes with its last one. The sets of the others
 /// stay as they are. It takes no memory.
 pub fn drop_peers(cache: &mut SelectorCache, policy: &Policy)
@@ -77,7 +89,5 @@ pub fn drop_peers(cache: &mut SelectorCache, policy: &Policy)
     ensures exact { (rows : List OneRow) → AreExact rows cache.old.live → AreExact rows cache.new.live }
     ensures log { cache.new.log ≡ cache.old.log }
 {
-    for rule in policy.rules.as_slice() {
-        drop_rule(cache, rule);
-    }
+    drop_rules(cache, policy.rules.as_slice());
 }

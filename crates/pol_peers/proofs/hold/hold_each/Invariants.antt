@@ -5,7 +5,7 @@ use Rattle.pol_peers.proofs.hold.hold_each.Given as goal
 
 -- the first peers are held
 abbrev pub invariant-loop-i : goal.invariant-loop-i
-invariant-loop-i l = record {
+invariant-loop-i g l = record {
   more : IsMoreBy (map (λ p. p.now) (take l.i l.peers)) l.initial.cache.live l.cache.live;
   exact : AreExact l.identities l.cache.live;
   log : l.cache.log ≡ l.initial.cache.log;

@@ -3,7 +3,7 @@ use Rattle.pol_peers.proofs.Holds.{added_log, added_more}
 use Rattle.pol_peers.proofs.hold.hold_peer.Goals as goal
 
 pub returns-clause-ok : goal.returns-clause-ok
-returns-clause-ok c = rw c.in_ok-add.ensures.added (added_more c.args.peer.now c.args.identities.now c.args.cache.now c.selector_of-known.ensures.sound.live)
+returns-clause-ok g c = rw c.in_ok-add.ensures.added (added_more c.args.peer.now c.args.identities.now c.args.cache.now c.selector_of-known.ensures.sound.live)
 
 pub returns-clause-log : goal.returns-clause-log
-returns-clause-log c = rw c.in_ok-add.ensures.added (added_log c.args.peer.now c.args.identities.now c.args.cache.now)
+returns-clause-log g c = rw c.in_ok-add.ensures.added (added_log c.args.peer.now c.args.identities.now c.args.cache.now)
