@@ -6,6 +6,7 @@
 
 mod acquire;
 mod error;
+mod find;
 mod holders;
 mod identities;
 mod look;

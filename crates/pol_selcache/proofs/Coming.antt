@@ -41,7 +41,7 @@ changed_lives : (changes : List Planned) (live : List Live) (n : ℕ) → is_liv
 changed_lives changes [] n = refl
 changed_lives changes (s ∷ live) n = ap (λ b. (s.number == n) || b) (changed_lives changes live n)
 
-pub change_lives : {T E : Type 0} (r : Result T E) (plan : Plan) (old new : Cache) → OnOk r ((spare : ℕ) × (new ≡ carried plan (with_room spare old))) → OnErr r (new ≡ with_room new.log.spare old)
+pub change_lives : {T E : Type 0} (r : Result T E) (plan : Plan) (old new : Cache) → OnOk r ((spare : ℕ) × (new ≡ carried plan (with_room spare old))) → OnErr r (new ≡ old)
     → (n : ℕ) → is_live n new.live ≡ is_live n old.live
 change_lives (Ok x) plan old new ok err n = ap (λ (cache : Cache). is_live n cache.live) ok.1 ∙ changed_lives plan.changes old.live n
 change_lives (Err e) plan old new ok err n = ap (λ (cache : Cache). is_live n cache.live) err

@@ -10,3 +10,4 @@ pub mod Sound
 pub mod Staying
 pub mod Retold
 pub mod Coming
+pub mod TakenBack

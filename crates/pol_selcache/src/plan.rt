@@ -1,5 +1,5 @@
 //! What numbers that come and go change.
-ghost use Rattle.std.specs.Prelude.{◌≡◌, ℕ, ◌+◌, ◌≤◌, ◌*◌, ◌&&◌, ◌++◌, [], true, IfOk, OnOk, OnErr, length, option_map};
+ghost use Rattle.std.specs.Prelude.{◌≡◌, ℕ, ◌+◌, ◌≤◌, ◌*◌, ◌&&◌, ◌++◌, [], true, IfOk, OnOk, OnErr, length, max, option_map};
 ghost use Rattle.std.specs.Arc.{arc_value};
 ghost use Rattle.std.specs.List.{AllByRecursion, cons_option};
 ghost use Rattle.pol_changes.specs.Log.{newest};
@@ -122,8 +122,8 @@ fn plan_all<L: Ledger>(
 
 impl SelectorCache {
     /// What changes where some numbers come and others go, which are all held now: the sets afterwards are those over the
-    /// held numbers without the ones that go. All memory is taken here, and no set is changed. `Memory` is want of
-    /// memory.
+    /// held numbers without the ones that go. All memory is taken here, and no set is changed: a plan that isn't carried
+    /// out is dropped, and leaves nothing but room. Revisions count from 1. `Memory` is want of memory.
     pub fn plan<L: Ledger>(
         &mut self,
         revision: u64,
@@ -137,6 +137,8 @@ impl SelectorCache {
         ensures exact { IfOk result (λ plan. AreExact (rows_without gone.now identities.now) (changed plan.changes self.old.live)) }
         ensures fits { IfOk result (λ plan. IsPlanFor plan self.new) }
         ensures same { self.new ≡ with_room self.new.log.spare self.old }
+        ensures reserved { IfOk result (λ plan. self.new.log.spare ≡ max self.old.log.spare (length plan.changes)) }
+        ensures err { OnErr result (self.new ≡ self.old) }
         ensures sound { IsSound self.new }
         ensures cost { steps.new ≤ steps.old + label_selectors self.old.live * length come.now }
     {
@@ -207,7 +209,7 @@ impl SelectorCache {
         requires may { MayPlan revision come.now gone.now identities.now self.old }
         ensures changed { OnOk result ((spare : ℕ) × (self.new ≡ carried (plan_for revision (rows_without gone.now identities.now) self.old.live) (with_room spare self.old))) }
         ensures exact { OnOk result (AreExact (rows_without gone.now identities.now) self.new.live) }
-        ensures err { OnErr result (self.new ≡ with_room self.new.log.spare self.old) }
+        ensures err { OnErr result (self.new ≡ self.old) }
         ensures sound { IsSound self.new }
         ensures cost { steps.new ≤ steps.old + label_selectors self.old.live * length come.now }
     {

@@ -11,7 +11,7 @@ use Rattle.pol_selcache.proofs.cache.SelectorCache.carry_one.Goals as goal
 pub invariant_of-self : goal.invariant_of-self
 invariant_of-self c =
     subst (λ (live : List Live). IsSound (record { live = live; next = c.self.inside.next; log = c.record.new.self })) (sym c.put_set.ensures.put)
-    (set_sound c.self.inside.table c.self.inside.next c.self.invariant.live c.self.invariant.below c.args.change.selector (arc_value c.args.change.set) c.record.new.self)
+    (set_sound c.self.inside.table c.self.inside.next c.self.invariant.live c.self.invariant.below c.args.change.selector (arc_value c.args.change.set) c.record.new.self c.record.ensures.sound)
 
 pub returns-clause-carried : goal.returns-clause-carried
 returns-clause-carried c =

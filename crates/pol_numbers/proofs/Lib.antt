@@ -1,0 +1,4 @@
+pub mod Carried
+pub mod Coming
+pub mod Going
+pub mod Readying
