@@ -2,7 +2,7 @@ mod Deciding
 mod Entries
 mod ByName
 mod ByKey
-mod NamedNumbers
+pub mod NamedNumbers
 mod InOrder
 mod Addresses
 mod Kept

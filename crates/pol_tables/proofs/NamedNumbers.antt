@@ -1,14 +1,16 @@
 -- The numbers that names hold, as one name comes or goes.
-use Rattle.std.proofs.Common.{◌≡◌, ℕ, true, false, cond, List, [], ◌∷◌, ◌++◌, None, Some, option_map, inl, inr, refl, sym, ap, ◌∙◌}
+use Rattle.std.proofs.Common.{◌≡◌, ℕ, true, false, cond, List, [], ◌∷◌, ◌++◌, Option, None, Some, option_map, inl, inr, refl, sym, ap, ◌∙◌}
 use Rattle.std.specs.Map.{lookup}
+use Rattle.std.specs.Option.{option_or}
 use Rattle.std.specs.Str.{bytes_eq}
 use Rattle.std.specs.String.{string_bytes}
 use Rattle.std.specs.declared.string.String.{String}
 use Rattle.std.specs.Cmp.Lexicographic.{bytes_decides}
 use Rattle.std.proofs.lemmas.Bool.{cases_Bool}
+use Rattle.std.proofs.lemmas.List.Folds.{find-append}
 use Rattle.pol_model.specs.declared.row.NamedIdentity.{NamedIdentity}
 use Rattle.pol_model.specs.Endpoints.{named_of, without_named}
-use Rattle.pol_tables.specs.Tables.{number_named}
+use Rattle.pol_tables.specs.Tables.{SameNumbers, number_named}
 use Rattle.pol_tables.specs.Tied.{named_in}
 use Rattle.pol_tables.proofs.Deciding.{turned}
 use Rattle.pol_tables.proofs.Entries.{find-kept, find-left}
@@ -40,3 +42,21 @@ number_without name other named =
           ap (λ n. bytes_eq n other) its ∙ differ))
           ∙ sym (ap (λ b. cond b None (number_named other named)) differ)
     ]
+
+-- ---- two lists in which each name holds the same
+pub same-without : (name : List ℕ) (one other : List NamedIdentity) → SameNumbers one other → SameNumbers (without_named name one) (without_named name other)
+same-without name one other same n =
+    number_without name n one ∙ ap (λ o. cond (bytes_eq name n) None o) (same n) ∙ sym (number_without name n other)
+
+mapped_or : (a b : Option NamedIdentity) → option_map (λ i. i.number) (option_or a b) ≡ option_or (option_map (λ i. i.number) a) (option_map (λ i. i.number) b)
+mapped_or None b = refl
+mapped_or (Some i) b = refl
+
+number_push : (name : List ℕ) (named : List NamedIdentity) (identity : NamedIdentity) → number_named name (named ++ identity ∷ []) ≡ option_or (number_named name named) (number_named name (identity ∷ []))
+number_push name named identity =
+    ap (option_map (λ i. i.number)) (find-append (λ (i : NamedIdentity). bytes_eq i.name name) named (identity ∷ []))
+    ∙ mapped_or (named_of name named) (named_of name (identity ∷ []))
+
+pub same-push : (identity : NamedIdentity) (one other : List NamedIdentity) → SameNumbers one other → SameNumbers (one ++ identity ∷ []) (other ++ identity ∷ [])
+same-push identity one other same n =
+    number_push n one identity ∙ ap (λ o. option_or o (number_named n (identity ∷ []))) (same n) ∙ sym (number_push n other identity)
