@@ -13,6 +13,7 @@ use Rattle.pol_model.specs.Remote.{endpoint_at}
 use Rattle.pol_facts.proofs.Distinct.{one_of_key}
 use Rattle.pol_facts.proofs.Membership.{In-filter, find-In}
 use Rattle.pol_facts.proofs.PolicyHolders.{same_addr-Decides}
+use Rattle.pol_tables.proofs.Deciding.{same_tests}
 use Rattle.pol_tables.proofs.Entries.{PassOnce, find-inserted, find-kept, find-no, one_passes}
 
 -- each address has the slot of the endpoint that has it
@@ -21,11 +22,7 @@ Tells by_address list = (address : Addr) → lookup (addr.ghosts.eq address) by_
 
 -- both tests decide whether two addresses are one
 same_test : (a b : Addr) → addr.ghosts.eq a b ≡ same_addr a b
-same_test a b =
-    elim (cases_Bool (same_addr a b)) [
-      | inl same ↦ (addr_eq-Decides a b).1 ((same_addr-Decides a b).0 same) ∙ sym same
-      | inr differ ↦ false_from_ne_true (addr.ghosts.eq a b) (λ same. both_ways (same_addr a b) differ ((same_addr-Decides a b).1 ((addr_eq-Decides a b).0 same))) ∙ sym differ
-    ]
+same_test a b = same_tests addr_eq-Decides same_addr-Decides a b
 
 module _ (old new : List (Addr × ℕ)) (endpoint : Endpoint) (list : List Endpoint) (tells : Tells old list) where
   pub tells_placed : (i : ℕ) → ((address : Addr) → lookup (addr.ghosts.eq address) new ≡ cond (addr.ghosts.eq endpoint.address address) (Some endpoint.slot) (lookup (addr.ghosts.eq address) old))

@@ -1,6 +1,6 @@
 use Rattle.std.proofs.Common.{sym, ap, ◌∙◌}
 use Rattle.pol_tables.specs.Tables.{NamedTable, number_named}
-use Rattle.pol_tables.proofs.ByName.{number_found}
+use Rattle.pol_tables.proofs.NamedNumbers.{number_found}
 use Rattle.pol_tables.proofs.named.Named.find.Goals as goal
 
 pub returns-in-Some : goal.returns-in-Some

@@ -5,7 +5,7 @@ use Rattle.indexmap.proofs.CallerLemmas.{insert_entry-new}
 use Rattle.pol_model.specs.declared.row.NamedIdentity.{NamedIdentity}
 use Rattle.pol_tables.specs.Tables.{NamedTable, number_named}
 use Rattle.pol_tables.specs.Tied.{named_in}
-use Rattle.pol_tables.proofs.ByName.{named_push, number_found}
+use Rattle.pol_tables.proofs.NamedNumbers.{named_push, number_found}
 use Rattle.pol_tables.proofs.named.Named.place.Goals as goal
 
 pub returns : goal.returns

@@ -4,7 +4,7 @@ use Rattle.std.proofs.lemmas.Map.Text.{hash_map_updates_text}
 use Rattle.pol_model.specs.Endpoints.{without_named}
 use Rattle.pol_tables.specs.Tables.{NamedTable, number_named}
 use Rattle.pol_tables.specs.Tied.{named_in}
-use Rattle.pol_tables.proofs.ByName.{number_found, number_without}
+use Rattle.pol_tables.proofs.NamedNumbers.{number_found, number_without}
 use Rattle.pol_tables.proofs.named.Named.remove.Goals as goal
 
 pub returns-clause-numbers : goal.returns-clause-numbers

@@ -1,7 +1,7 @@
 use Rattle.std.proofs.Common.{ap, ◌∙◌}
 use Rattle.pol_model.specs.Policies.{policy_at}
 use Rattle.pol_tables.specs.Tables.{PolicyTable}
-use Rattle.pol_tables.proofs.ByName.{policy_found}
+use Rattle.pol_tables.proofs.ByKey.{policy_found}
 use Rattle.pol_tables.proofs.policies.Policies.find.Goals as goal
 
 pub returns : goal.returns

@@ -4,7 +4,7 @@ use Rattle.indexmap.specs.IndexMap.{insert_entry}
 use Rattle.pol_rule.specs.contracts.policy.PolicyKeyPartialEq.TheImpl as policy_key
 use Rattle.pol_model.specs.Policies.{applied, policy_at}
 use Rattle.pol_tables.specs.Tables.{PolicyTable}
-use Rattle.pol_tables.proofs.ByName.{KeyedPolicies, keyed_put, policy_found, policy_put}
+use Rattle.pol_tables.proofs.ByKey.{KeyedPolicies, keyed_put, policy_found, policy_put}
 use Rattle.pol_tables.proofs.policies.Policies.put.Goals as goal
 
 stands : (c : goal.After-unwrap) → c.insert.new.self.entries ≡ insert_entry policy_key.ghosts.eq c.self.inside.rows.entries c.args.new.policy.key c.args.new

@@ -4,7 +4,7 @@ use Rattle.pol_rule.specs.contracts.policy.PolicyKeyPartialEq.TheImpl as policy_
 use Rattle.pol_model.specs.declared.row.Stamped.{Stamped}
 use Rattle.pol_model.specs.Policies.{policy_at, removed}
 use Rattle.pol_tables.specs.Tables.{PolicyTable}
-use Rattle.pol_tables.proofs.ByName.{KeyedPolicies, policy_found, policy_removed}
+use Rattle.pol_tables.proofs.ByKey.{KeyedPolicies, policy_found, policy_removed}
 use Rattle.pol_tables.proofs.Entries.{keyed-remove}
 use Rattle.pol_tables.proofs.policies.Policies.remove.Goals as goal
 
