@@ -1,9 +1,9 @@
 //! The prefixes of a policy, with ample memory.
 
-use crate::{Entries, Entry, Peer, Peers, Policy, PolicyKey, Rule};
 use pol_addr::Prefix;
 use pol_data::{Items, Memory, Text};
 use pol_labels::Selector;
+use pol_rule::{Entries, Entry, Peer, Peers, Policy, PolicyKey, Rule};
 use std::alloc::Global;
 use std::test::Fail;
 

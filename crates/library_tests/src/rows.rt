@@ -1,9 +1,9 @@
 //! Rows of the state that are made and copied, with ample memory.
 
-use crate::{Endpoint, IdentityRow, NamedIdentity, Stamped, reserved_rows};
 use pol_addr::{Addr, Prefix};
 use pol_data::{Items, Text};
 use pol_labels::LabelSet;
+use pol_model::{Endpoint, IdentityRow, NamedIdentity, Stamped, reserved_rows};
 use pol_rule::{Policy, PolicyKey};
 use std::test::Fail;
 
