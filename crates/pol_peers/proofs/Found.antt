@@ -136,7 +136,7 @@ module _ (live : List Live) (are : AreLive live) (p : Peer) (number : ℕ) (is :
       by (Some t) found = less (t.number == number) t (some_references q t found) ∙ ap (λ b. (where_number number one_less t).references + cond b 1 0) (its_number q t found)
 
 -- ---- a selector without references isn't missed
-unlike_none : (q : Peer) (s : Live) (live : List Live) → peers.ghosts.eq q s.peer ≡ true → AllByRecursion (λ r. peers.ghosts.eq s.peer r ≡ false) (map (λ t. t.peer) live) → find (is_of q) live ≡ None
+pub unlike_none : (q : Peer) (s : Live) (live : List Live) → peers.ghosts.eq q s.peer ≡ true → AllByRecursion (λ r. peers.ghosts.eq s.peer r ≡ false) (map (λ t. t.peer) live) → find (is_of q) live ≡ None
 unlike_none q s [] same unlike = refl
 unlike_none q s (t ∷ live) same unlike =
     cond-false (is_of q t) (Some t) (find (is_of q) live) (ap (λ p. peers.ghosts.eq p t.peer) (peer_is q s.peer same) ∙ unlike.0)
