@@ -1,13 +1,12 @@
 -- How many references a peer has, after a selector gains or loses one or is new.
-use Rattle.std.proofs.Common.{◌≡◌, ℕ, ◌+◌, ◌-◌, ◌==◌, ◌<◌, Bool, true, false, cond, nat_lt, List, [], ◌∷◌, ◌++◌, map, filter, find, Option, Some, None, option_map, inl, inr, refl, sym, ap, ◌∙◌, subst, arith}
+use Rattle.std.proofs.Common.{◌≡◌, ℕ, ◌+◌, ◌==◌, ◌<◌, Bool, true, false, cond, nat_lt, List, [], ◌∷◌, ◌++◌, map, filter, find, Option, Some, None, option_map, refl, sym, ap, ◌∙◌, subst, arith}
 use Rattle.std.specs.List.{AllByRecursion, IsDistinct, list_any}
 use Rattle.std.specs.Option.{option_map_or}
-use Rattle.std.proofs.lemmas.Bool.{both_ways, cases_Bool, cond-false, cond-true, eqb-true, eq-eqb, false_from_ne_true, ltb-false, or_parts}
+use Rattle.std.proofs.lemmas.Bool.{both_ways, cond-false, cond-true, eqb-true, eq-eqb, false_from_ne_true, ltb-false, or_parts}
 use Rattle.std.proofs.lemmas.List.Sums.{sum_by-cons}
-use Rattle.pol_data.proofs.Members.{In, every-in}
-use Rattle.pol_model.specs.Ascending.{Ascends}
+use Rattle.pol_data.proofs.Members.{every-in}
 use Rattle.pol_facts.proofs.Keyed.{one_of_number}
-use Rattle.pol_facts.proofs.Membership.{find-In, find-none, list_any-In, none-In}
+use Rattle.pol_facts.proofs.Membership.{find-In, find-none, list_any-In}
 use Rattle.pol_facts.proofs.PrefixHolders.{same_tests}
 use Rattle.pol_rule.specs.contracts.policy.PeerPartialEq.TheImpl as peers
 use Rattle.pol_rule.specs.declared.policy.Peer.{Peer}

@@ -1,5 +1,5 @@
 -- Selectors that live on keep their numbers.
-use Rattle.std.proofs.Common.{◌≡◌, ℕ, ◌+◌, ◌==◌, ◌<◌, Bool, true, false, cond, nat_lt, List, [], ◌∷◌, ◌++◌, map, filter, find, Option, Some, None, option_map, refl, sym, ap, ◌∙◌, subst, arith}
+use Rattle.std.proofs.Common.{◌≡◌, ℕ, ◌==◌, ◌<◌, Bool, true, false, cond, nat_lt, List, [], ◌∷◌, ◌++◌, map, filter, find, Option, Some, None, option_map, refl, sym, ap, ◌∙◌, subst, arith}
 use Rattle.std.specs.List.{IsDistinct}
 use Rattle.std.specs.Option.{option_or}
 use Rattle.std.proofs.lemmas.Bool.{cond-false, cond-true}
@@ -11,7 +11,7 @@ use Rattle.pol_rule.specs.declared.policy.Peer.{Peer}
 use Rattle.pol_model.specs.declared.row.IdentityRow.{IdentityRow}
 use Rattle.pol_model.specs.Selects.{set_at}
 use Rattle.pol_selcache.specs.Cache.{Cache, added, added_by}
-use Rattle.pol_selcache.specs.Live.{Live, AreLive, number_of, one_less, one_more, where_number, with_reference, without_reference}
+use Rattle.pol_selcache.specs.Live.{Live, AreLive, number_of, one_less, one_more, where_number, without_reference}
 use Rattle.pol_peers.specs.References.{IsMoreBy, KeepsNumbers, references_of}
 use Rattle.pol_peers.proofs.Found.{found_changed, found_of, is_of, peers_kept, refs, unlike_none}
 

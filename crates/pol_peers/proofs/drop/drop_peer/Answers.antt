@@ -1,4 +1,4 @@
-use Rattle.std.proofs.Common.{sym, ap, ◌∙◌}
+use Rattle.std.proofs.Common.{sym}
 use Rattle.pol_selcache.proofs.Sound.{unreference_exact}
 use Rattle.pol_peers.proofs.Found.{number_lives}
 use Rattle.pol_peers.proofs.Holds.{dropped_less, has_selector}

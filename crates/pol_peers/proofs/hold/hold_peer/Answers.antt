@@ -1,4 +1,3 @@
-use Rattle.std.proofs.Common.{◌∙◌}
 use Rattle.pol_peers.proofs.Holds.{added_log, added_more}
 use Rattle.pol_peers.proofs.Kept.{kept_added, kept_itself}
 use Rattle.pol_peers.proofs.hold.hold_peer.Goals as goal
