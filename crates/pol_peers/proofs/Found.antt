@@ -1,13 +1,12 @@
 -- How many references a peer has, after a selector gains or loses one or is new.
-use Rattle.std.proofs.Common.{◌≡◌, ℕ, ◌+◌, ◌-◌, ◌==◌, ◌<◌, Bool, true, false, cond, nat_lt, List, [], ◌∷◌, ◌++◌, map, filter, find, Option, Some, None, option_map, inl, inr, refl, sym, ap, ◌∙◌, subst, arith}
+use Rattle.std.proofs.Common.{◌≡◌, ℕ, ◌+◌, ◌==◌, ◌<◌, Bool, true, false, cond, nat_lt, List, [], ◌∷◌, ◌++◌, map, filter, find, Option, Some, None, option_map, refl, sym, ap, ◌∙◌, subst, arith}
 use Rattle.std.specs.List.{AllByRecursion, IsDistinct, list_any}
 use Rattle.std.specs.Option.{option_map_or}
-use Rattle.std.proofs.lemmas.Bool.{both_ways, cases_Bool, cond-false, cond-true, eqb-true, eq-eqb, false_from_ne_true, ltb-false, or_parts}
+use Rattle.std.proofs.lemmas.Bool.{both_ways, cond-false, cond-true, eqb-true, eq-eqb, false_from_ne_true, ltb-false, or_parts}
 use Rattle.std.proofs.lemmas.List.Sums.{sum_by-cons}
-use Rattle.pol_data.proofs.Members.{In, every-in}
-use Rattle.pol_model.specs.Ascending.{Ascends}
+use Rattle.pol_data.proofs.Members.{every-in}
 use Rattle.pol_facts.proofs.Keyed.{one_of_number}
-use Rattle.pol_facts.proofs.Membership.{find-In, find-none, list_any-In, none-In}
+use Rattle.pol_facts.proofs.Membership.{find-In, find-none, list_any-In}
 use Rattle.pol_facts.proofs.PrefixHolders.{same_tests}
 use Rattle.pol_rule.specs.contracts.policy.PeerPartialEq.TheImpl as peers
 use Rattle.pol_rule.specs.declared.policy.Peer.{Peer}
@@ -136,7 +135,7 @@ module _ (live : List Live) (are : AreLive live) (p : Peer) (number : ℕ) (is :
       by (Some t) found = less (t.number == number) t (some_references q t found) ∙ ap (λ b. (where_number number one_less t).references + cond b 1 0) (its_number q t found)
 
 -- ---- a selector without references isn't missed
-unlike_none : (q : Peer) (s : Live) (live : List Live) → peers.ghosts.eq q s.peer ≡ true → AllByRecursion (λ r. peers.ghosts.eq s.peer r ≡ false) (map (λ t. t.peer) live) → find (is_of q) live ≡ None
+pub unlike_none : (q : Peer) (s : Live) (live : List Live) → peers.ghosts.eq q s.peer ≡ true → AllByRecursion (λ r. peers.ghosts.eq s.peer r ≡ false) (map (λ t. t.peer) live) → find (is_of q) live ≡ None
 unlike_none q s [] same unlike = refl
 unlike_none q s (t ∷ live) same unlike =
     cond-false (is_of q t) (Some t) (find (is_of q) live) (ap (λ p. peers.ghosts.eq p t.peer) (peer_is q s.peer same) ∙ unlike.0)

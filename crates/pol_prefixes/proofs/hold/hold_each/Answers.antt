@@ -1,5 +1,4 @@
 use Rattle.std.proofs.Common.{◌≡◌, ◌+◌, ◌<◌, ◌++◌, [], ◌∷◌, drop, length, take, sym, ap, ◌∙◌, arith}
-use Rattle.std.specs.List.{AllByRecursion}
 use Rattle.std.proofs.lemmas.List.{drop_more, take_more}
 use Rattle.pol_addr.specs.Cidr.{IsPrefix}
 use Rattle.pol_data.proofs.Every.{every-append}

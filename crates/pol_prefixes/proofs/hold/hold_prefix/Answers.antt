@@ -1,6 +1,5 @@
-use Rattle.std.proofs.Common.{Bool, false, is_some, ◌≡◌, Option, None, Some, sym, ap, ◌∙◌, ℕ, refl, subst}
+use Rattle.std.proofs.Common.{is_some, sym, ap, ◌∙◌}
 use Rattle.pol_model.specs.Identities.{released}
-use Rattle.pol_prefixes.specs.Tables.{IsTableOf}
 use Rattle.pol_prefixes.proofs.Tables.{table_held, table_known}
 use Rattle.pol_prefixes.proofs.Undoing.{none_is, number_held, one_undone}
 use Rattle.pol_prefixes.proofs.hold.hold_prefix.Goals as goal

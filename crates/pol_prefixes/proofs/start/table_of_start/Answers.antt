@@ -1,4 +1,3 @@
-use Rattle.std.proofs.Common.{◌∙◌}
 use Rattle.pol_prefixes.proofs.Tables.{table_at_start}
 use Rattle.pol_prefixes.proofs.start.table_of_start.Goals as goal
 
