@@ -1,5 +1,5 @@
 -- References that are counted by lists of peers: how holds and drops join.
-use Rattle.std.proofs.Common.{◌≡◌, ℕ, ◌+◌, ◌≤◌, cond, List, [], ◌∷◌, ◌++◌, refl, sym, ap, ◌∙◌, arith}
+use Rattle.std.proofs.Common.{◌≡◌, ℕ, ◌+◌, ◌≤◌, cond, List, [], ◌∷◌, ◌++◌, arith}
 use Rattle.std.proofs.lemmas.List.Sums.{sum_by-append, sum_by-cons}
 use Rattle.pol_rule.specs.contracts.policy.PeerPartialEq.TheImpl as peers
 use Rattle.pol_rule.specs.declared.policy.Peer.{Peer}
@@ -9,15 +9,8 @@ use Rattle.pol_peers.specs.References.{HasRefs, IsMoreBy, RefsOf, references_of,
 pub times_append : (p : Peer) (xs ys : List Peer) → times_in p (xs ++ ys) ≡ times_in p xs + times_in p ys
 times_append p xs ys = sum_by-append (λ q. cond (peers.ghosts.eq p q) 1 0) xs ys
 
--- ---- more and less
-pub none_more : (live : List Live) → IsMoreBy [] live live
-none_more live p = omega arith
-
 pub more_joined : (xs ys : List Peer) (one two three : List Live) → IsMoreBy xs one two → IsMoreBy ys two three → IsMoreBy (xs ++ ys) one three
 more_joined xs ys one two three first second p = omega (arith, first p, second p, times_append p xs ys)
-
-pub less_joined : (xs ys : List Peer) (one two three : List Live) → IsMoreBy xs two one → IsMoreBy ys three two → IsMoreBy (xs ++ ys) three one
-less_joined xs ys one two three first second p = omega (arith, first p, second p, times_append p xs ys)
 
 -- what is more, and then less by as much
 pub undone : (xs : List Peer) (one two three : List Live) → IsMoreBy xs one two → IsMoreBy xs three two → IsMoreBy [] one three
@@ -25,13 +18,6 @@ undone xs one two three more less p = omega (arith, more p, less p)
 
 pub has_more : (xs : List Peer) (live more : List Live) → IsMoreBy xs live more → HasRefs xs more
 has_more xs live more is p = omega (arith, is p)
-
-pub has_front : (xs ys : List Peer) (live : List Live) → HasRefs (xs ++ ys) live → HasRefs xs live
-has_front xs ys live has p = omega (arith, has p, times_append p xs ys)
-
--- those that are left once the others are dropped
-pub has_rest : (xs ys : List Peer) (live less : List Live) → HasRefs (xs ++ ys) live → IsMoreBy xs less live → HasRefs ys less
-has_rest xs ys live less has is p = omega (arith, has p, is p, times_append p xs ys)
 
 -- ---- who keeps references for many
 pub refs_held : (xs held : List Peer) (old new : List Live) → RefsOf held old → IsMoreBy xs old new → RefsOf (xs ++ held) new
@@ -56,13 +42,3 @@ left_has all xs ys old now has is p = omega (arith, has p, is p, times_append p 
 
 pub left_next : (all xs ys : List Peer) (old now next : List Live) → Left all (xs ++ ys) old now → IsMoreBy xs next now → Left all ys old next
 left_next all xs ys old now next is less p = omega (arith, is p, less p, times_append p xs ys)
-
-pub left_start : (all xs : List Peer) (live : List Live) → all ≡ xs → Left all xs live live
-left_start all xs live same p = ap (λ ps. references_of p live + times_in p ps) (sym same)
-
--- and the last of them
-pub left_last_has : (all xs : List Peer) (old now : List Live) → HasRefs all old → Left all xs old now → HasRefs xs now
-left_last_has all xs old now has is p = omega (arith, has p, is p)
-
-pub left_last : (all xs : List Peer) (old now next : List Live) → Left all xs old now → IsMoreBy xs next now → IsMoreBy all next old
-left_last all xs old now next is less p = omega (arith, is p, less p)

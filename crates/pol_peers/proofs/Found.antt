@@ -136,7 +136,7 @@ module _ (live : List Live) (are : AreLive live) (p : Peer) (number : ℕ) (is :
       by (Some t) found = less (t.number == number) t (some_references q t found) ∙ ap (λ b. (where_number number one_less t).references + cond b 1 0) (its_number q t found)
 
 -- ---- a selector without references isn't missed
-unlike_none : (q : Peer) (s : Live) (live : List Live) → peers.ghosts.eq q s.peer ≡ true → AllByRecursion (λ r. peers.ghosts.eq s.peer r ≡ false) (map (λ t. t.peer) live) → find (is_of q) live ≡ None
+pub unlike_none : (q : Peer) (s : Live) (live : List Live) → peers.ghosts.eq q s.peer ≡ true → AllByRecursion (λ r. peers.ghosts.eq s.peer r ≡ false) (map (λ t. t.peer) live) → find (is_of q) live ≡ None
 unlike_none q s [] same unlike = refl
 unlike_none q s (t ∷ live) same unlike =
     cond-false (is_of q t) (Some t) (find (is_of q) live) (ap (λ p. peers.ghosts.eq p t.peer) (peer_is q s.peer same) ∙ unlike.0)
@@ -145,20 +145,18 @@ unlike_none q s (t ∷ live) same unlike =
 pub references_left : (q : Peer) (live : List Live) → IsDistinct peers.ghosts.eq (map (λ s. s.peer) live) → references_of q (filter (λ s. nat_lt 0 s.references) live) ≡ references_of q live
 unfolding IsDistinct
 references_left q [] apart = refl
-references_left q (s ∷ live) apart = by (nat_lt 0 s.references) refl (is_of q s) refl
+references_left q (s ∷ live) apart = by (references_left q live apart.1) (nat_lt 0 s.references) refl (is_of q s) refl
   where
-    rest : references_of q (filter (λ s. nat_lt 0 s.references) live) ≡ references_of q live
-    rest = references_left q live apart.1
-
     none_left : (n : ℕ) → nat_lt 0 n ≡ false → 0 ≡ n
     none_left n none = omega (arith, ltb-false 0 n none)
 
-    by : (b : Bool) → nat_lt 0 s.references ≡ b → (c : Bool) → is_of q s ≡ c
+    by : references_of q (filter (λ s. nat_lt 0 s.references) live) ≡ references_of q live
+        → (b : Bool) → nat_lt 0 s.references ≡ b → (c : Bool) → is_of q s ≡ c
         → refs (find (is_of q) (cond b (s ∷ filter (λ s. nat_lt 0 s.references) live) (filter (λ s. nat_lt 0 s.references) live))) ≡ refs (cond c (Some s) (find (is_of q) live))
-    by true some true same = ap refs (cond-true (is_of q s) (Some s) _ same)
-    by true some false other = ap refs (cond-false (is_of q s) (Some s) _ other) ∙ rest
-    by false none true same = rest ∙ ap refs (unlike_none q s live same apart.0) ∙ none_left s.references none
-    by false none false other = rest
+    by rest true some true same = ap refs (cond-true (is_of q s) (Some s) _ same)
+    by rest true some false other = ap refs (cond-false (is_of q s) (Some s) _ other) ∙ rest
+    by rest false none true same = rest ∙ ap refs (unlike_none q s live same apart.0) ∙ none_left s.references none
+    by rest false none false other = rest
 
 pub references_less : (live : List Live) → AreLive live → (p : Peer) (number : ℕ) → number_of p live ≡ Some number → (q : Peer)
     → references_of q live ≡ references_of q (without_reference number live) + times_in q (p ∷ [])

@@ -2,3 +2,5 @@ pub mod Found
 pub mod Counts
 pub mod Holds
 pub mod Sections
+pub mod Kept
+pub mod Costs

@@ -1,6 +1,7 @@
 use Rattle.std.proofs.Common.{◌≡◌, ◌+◌, ◌<◌, ◌++◌, [], ◌∷◌, drop, length, map, sym, ap, ◌∙◌, subst, arith}
 use Rattle.std.proofs.lemmas.List.{drop_all, drop_more}
 use Rattle.pol_peers.proofs.Counts.{Left, left_end, left_has, left_next}
+use Rattle.pol_peers.proofs.Kept.{kept_further}
 use Rattle.pol_peers.proofs.drop.drop_list.Goals as goal
 
 pub drop_peer-requires : goal.drop_peer-requires
@@ -26,6 +27,7 @@ loop-peer-preserved c =
       left = left_next all (item ∷ []) (drop (i + 1) all) c.args.cache.now.live c.loop-peer.cache.live c.drop_peer.new.cache.live
           (subst (λ xs. Left all xs c.args.cache.now.live c.loop-peer.cache.live) split c.loop-peer.invariant.left)
           c.drop_peer.ensures.dropped;
+      kept = kept_further c.drop_peer.new.cache.live c.loop-peer.cache.live c.args.cache.now.live c.drop_peer.ensures.kept c.loop-peer.invariant.kept;
       exact = λ rows exact. c.drop_peer.ensures.exact rows (c.loop-peer.invariant.exact rows exact);
       log = c.drop_peer.ensures.log ∙ c.loop-peer.invariant.log;
     }

@@ -2,6 +2,7 @@ use Rattle.std.proofs.Common.{◌≡◌, ◌+◌, ◌<◌, ◌++◌, [], ◌∷�
 use Rattle.std.proofs.lemmas.List.{drop_all, drop_more}
 use Rattle.pol_peers.specs.Listed.{peers_in, section_peers}
 use Rattle.pol_peers.proofs.Counts.{Left, left_end, left_has, left_next}
+use Rattle.pol_peers.proofs.Kept.{kept_further}
 use Rattle.pol_peers.proofs.drop.drop_section.Goals as goal
 
 pub drop_entry-requires : goal.drop_entry-requires
@@ -27,6 +28,7 @@ loop-entry-preserved c =
       left = left_next (section_peers all) (peers_in item.peers) (section_peers (drop (i + 1) all)) c.args.cache.now.live c.loop-entry.cache.live c.drop_entry.new.cache.live
           (subst (λ xs. Left (section_peers all) (section_peers xs) c.args.cache.now.live c.loop-entry.cache.live) split c.loop-entry.invariant.left)
           c.drop_entry.ensures.dropped;
+      kept = kept_further c.drop_entry.new.cache.live c.loop-entry.cache.live c.args.cache.now.live c.drop_entry.ensures.kept c.loop-entry.invariant.kept;
       exact = λ rows exact. c.drop_entry.ensures.exact rows (c.loop-entry.invariant.exact rows exact);
       log = c.drop_entry.ensures.log ∙ c.loop-entry.invariant.log;
     }
