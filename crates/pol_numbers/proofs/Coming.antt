@@ -1,10 +1,12 @@
 -- A label set is held once more: which number comes, and what a plan asks then.
-use Rattle.std.proofs.Common.{◌≡◌, ℕ, ◌<◌, ◌==◌, Bool, true, false, not, if◌then◌else◌, List, [], ◌∷◌, Option, None, Some, is_some, refl, sym, ap, ◌∙◌, inl, inr}
-use Rattle.std.proofs.lemmas.Bool.{eq-eqb}
+use Rattle.std.proofs.Common.{◌≡◌, ℕ, ◌<◌, ◌==◌, ◌&&◌, Bool, true, false, not, if◌then◌else◌, List, [], ◌∷◌, Option, None, Some, is_none, is_some, nat_lt, refl, sym, ap, ◌∙◌, inl, inr, arith}
+use Rattle.std.proofs.lemmas.Bool.{and_parts, eq-eqb, lt-leb, ltb-false, not-true}
 use Rattle.pol_labels.specs.declared.label.Label.{Label}
-use Rattle.pol_model.specs.declared.limits.TheConstants.{CLUSTER_FIRST}
+use Rattle.pol_model.specs.declared.limits.TheConstants.{CLUSTER_FIRST, CLUSTER_LAST, LOCAL_FIRST}
 use Rattle.pol_model.specs.declared.row.IdentityRow.{IdentityRow}
-use Rattle.pol_model.specs.Identities.{free_number, labels_held, number_for, number_of_labels, or_free}
+use Rattle.pol_labels.specs.Same.{same_labels}
+use Rattle.pol_model.specs.Fault.{is_exhausted}
+use Rattle.pol_model.specs.Identities.{free_number, is_local, labels_held, number_for, number_of_labels, or_free}
 use Rattle.pol_model.proofs.AscendingStates.{RowsAscend, labels_ascend}
 use Rattle.pol_facts.specs.Holding.{has_row}
 use Rattle.pol_facts.proofs.FoundRows.{found_with, labels_pass}
@@ -59,3 +61,16 @@ module _ (labels : List Label) (rows : List IdentityRow) (ascend : RowsAscend ro
         apart = tt;
         exact = exact_as_come rows (labels_held labels rows) [] cache.live (labels_ascend labels rows ascend) (part-labels_held labels rows ascend) (none_comes known is) exact;
       }
+
+-- the number isn't a prefix's
+pub number_not_local : (labels : List Label) (rows : List IdentityRow) → is_exhausted labels rows ≡ false → is_local (number_for labels rows) ≡ false
+number_not_local labels rows room = by (number_of_labels labels rows) refl
+  where
+    by : (o : Option ℕ) → number_of_labels labels rows ≡ o → is_local (number_for labels rows) ≡ false
+    by None is =
+        let within = ltb-false CLUSTER_LAST (free_number CLUSTER_FIRST rows) (sym (ap (λ o. is_none o && nat_lt CLUSTER_LAST (free_number CLUSTER_FIRST rows)) is) ∙ room) in
+        ap (λ o. is_local (or_free o (free_number CLUSTER_FIRST rows))) is ∙ lt-leb LOCAL_FIRST (free_number CLUSTER_FIRST rows) (omega (arith, within))
+    by (Some number) is =
+        let found = found_with (labels_pass labels) rows number is in
+        let passes = and_parts (not (is_local found.0.number)) (same_labels found.0.labels labels) found.2 in
+        ap (λ o. is_local (or_free o (free_number CLUSTER_FIRST rows))) is ∙ ap is_local (sym found.3) ∙ not-true (is_local found.0.number) passes.0

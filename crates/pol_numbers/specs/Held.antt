@@ -1,7 +1,10 @@
 -- What a contract sees of `Numbers`, and what its calls ready and do.
-use Rattle.std.specs.Prelude.{ℕ, ◌≡◌, ◌<◌, List, []}
+use Rattle.std.specs.Prelude.{ℕ, ◌≡◌, ◌<◌, ◌⊎◌, true, List, []}
 use Rattle.pol_labels.specs.declared.label.Label.{Label}
 use Rattle.pol_model.specs.declared.row.IdentityRow.{IdentityRow}
+use Rattle.pol_addr.specs.declared.network.Prefix.{Prefix}
+use Rattle.pol_model.specs.Prefixes.{prefixes_held, prefixes_released}
+use Rattle.pol_facts.specs.Holding.{has_row}
 use Rattle.pol_model.specs.Identities.{labels_held, number_for, reserved_identities}
 use Rattle.pol_changes.specs.Log.{empty_log, newest}
 use Rattle.pol_selcache.specs.Cache.{Cache, IsPlanFor, with_room}
@@ -38,3 +41,9 @@ pub record HoldsLabels (revision : ℕ) (labels : List Label) (old new : Held) (
   pub rows : new.rows ≡ labels_held labels old.rows
   pub sets : new.cache ≡ with_room new.cache.log.spare old.cache
   pub plan_is : Readies revision new.rows new.cache plan
+
+-- no number comes with the one kind of prefixes that goes with the other
+abbrev pub AreApart : List Prefix → List Prefix → List IdentityRow → Type 0
+AreApart taken given_up rows =
+    (number : ℕ) → has_row number (prefixes_held taken rows) ≡ true
+    → (has_row number rows ≡ true) ⊎ (has_row number (prefixes_released given_up (prefixes_held taken rows)) ≡ true)

@@ -68,7 +68,7 @@ impl Numbers {
         match self.plan_taken(revision, number, is_new, steps) {
             Ok(plan) => Ok(LabelsHeld { number, plan }),
             Err(_) => {
-                self.identities.release(number);
+                self.release(number);
                 Err(IdentError::Memory)
             }
         }

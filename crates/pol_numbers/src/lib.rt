@@ -2,12 +2,15 @@
 //! go.
 //!
 //! What a request takes, it takes before it gives anything up, and each call that takes something takes all memory:
-//! `hold_labels`, `plan_release`. What then carries it out or takes it back takes none: `carry_out`, `release`.
+//! `hold_labels`, `hold_prefixes`, `plan_release`, `plan_prefixes`. What then carries it out or takes it back takes none:
+//! `carry_out`, `release`, `release_prefixes`.
 #![tactic(auto)]
 
 mod hold;
+mod moves;
 mod numbers;
 mod plan;
+mod prefixes;
 mod release;
 
 pub use hold::LabelsHeld;

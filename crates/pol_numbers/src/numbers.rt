@@ -1,12 +1,16 @@
 //! The numbers that are held, and what is told of them.
-ghost use Rattle.std.specs.Prelude.{◌≡◌, ◌≤◌, IfOk};
+ghost use Rattle.std.specs.Prelude.{◌≡◌, ◌≤◌, IfOk, option_map};
+ghost use Rattle.pol_model.specs.Remote.{longest_at};
 ghost use Rattle.pol_facts.specs.Keeps.{KeepsRows};
 ghost use Rattle.pol_changes.specs.Log.{newest};
 ghost use Rattle.pol_selcache.specs.Cache.{IsPlanFor, IsSound, carried};
 ghost use Rattle.pol_numbers.specs.Held.{nothing_held};
 
+use pol_addr::Addr;
 use pol_data::Memory;
 use pol_ident::Identities;
+use pol_lpm::PrefixTable;
+use pol_prefixes::table_of_start;
 use pol_selcache::{Plan, SelectorCache};
 use std::alloc::Global;
 use std::marker::Model;
@@ -15,19 +19,23 @@ use std::marker::Model;
 /// "Identity", and "Selector cache"). Contracts see the rows and the selectors.
 #[derive(Drop)]
 pub struct Numbers {
+    pub(crate) alloc: Global,
     pub(crate) identities: Identities,
+    // The numbers of prefixes, for addresses.
+    pub(crate) prefixes: PrefixTable,
     pub(crate) selectors: SelectorCache,
 }
 
 impl Model for Numbers {
     ghost use Rattle.pol_facts.specs.Keeps.{KeepsRows};
     ghost use Rattle.pol_numbers.specs.Held.{Held};
+    ghost use Rattle.pol_prefixes.specs.Tables.{IsTableOf};
 
     ghost Value = { Held };
 
     ghost view = { λ n. record { rows = n.identities; cache = n.selectors } };
 
-    ghost invariant = { λ n. KeepsRows n.identities };
+    ghost invariant = { λ n. KeepsRows n.identities × IsTableOf n.identities n.prefixes };
 }
 
 impl Numbers {
@@ -36,7 +44,9 @@ impl Numbers {
         ensures nothing { IfOk result (λ numbers. numbers ≡ nothing_held) }
     {
         Ok(Numbers {
+            alloc,
             identities: Identities::new(alloc)?,
+            prefixes: table_of_start(alloc)?,
             selectors: SelectorCache::new(alloc),
         })
     }
@@ -47,6 +57,14 @@ impl Numbers {
         ensures sound { KeepsRows self.now.rows }
     {
         &self.identities
+    }
+
+    /// The number of the longest held prefix that contains the address (Cilium, Terminology, "Identity"). It takes no
+    /// memory.
+    pub fn number_at(&self, address: Addr) -> Option<u32>
+        ensures longest { result ≡ option_map (λ found. found.1) (longest_at address self.now.rows) }
+    {
+        self.prefixes.find(address)
     }
 
     /// Makes the changes of the last plan, since which no selector came or went. It takes no memory.
