@@ -34,10 +34,10 @@ module _ (n : ℕ) (change : Live → Live) where
 
   -- where it changes neither numbers nor peers
   module _ (keeps_number : (s : Live) → (change s).number ≡ s.number) (keeps_peer : (s : Live) → (change s).peer ≡ s.peer) where
-    number_kept : (s : Live) → (where_number n change s).number ≡ s.number
+    pub number_kept : (s : Live) → (where_number n change s).number ≡ s.number
     number_kept s = elim (s.number == n) as (λ b. (cond b (change s) s).number ≡ s.number) [ true ↦ keeps_number s | false ↦ refl ]
 
-    peer_kept : (s : Live) → (where_number n change s).peer ≡ s.peer
+    pub peer_kept : (s : Live) → (where_number n change s).peer ≡ s.peer
     peer_kept s = elim (s.number == n) as (λ b. (cond b (change s) s).peer ≡ s.peer) [ true ↦ keeps_peer s | false ↦ refl ]
 
     pub numbers_kept : (live : List Live) → numbers (map (where_number n change) live) ≡ numbers live

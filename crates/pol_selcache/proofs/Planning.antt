@@ -91,7 +91,7 @@ pub changes_so_far : (rows : List IdentityRow) (live : List Live) (i : ℕ) (s :
 changes_so_far rows live i s at = so_far (λ t. change_to (set_at rows t.peer) t) live i s at
 
 -- the label selectors so far
-labels-cons : (t : Live) (live : List Live) → label_selectors (t ∷ live) ≡ steps_of t.peer + label_selectors live
+pub labels-cons : (t : Live) (live : List Live) → label_selectors (t ∷ live) ≡ steps_of t.peer + label_selectors live
 labels-cons t live = sum_by-cons (λ (u : Live). if is_label_peer u.peer then 1 else 0) t live
 
 labels_next : (live : List Live) (i : ℕ) (s : Live) → slice_get live i ≡ Some s → label_selectors (take (suc i) live) ≡ label_selectors (take i live) + steps_of s.peer

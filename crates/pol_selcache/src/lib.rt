@@ -13,6 +13,7 @@ mod plan;
 mod table;
 #[cfg(test)]
 mod tests;
+mod tried;
 
 pub use cache::SelectorCache;
 pub use plan::Plan;
