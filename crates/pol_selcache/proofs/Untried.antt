@@ -1,34 +1,28 @@
 -- The selectors that aren't tried don't change, and those that are come in the order of their numbers.
-use Rattle.std.proofs.Common.{zero, suc, ◌≡◌, ℕ, ◌+◌, ◌*◌, ◌==◌, ◌<◌, ◌≤◌, ◌&&◌, ◌||◌, not, Bool, true, false, cond, nat_lt, if◌then◌else◌, List, [], ◌∷◌, ◌++◌, filter, length, take, slice_get, is_some, Option, Some, None, option_map, refl, sym, ap, subst, ◌∙◌, arith}
-use Rattle.std.specs.List.{AllByRecursion, filter_map, cons_option, list_any}
+use Rattle.std.proofs.Common.{zero, suc, ◌≡◌, ℕ, ◌+◌, ◌*◌, ◌==◌, ◌<◌, ◌≤◌, ◌&&◌, ◌||◌, not, Bool, true, false, cond, nat_lt, List, [], ◌∷◌, ◌++◌, length, take, slice_get, Some, None, option_map, refl, sym, ap, subst, ◌∙◌, arith}
+use Rattle.std.specs.List.{AllByRecursion, cons_option, list_any}
 use Rattle.std.specs.List.Sorted.{IsStrictlySortedBy}
-use Rattle.std.specs.Option.{option_and_then, option_map_or}
 use Rattle.std.specs.Ordering.{nat_cmp}
 use Rattle.std.specs.declared.cmp.Ordering.TheVariants.{Less, Equal, Greater}
-use Rattle.std.proofs.lemmas.Bool.{and_parts, cond-true, cond-false, eq-eqb, false_from_ne_true, ltb-true, ne_eqb, or_right}
+use Rattle.std.proofs.lemmas.Bool.{cond-true, cond-false, eq-eqb, false_from_ne_true, ltb-true, ne_eqb, or_right}
 use Rattle.std.proofs.lemmas.List.Elements.{filter_map-append}
-use Rattle.std.proofs.lemmas.Option.{same_Some, slice_get-get_or}
+use Rattle.std.proofs.lemmas.Option.{slice_get-get_or}
 use Rattle.std.specs.Prelude.{slice_index}
 use Rattle.std.proofs.Math.Nat.{mul-le-mul_left}
-use Rattle.pol_addr.specs.declared.network.Prefix.{Prefix}
 use Rattle.pol_data.proofs.Every.{every-weaker}
 use Rattle.pol_data.proofs.Filters.{filter-none}
-use Rattle.pol_facts.specs.Holding.{row_of}
 use Rattle.pol_filing.specs.declared.heading.Heading.{Heading}
 use Rattle.pol_filing.specs.Heading.{heading_of}
-use Rattle.pol_filing.specs.Tried.{HasAllOf, AreKept, is_among}
-use Rattle.pol_ident.specs.Look.{labels_at, prefix_at}
-use Rattle.pol_labels.specs.declared.label.Label.{Label}
+use Rattle.pol_filing.specs.Tried.{AreKept, is_among}
 use Rattle.pol_model.specs.Ascending.{Ascends}
 use Rattle.pol_model.specs.declared.row.IdentityRow.{IdentityRow}
-use Rattle.pol_model.specs.Selects.{selects_row, set_at}
-use Rattle.pol_rule.specs.declared.policy.Peer.{Peer}
-use Rattle.pol_changes.specs.Ids.{has, without}
+use Rattle.pol_model.specs.Selects.{set_at}
+use Rattle.pol_changes.specs.Ids.{has}
 use Rattle.pol_selcache.specs.Filed.{HasAllAt}
 use Rattle.pol_selcache.specs.Held.{selects_held, steps_of}
 use Rattle.pol_selcache.specs.Live.{Live, AreLive, label_selectors, rows_without}
 use Rattle.pol_selcache.specs.Moving.{Moving}
-use Rattle.pol_selcache.specs.Plan.{change_to, changes_for, is_empty}
+use Rattle.pol_selcache.specs.Plan.{change_to, changes_for}
 use Rattle.pol_selcache.specs.Tried.{of_numbers}
 use Rattle.pol_selcache.proofs.LiveLists.{AllAbove, numbers}
 use Rattle.pol_selcache.proofs.Moves.{gained_is, lost_is}
@@ -36,27 +30,7 @@ use Rattle.pol_selcache.proofs.Numbers.{has-append}
 use Rattle.pol_selcache.proofs.Planning.{labels-cons, stands}
 use Rattle.pol_selcache.proofs.RowSets.{has-held, has-set_without}
 
--- ---- the headings of a number's row
-module _ (rows : List IdentityRow) (n : ℕ) (headings : List Heading) where
-  pub none_told : None ≡ labels_at n rows → HasAllAt rows headings n
-  none_told none p selected = by (row_of n rows) refl
-    where
-      by : (o : Option IdentityRow) → row_of n rows ≡ o → is_among headings (heading_of p) ≡ true
-      by None is = absurd (let no : false ≡ true = ap (λ o. option_map_or (selects_row p) o false) (sym is) ∙ selected in let wrong : ⊥ = cc in wrong)
-      by (Some row) is = absurd (let some : labels_at n rows ≡ Some row.labels = ap (option_map (λ (r : IdentityRow). r.labels)) is in let both : None ≡ Some row.labels = none ∙ some in let wrong : ⊥ = cc in wrong)
-
-  pub all_told : (labels : List Label) (prefix : Option Prefix) (has_prefix : Bool) → Some labels ≡ labels_at n rows → prefix ≡ prefix_at n rows → has_prefix ≡ is_some prefix
-      → HasAllOf labels has_prefix headings → HasAllAt rows headings n
-  all_told labels prefix has_prefix its_labels its_prefix its_has all p selected = by (row_of n rows) refl
-    where
-      by : (o : Option IdentityRow) → row_of n rows ≡ o → is_among headings (heading_of p) ≡ true
-      by None is = absurd (let no : false ≡ true = ap (λ o. option_map_or (selects_row p) o false) (sym is) ∙ selected in let wrong : ⊥ = cc in wrong)
-      by (Some row) is =
-          all p row
-          (sym (same_Some labels row.labels (its_labels ∙ ap (option_map (λ (r : IdentityRow). r.labels)) is)))
-          (sym (its_has ∙ ap is_some (its_prefix ∙ ap (option_and_then (λ (r : IdentityRow). r.prefix)) is)))
-          (ap (λ o. option_map_or (selects_row p) o false) (sym is) ∙ selected)
-
+-- ---- headings that stay among more
 pub all_kept : (rows : List IdentityRow) (old new : List Heading) → AreKept old new → (ns : List ℕ) → AllByRecursion (HasAllAt rows old) ns → AllByRecursion (HasAllAt rows new) ns
 all_kept rows old new kept ns all =
     every-weaker (HasAllAt rows old) (HasAllAt rows new) (λ n here p selected. kept (heading_of p) (here p selected)) ns all

@@ -1,5 +1,4 @@
-use Rattle.std.proofs.Common.{◌≡◌, ◌<◌, ◌++◌, [], length, ap, sym, ◌∙◌, arith}
-use Rattle.std.specs.Arc.{arc_value}
+use Rattle.std.proofs.Common.{◌<◌, ◌++◌, [], length, ap, sym, ◌∙◌, arith}
 use Rattle.std.specs.List.{cons_option}
 use Rattle.pol_selcache.specs.Inside.{live_of}
 use Rattle.pol_selcache.specs.Live.{Live, rows_without}

@@ -1,9 +1,9 @@
-use Rattle.std.proofs.Common.{◌≡◌, ℕ, Bool, nat_lt, List, true, sym, subst, rules}
+use Rattle.std.proofs.Common.{◌≡◌, nat_lt, true, sym, subst, rules}
 use Rattle.std.proofs.lemmas.Fn.{always_returns_same}
 use Rattle.std.proofs.lemmas.List.Sorted.{IsPartitionedBy-ltb}
 use Rattle.pol_rule.specs.declared.policy.Peer.{Peer}
 use Rattle.pol_selcache.specs.declared.table.Row.{Row}
-use Rattle.pol_selcache.specs.Live.{Live, is_live}
+use Rattle.pol_selcache.specs.Live.{is_live}
 use Rattle.pol_selcache.proofs.Places.{IsPlaceOf, number_at, numbers_rise, placed}
 use Rattle.pol_selcache.proofs.table.Table.place_of.Goals as goal
 

@@ -1,6 +1,6 @@
 use Rattle.std.proofs.Common.{refl, sym, subst}
 use Rattle.std.specs.Arc.{arc_value}
-use Rattle.pol_selcache.specs.Live.{Live, AreLive}
+use Rattle.pol_selcache.specs.Live.{AreLive}
 use Rattle.pol_selcache.specs.Filed.{IsFiled}
 use Rattle.pol_selcache.proofs.Filed.{filed_kept, headed_write}
 use Rattle.pol_selcache.proofs.LiveLists.{set_keeps}

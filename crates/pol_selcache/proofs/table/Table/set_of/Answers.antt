@@ -1,6 +1,4 @@
-use Rattle.std.proofs.Common.{◌≡◌, Some, option_map, ap, sym, subst, ◌∙◌}
-use Rattle.pol_selcache.specs.Live.{Live, selector_of}
-use Rattle.pol_selcache.proofs.Places.{At, selected_at}
+use Rattle.pol_selcache.proofs.Places.{selected_at}
 use Rattle.pol_selcache.proofs.table.Table.set_of.Goals as goal
 
 pub returns-clause-set : goal.returns-clause-set
