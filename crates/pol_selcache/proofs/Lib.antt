@@ -11,3 +11,5 @@ pub mod Staying
 pub mod Retold
 pub mod Coming
 pub mod TakenBack
+pub mod Filed
+pub mod Untried

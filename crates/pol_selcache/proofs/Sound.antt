@@ -1,15 +1,14 @@
 -- What every cache keeps, through each call; and that its sets stay exact.
-use Rattle.std.proofs.Common.{◌≡◌, ℕ, ◌+◌, ◌-◌, ◌==◌, ◌<◌, ◌||◌, Bool, true, false, cond, nat_lt, List, [], ◌∷◌, ◌++◌, map, filter, find, Option, Some, None, Result, Ok, Err, OnOk, OnErr, option_map, refl, sym, ap, ◌∙◌, subst, arith}
+use Rattle.std.proofs.Common.{◌≡◌, ℕ, ◌+◌, ◌==◌, ◌<◌, Bool, true, false, cond, nat_lt, List, [], ◌∷◌, ◌++◌, map, find, Some, Result, Ok, Err, OnOk, OnErr, option_map, refl, sym, ap, ◌∙◌, subst, arith}
 use Rattle.std.specs.List.{AllByRecursion}
 use Rattle.std.proofs.lemmas.Bool.{eq-eqb, or_left, or_right}
 use Rattle.std.proofs.lemmas.Option.{same_Some}
 use Rattle.pol_data.proofs.Every.{every-append, every-kept, every-weaker}
-use Rattle.pol_rule.specs.declared.policy.Peer.{Peer}
 use Rattle.pol_model.specs.declared.row.IdentityRow.{IdentityRow}
 use Rattle.pol_model.specs.Selects.{set_at}
 use Rattle.pol_changes.specs.Log.{Log}
 use Rattle.pol_changes.specs.Log.{IsSound as IsLog}
-use Rattle.pol_selcache.specs.Cache.{Cache, IsSound}
+use Rattle.pol_selcache.specs.Cache.{IsSound}
 use Rattle.pol_selcache.specs.Live.{Live, AreExact, AreLive, is_live, one_less, one_more, with_numbers, where_number, with_reference, with_set, without_reference}
 use Rattle.pol_selcache.proofs.LiveLists.{numbers, numbers_kept, reference_keeps, set_keeps, unreference_keeps}
 

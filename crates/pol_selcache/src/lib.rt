@@ -12,6 +12,7 @@ mod judge;
 pub mod laws;
 mod plan;
 mod table;
+mod tried;
 
 pub use cache::SelectorCache;
 pub use plan::Plan;

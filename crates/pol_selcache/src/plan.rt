@@ -3,6 +3,7 @@ ghost use Rattle.std.specs.Prelude.{◌≡◌, ℕ, ◌+◌, ◌≤◌, ◌*◌,
 ghost use Rattle.std.specs.Arc.{arc_value};
 ghost use Rattle.std.specs.List.{AllByRecursion, cons_option};
 ghost use Rattle.pol_changes.specs.Log.{newest};
+ghost use Rattle.pol_model.specs.Ascending.{Ascends};
 ghost use Rattle.pol_model.specs.Selects.{set_at};
 ghost use Rattle.pol_selcache.specs.Live.{AreExact, is_live, label_selectors, rows_without};
 ghost use Rattle.pol_selcache.specs.Held.{steps_of};
@@ -11,11 +12,13 @@ ghost use Rattle.pol_selcache.specs.Cache.{IsPlanFor, IsSound, MayPlan, carried,
 ghost use Rattle.pol_selcache.specs.Inside.{live_of};
 ghost use Rattle.pol_selcache.specs.Moving.{Moving, one_carried};
 ghost use Rattle.pol_selcache.specs.Planned.{planned_in, planned_of};
+ghost use Rattle.pol_selcache.specs.Tried.{of_numbers};
 
 use crate::SelectorCache;
 use crate::ids::{in_both, moved, set_of_slice};
 use crate::judge::selected_of;
 use crate::table::{Row, Table};
+use crate::tried::{headings_of, tried};
 use pol_changes::Change;
 use pol_data::{Memory, Steps};
 use pol_ident::Identities;
@@ -98,7 +101,33 @@ fn plan_one<L: Ledger>(
     }))
 }
 
-/// The same of each selector.
+/// The same of each selector of these numbers.
+fn plan_each<L: Ledger>(
+    alloc: Global,
+    table: &Table,
+    tried: &[u64],
+    come: &IdSet,
+    gone: &IdSet,
+    identities: &Identities,
+    steps: &mut Steps<L>,
+) -> Result<Vec<Planned>, Memory>
+    requires moving { AllByRecursion (λ s. Moving identities.now come.now gone.now s.peer s.set) table.now }
+    requires live { AllByRecursion (λ n. is_live n table.now ≡ true) tried.now }
+    requires ascend { Ascends tried.now }
+    ensures changes { IfOk result (λ changes. planned_in changes.items ≡ changes_for (rows_without gone.now identities.now) (of_numbers tried.now table.now)) }
+    ensures cost { steps.new ≤ steps.old + label_selectors table.now * length come.now }
+{
+    let mut changes = Vec::new(alloc);
+    for number in tried {
+        let (peer, row) = table.at(table.place_of(*number));
+        let change = plan_one(alloc, peer, row, come, gone, identities, steps)?;
+        push_some(&mut changes, change)?;
+    }
+    Ok(changes)
+}
+
+/// The same of each selector. Only those are tried that stand under a heading of a number that comes or goes: no other
+/// peer selects it.
 fn plan_all<L: Ledger>(
     alloc: Global,
     table: &Table,
@@ -111,12 +140,10 @@ fn plan_all<L: Ledger>(
     ensures changes { IfOk result (λ changes. planned_in changes.items ≡ changes_for (rows_without gone.now identities.now) table.now) }
     ensures cost { steps.new ≤ steps.old + label_selectors table.now * length come.now }
 {
-    let mut changes = Vec::new(alloc);
-    for place in 0..table.len() {
-        let (peer, row) = table.at(place);
-        let change = plan_one(alloc, peer, row, come, gone, identities, steps)?;
-        push_some(&mut changes, change)?;
-    }
+    let headings = headings_of(alloc, come, gone, identities)?;
+    let numbers = tried(alloc, table, &headings)?;
+    let numbers = numbers.as_slice();
+    let changes = plan_each(alloc, table, numbers, come, gone, identities, steps)?;
     Ok(changes)
 }
 

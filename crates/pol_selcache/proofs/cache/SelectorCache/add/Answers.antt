@@ -1,4 +1,4 @@
-use Rattle.std.proofs.Common.{◌≡◌, List, true, sym, subst, ◌∙◌}
+use Rattle.std.proofs.Common.{List, sym, subst}
 use Rattle.pol_selcache.specs.Cache.{Cache, IsSound}
 use Rattle.pol_selcache.specs.Live.{Live, AreExact}
 use Rattle.pol_selcache.proofs.Sound.{found_lives, reference_exact, reference_sound, referred_below}
