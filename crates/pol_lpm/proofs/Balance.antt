@@ -1,16 +1,28 @@
 -- Each node but the root stands right below exactly one, before and after an edit.
-use Rattle.std.proofs.Common.{◌≡◌, ℕ, ◌+◌, ◌≤◌, Bool, true, false, not, IsSome, Option, Some, None, refl, ap, arith}
+use Rattle.std.proofs.Common.{◌≡◌, ℕ, ◌+◌, ◌-◌, cond, ◌≤◌, Bool, true, false, not, IsSome, Option, Some, None, refl, ap, ◌∙◌, arith}
+use Rattle.std.proofs.lemmas.Bool.{ne_eqb}
 use Rattle.std.specs.Option.{option_or}
 use Rattle.slab.specs.Slab.{Slab, get, Updates}
 use Rattle.pol_addr.specs.declared.network.Prefix.{Prefix}
 use Rattle.pol_lpm.specs.declared.node.Node.{Node}
 use Rattle.pol_lpm.specs.Sizes.{sum_of, one, count, links, IsBalanced}
+use Rattle.pol_lpm.specs.Links.{key_of, link_of}
 use Rattle.pol_lpm.specs.Trie.{child, with_child}
 use Rattle.pol_lpm.proofs.Sums.{sum_updated}
 
 -- a node with nothing below it
 abbrev pub leaf_of : Prefix → Option ℕ → Node
-leaf_of p number = record { prefix = p; number = number; low = None; high = None }
+leaf_of p number = record { prefix = p; number = number; low = 0; high = 0 }
+
+-- a link has the key that it was made of
+pub key_of-next : (key : ℕ) → key_of (key + 1) ≡ Some key
+key_of-next key =
+    let back : key + 1 - 1 ≡ key = omega arith in
+    ap (λ b. cond b None (Some (key + 1 - 1))) (ne_eqb (key + 1) 0 (λ same. omega (arith, same))) ∙ ap Some back
+
+pub key_of-link_of : (key : Option ℕ) → key_of (link_of key) ≡ key
+key_of-link_of None = refl
+key_of-link_of (Some key) = key_of-next key
 
 pub count_le : (o : Option ℕ) → count o ≤ 1
 count_le None = omega arith
@@ -26,8 +38,8 @@ links-sides n true = omega arith
 links-sides n false = refl
 
 links-with_child : (n : Node) (high : Bool) (key : Option ℕ) → links (with_child n high key) + count (child n high) ≡ links n + count key
-links-with_child n true key = omega arith
-links-with_child n false key = omega arith
+links-with_child n true key = let same : count (key_of (link_of key)) ≡ count key = ap count (key_of-link_of key) in omega (arith, same)
+links-with_child n false key = let same : count (key_of (link_of key)) ≡ count key = ap count (key_of-link_of key) in omega (arith, same)
 
 pub links-only : (low high : Option ℕ) → (IsSome low → IsSome high → ⊥) → count low + count high ≡ count (option_or low high)
 links-only None high alone = omega arith

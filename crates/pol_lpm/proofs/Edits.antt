@@ -10,7 +10,7 @@ use Rattle.pol_addr.proofs.Halves.{half_moved, covers_moved}
 use Rattle.pol_lpm.specs.declared.node.Node.{Node}
 use Rattle.pol_lpm.specs.Trie.{child, with_child, IsTree, IsTrie, HasRoot, FitsBelow, HasOnly, number_of, Numbers, SameNumbers, StillThere, AllStillThere}
 use Rattle.pol_lpm.specs.Sizes.{weight, IsBalanced, IsTightBut, loosened}
-use Rattle.pol_lpm.proofs.Balance.{balanced_attached, balanced_spliced, balanced_numbered}
+use Rattle.pol_lpm.proofs.Balance.{key_of-link_of, balanced_attached, balanced_spliced, balanced_numbered}
 use Rattle.pol_lpm.proofs.Tight.{tight_attached, tight_spliced, left_above}
 use Rattle.pol_lpm.proofs.Attach.{Attached, attached_tree, attached_keeps, attached_from, absent}
 use Rattle.pol_lpm.proofs.Splice.{Spliced, spliced_tree, spliced_keeps, spliced_from}
@@ -18,8 +18,8 @@ use Rattle.pol_lpm.proofs.Lookup.{number_in-absent}
 use Rattle.pol_lpm.proofs.Numbers.{number_of-node, same_number, numbers_at}
 
 with_child-this : (n : Node) (high : Bool) (key : Option ℕ) → child (with_child n high key) high ≡ key
-with_child-this n true key = refl
-with_child-this n false key = refl
+with_child-this n true key = key_of-link_of key
+with_child-this n false key = key_of-link_of key
 
 with_child-other : (n : Node) (high : Bool) (key : Option ℕ) → child (with_child n high key) (not high) ≡ child n (not high)
 with_child-other n true key = refl

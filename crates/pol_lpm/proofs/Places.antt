@@ -15,8 +15,9 @@ use Rattle.pol_lpm.specs.Trie.{child, with_child, IsTree, IsTrie, IsDeepest, IsS
 use Rattle.pol_addr.proofs.Halves.{covers_len, half_no_cover, half_moved}
 use Rattle.pol_addr.proofs.Order.{cases_same, tied_same, not_tied}
 use Rattle.pol_lpm.proofs.Numbers.{same_number}
+use Rattle.pol_lpm.specs.Links.{key_of}
 use Rattle.pol_lpm.specs.Sizes.{sum_of, one, count, links, IsTightBut}
-use Rattle.pol_lpm.proofs.Balance.{leaf_of, count_none}
+use Rattle.pol_lpm.proofs.Balance.{leaf_of, key_of-next, count_none}
 use Rattle.pol_lpm.proofs.Sums.{sum_none, sum_updated}
 use Rattle.pol_lpm.proofs.Edits.{link_longer}
 
@@ -40,7 +41,7 @@ spot_at s p i n b len valid d is len_is bit =
 
 -- ---- the first node
 module _ (old new : Slab Node) (key : ℕ) (root : Node) (none : (i : ℕ) (n : Node) → get old i ≡ Some n → ⊥) (u : Updates old new key (Some root))
-    (prefix_is : root.prefix ≡ world) (no_number : root.number ≡ None) (no_low : root.low ≡ None) (no_high : root.high ≡ None) where
+    (prefix_is : root.prefix ≡ world) (no_number : root.number ≡ None) (no_low : root.low ≡ 0) (no_high : root.high ≡ 0) where
   only_root : (i : ℕ) (n : Node) → get new i ≡ Some n → (i ≡ key) × (n ≡ root)
   only_root i n is =
       elim (cases_eq i key) [
@@ -49,8 +50,8 @@ module _ (old new : Slab Node) (key : ℕ) (root : Node) (none : (i : ℕ) (n : 
       ]
 
   no_child : (d : Bool) → child root d ≡ None
-  no_child true = no_high
-  no_child false = no_low
+  no_child true = ap key_of no_high
+  no_child false = ap key_of no_low
 
   root_valid : IsPrefix root.prefix
   root_valid = subst IsPrefix (sym prefix_is) world-IsPrefix
@@ -81,7 +82,7 @@ module _ (old new : Slab Node) (key : ℕ) (root : Node) (none : (i : ℕ) (n : 
         fresh = λ missing. absurd (none-some root (sym missing ∙ there));
         rooted = λ i n is. (root, there, prefix_is);
         tree = root_tree;
-        balanced = λ _. omega (arith, first_sum links, first_sum one, ap count no_low, ap count no_high);
+        balanced = λ _. omega (arith, first_sum links, first_sum one, ap (λ x. count (key_of x)) no_low, ap (λ x. count (key_of x)) no_high);
       }
 
   pub root_tight : IsTightBut (get new) key
@@ -94,8 +95,8 @@ module _ (old new : Slab Node) (key : ℕ) (root : Node) (none : (i : ℕ) (n : 
 
 -- ---- a node that fits
 links_over : (p : Prefix) (number : Option ℕ) (b : Bool) (k : ℕ) → links (with_child (leaf_of p number) b (Some k)) ≡ 1
-links_over p number true k = refl
-links_over p number false k = refl
+links_over p number true k = let one_more : count (key_of (k + 1)) ≡ 1 = ap count (key_of-next k) in omega (arith, one_more)
+links_over p number false k = let one_more : count (key_of (k + 1)) ≡ 1 = ap count (key_of-next k) in omega (arith, one_more)
 
 leaf_child : (p : Prefix) (number : Option ℕ) (d : Bool) → child (leaf_of p number) d ≡ None
 leaf_child p number true = refl
@@ -114,14 +115,14 @@ fits_leaf s i high n p number is valid under free = record {
 
 -- the only child of a leaf that got one
 only_child : (p : Prefix) (number : Option ℕ) (b d : Bool) (k l : ℕ) → child (with_child (leaf_of p number) b (Some k)) d ≡ Some l → (d ≡ b) × (l ≡ k)
-only_child p number true true k l link = (refl, sym (same_Some k l link))
+only_child p number true true k l link = (refl, sym (same_Some k l (sym (key_of-next k) ∙ link)))
 only_child p number true false k l link = absurd (none-some l link)
 only_child p number false true k l link = absurd (none-some l link)
-only_child p number false false k l link = (refl, sym (same_Some k l link))
+only_child p number false false k l link = (refl, sym (same_Some k l (sym (key_of-next k) ∙ link)))
 
 its_child : (p : Prefix) (number : Option ℕ) (b : Bool) (k : ℕ) → child (with_child (leaf_of p number) b (Some k)) b ≡ Some k
-its_child p number true k = refl
-its_child p number false k = refl
+its_child p number true k = key_of-next k
+its_child p number false k = key_of-next k
 
 pub over_prefix : (p : Prefix) (number : Option ℕ) (b : Bool) (k : Option ℕ) → (with_child (leaf_of p number) b k).prefix ≡ p
 over_prefix p number true k = refl

@@ -14,6 +14,7 @@ use Rattle.pol_addr.proofs.Halves.{covers_len}
 use Rattle.pol_lpm.proofs.Lookup.{number_in-absent}
 use Rattle.pol_lpm.proofs.Numbers.{number_of-node, numbers_at}
 use Rattle.pol_addr.proofs.World.{world_from_len}
+use Rattle.pol_lpm.specs.Links.{key_of}
 use Rattle.pol_lpm.specs.Sizes.{count}
 use Rattle.pol_lpm.proofs.Balance.{links-only}
 use Rattle.pol_lpm.proofs.Edits.{link_longer}
@@ -84,16 +85,20 @@ from_one : (low high : Option ℕ) (l : ℕ) → option_or low high ≡ Some l �
 from_one None high l link = (true, link)
 from_one (Some x) high l link = (false, link)
 
-pub has_only : (s : Slab Node) (t : IsTree (get s)) (i j : ℕ) (high : Bool) (n : Node) (only : Option ℕ) (spot : IsSpot s n.prefix i high) → get s j ≡ Some n → only ≡ option_or n.low n.high → (IsSome n.low → IsSome n.high → ⊥) → HasOnly s i high j only
+side : (n : Node) (d : Bool) → (if d then key_of n.high else key_of n.low) ≡ child n d
+side n true = refl
+side n false = refl
+
+pub has_only : (s : Slab Node) (t : IsTree (get s)) (i j : ℕ) (high : Bool) (n : Node) (only : Option ℕ) (spot : IsSpot s n.prefix i high) → get s j ≡ Some n → only ≡ option_or (key_of n.low) (key_of n.high) → (IsSome (key_of n.low) → IsSome (key_of n.high) → ⊥) → HasOnly s i high j only
 has_only s t i j high n only spot is only_is one = record {
   parent = spot.parent;
   there = spot.there;
   link = in_spot s t n.prefix i high spot j n is refl;
   node = n;
   is = is;
-  moved = λ d l link. only_is ∙ moved_by n.low n.high one d l link;
-  from = λ l link. from_one n.low n.high l (sym only_is ∙ link);
-  counted = links-only n.low n.high one ∙ ap count (sym only_is);
+  moved = λ d l link. only_is ∙ moved_by (key_of n.low) (key_of n.high) one d l (side n d ∙ link);
+  from = λ l link. let (d, is_d) = from_one (key_of n.low) (key_of n.high) l (sym only_is ∙ link) in (d, sym (side n d) ∙ is_d);
+  counted = links-only (key_of n.low) (key_of n.high) one ∙ ap count (sym only_is);
 }
 
 -- ---- numbers

@@ -7,10 +7,11 @@ use Rattle.slab.specs.Slab.{Slab, get, Updates}
 use Rattle.pol_addr.specs.declared.network.Prefix.{Prefix}
 use Rattle.pol_lpm.specs.declared.node.Node.{Node}
 use Rattle.pol_lpm.specs.Sizes.{count, weight, IsTightBut, loosened}
+use Rattle.pol_lpm.specs.Links.{key_of}
 use Rattle.pol_lpm.specs.Trie.{child, with_child}
 use Rattle.pol_lpm.proofs.Attach.{Attached}
 use Rattle.pol_lpm.proofs.Splice.{Spliced}
-use Rattle.pol_lpm.proofs.Balance.{leaf_of, count_le, links-sides}
+use Rattle.pol_lpm.proofs.Balance.{leaf_of, key_of-next, count_le, links-sides}
 
 pub needed_with_number : (n : Node) (x : ℕ) → n.number ≡ Some x → 2 ≤ weight n
 needed_with_number n x numbered =
@@ -31,11 +32,14 @@ weight_less n n' high other number =
     let d : count n'.number ≡ count n.number = ap count number in
     omega (arith, b, d, links-sides n high, links-sides n' high, count_le (child n high))
 
+count_next : (k : ℕ) → count (key_of (k + 1)) ≡ 1
+count_next k = ap count (key_of-next k)
+
 -- a fork that got a node on its other side
 pub fork_needed : (fork : Prefix) (number : Option ℕ) (b b' : Bool) (k l : ℕ) → (b' ≡ b → ⊥) → 2 ≤ weight (with_child (with_child (leaf_of fork number) b (Some k)) b' (Some l))
 fork_needed fork number true true k l differs = absurd (differs refl)
-fork_needed fork number true false k l differs = omega arith
-fork_needed fork number false true k l differs = omega arith
+fork_needed fork number true false k l differs = omega (arith, count_next k, count_next l)
+fork_needed fork number false true k l differs = omega (arith, count_next k, count_next l)
 fork_needed fork number false false k l differs = absurd (differs refl)
 
 pub tight_weaker : (at : ℕ → Option Node) (k : ℕ) → IsTightBut at 0 → IsTightBut at k
@@ -101,8 +105,8 @@ count_some : (o : Option ℕ) → IsSome o → count o ≡ 1
 count_some None some = absurd (cc)
 count_some (Some x) some = refl
 
-pub not_both_below : (n : Node) → (2 ≤ weight n → ⊥) → IsSome n.low → IsSome n.high → ⊥
-not_both_below n free low high = free (omega (arith, count_some n.low low, count_some n.high high))
+pub not_both_below : (n : Node) → (2 ≤ weight n → ⊥) → IsSome (key_of n.low) → IsSome (key_of n.high) → ⊥
+not_both_below n free low high = free (omega (arith, count_some (key_of n.low) low, count_some (key_of n.high) high))
 
 pub no_number : (n : Node) → (2 ≤ weight n → ⊥) → n.number ≡ None
 no_number n free = go n.number refl
@@ -124,6 +128,6 @@ alone None None number none some = let no : count number ≡ 0 = ap count none i
 alone None (Some h) number none some = refl
 alone (Some l) high number none some = refl
 
-pub alone_stays : (n : Node) (only : Option ℕ) (none : Bool) → only ≡ option_or n.low n.high → is_some only ≡ not none → n.number ≡ None → 1 ≤ weight n → none ≡ false
+pub alone_stays : (n : Node) (only : Option ℕ) (none : Bool) → only ≡ option_or (key_of n.low) (key_of n.high) → is_some only ≡ not none → n.number ≡ None → 1 ≤ weight n → none ≡ false
 alone_stays n only none only_is is no_number some =
-    flipped (is_some only) none is ∙ ap not (ap is_some only_is ∙ alone n.low n.high n.number no_number some)
+    flipped (is_some only) none is ∙ ap not (ap is_some only_is ∙ alone (key_of n.low) (key_of n.high) n.number no_number some)

@@ -1,3 +1,4 @@
+pub mod Links
 pub mod Sizes
 pub mod Starts
 pub mod Table

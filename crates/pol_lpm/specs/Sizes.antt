@@ -2,6 +2,7 @@
 use Rattle.std.specs.Prelude.{◌≡◌, ◌≢◌, ℕ, ◌+◌, ◌*◌, ◌≤◌, List, [], ◌∷◌, Option, Some, None, IsSome}
 use Rattle.slab.specs.Slab.{Slab, get}
 use Rattle.pol_lpm.specs.declared.node.Node.{Node}
+use Rattle.pol_lpm.specs.Links.{key_of}
 
 -- 1 where it is there
 abbrev pub count : Option ℕ → ℕ
@@ -10,7 +11,7 @@ count (Some x) = 1
 
 -- how many nodes stand right below a node
 abbrev pub links : Node → ℕ
-links n = count n.low + count n.high
+links n = count (key_of n.low) + count (key_of n.high)
 
 -- what a node is needed for: the nodes right below it, and its number for two
 abbrev pub weight : Node → ℕ

@@ -10,11 +10,12 @@ use Rattle.pol_addr.specs.Prefix.{world, bit_of, half, covers}
 use Rattle.pol_lpm.specs.declared.node.Node.{Node}
 use Rattle.pol_addr.specs.Order.{prefix_cmp}
 use Rattle.pol_lpm.specs.Table.{PrefixMap}
+use Rattle.pol_lpm.specs.Links.{key_of, link_of}
 use Rattle.pol_lpm.specs.Sizes.{count, links, IsBalanced}
 
 -- the key of the child on the side of this bit
 abbrev pub child : Node → Bool → Option ℕ
-child n high = if high then n.high else n.low
+child n high = key_of (if high then n.high else n.low)
 
 -- Which nodes stand under which keys. A node's child on a side covers each node whose prefix lies in that half.
 pub record IsTree (at : ℕ → Option Node) : Type 0 where
@@ -36,8 +37,8 @@ pub record IsTrie (s : Slab Node) : Type 0 where
 
 -- the node with this key below it on this side
 abbrev pub with_child : Node → Bool → Option ℕ → Node
-with_child n true key = record n { high = key }
-with_child n false key = record n { low = key }
+with_child n true key = record n { high = link_of key }
+with_child n false key = record n { low = link_of key }
 
 -- the key of the child on the side of the target, where the target is longer
 abbrev pub child_toward : Node → Prefix → Option ℕ

@@ -1,26 +1,28 @@
 //! Changes of the trie, one link at a time.
-ghost use Rattle.std.specs.Prelude.{◌≡◌, ◌≢◌, ℕ, ◌+◌, ◌≤◌, Some, None};
+ghost use Rattle.std.specs.Prelude.{◌≡◌, ◌≢◌, ℕ, ◌+◌, ◌<◌, ◌≤◌, ◌^◌, IfSome, Some, None};
 ghost use Rattle.slab.specs.Slab.{get, ContainsKey, HasRoomFor, Updates, slab_len};
 ghost use Rattle.pol_lpm.specs.declared.node.Node.{Node};
 ghost use Rattle.pol_lpm.specs.Sizes.{weight, IsTightBut, IsTight, loosened};
 ghost use Rattle.pol_lpm.specs.Trie.{IsTrie, HasRoot, FitsBelow, HasOnly, Numbers, SameNumbers, StillThere, AllStillThere, number_of, with_child};
 
-use crate::node::Node;
+use crate::node::{Node, link_of};
 use slab::Slab;
 
 /// Puts this key on one side of a node.
 fn link(nodes: &mut Slab<Node>, at: usize, high: bool, key: Option<usize>)
-    requires { ContainsKey nodes.old at }
+    requires there { ContainsKey nodes.old at }
+    requires small { IfSome key (λ k. k + 1 < 2 ^ 32) }
     ensures updates { (n : Node) → get nodes.old at ≡ Some n → Updates nodes.old nodes.new at (Some (with_child n high key)) }
     ensures len { slab_len nodes.new ≡ slab_len nodes.old }
     ensures capacity { nodes.new.capacity ≡ nodes.old.capacity }
     ensures vacant_key { nodes.new.vacant_key ≡ nodes.old.vacant_key }
 {
+    let link = link_of(key);
     let node = &mut nodes[at];
     if high {
-        node.high = key;
+        node.high = link;
     } else {
-        node.low = key;
+        node.low = link;
     }
 }
 
@@ -44,6 +46,7 @@ pub(crate) fn attach(nodes: &mut Slab<Node>, parent: usize, high: bool, node: No
     requires trie { IsTrie nodes.old }
     requires fits { FitsBelow nodes.old parent high node }
     requires room { HasRoomFor nodes.old 1 }
+    requires small { nodes.old.capacity < 2 ^ 32 }
     ensures trie { IsTrie nodes.new }
     ensures there { get nodes.new result ≡ Some node }
     ensures numbers { Numbers nodes.old nodes.new node.prefix node.number }
@@ -69,6 +72,7 @@ pub(crate) fn splice(
 )
     requires trie { IsTrie nodes.old }
     requires only { HasOnly nodes.old parent high at only }
+    requires small { IfSome only (λ k. k + 1 < 2 ^ 32) }
     requires number { (n : Node) → get nodes.old at ≡ Some n → n.number ≡ None }
     requires tight { IsTightBut (get nodes.old) at }
     ensures trie { IsTrie nodes.new }

@@ -1,5 +1,5 @@
 //! A number put under a prefix.
-ghost use Rattle.std.specs.Prelude.{◌≡◌, ◌<◌, ◌≤◌, ◌+◌, ◌≢◌, Some, IsTrue, true};
+ghost use Rattle.std.specs.Prelude.{◌≡◌, ◌<◌, ◌≤◌, ◌^◌, ◌+◌, ◌≢◌, Some, IsTrue, true};
 ghost use Rattle.slab.specs.Slab.{get, ContainsKey, HasRoomFor, slab_len};
 ghost use Rattle.pol_addr.specs.Prefix.{covers};
 ghost use Rattle.pol_lpm.specs.declared.node.Node.{Node};
@@ -17,6 +17,7 @@ fn make_root(nodes: &mut Slab<Node>)
     requires trie { IsTrie nodes.old }
     requires tight { IsTight nodes.old }
     requires room { HasRoomFor nodes.old 1 }
+    requires small { nodes.old.capacity < 2 ^ 32 }
     ensures trie { IsTrie nodes.new }
     ensures tight { IsTight nodes.new }
     ensures rooted { HasRoot (get nodes.new) }
@@ -36,6 +37,7 @@ pub(crate) fn put(nodes: &mut Slab<Node>, prefix: Prefix, number: u32) -> Prefix
     requires trie { IsTrie nodes.old }
     requires tight { IsTight nodes.old }
     requires room { HasRoomFor nodes.old 3 }
+    requires small { nodes.old.capacity < 2 ^ 32 }
     ensures over { covers result prefix ≡ true }
     ensures trie { IsTrie nodes.new }
     ensures tight { IsTight nodes.new }
@@ -53,6 +55,7 @@ fn put_below(nodes: &mut Slab<Node>, prefix: Prefix, number: u32) -> Prefix
     requires tight { IsTight nodes.old }
     requires rooted { HasRoot (get nodes.old) }
     requires room { HasRoomFor nodes.old 2 }
+    requires small { nodes.old.capacity < 2 ^ 32 }
     ensures over { covers result prefix ≡ true }
     ensures trie { IsTrie nodes.new }
     ensures tight { IsTight nodes.new }
@@ -75,6 +78,7 @@ fn put_in(nodes: &mut Slab<Node>, spot: (usize, bool), prefix: Prefix, number: u
     requires tight { IsTight nodes.old }
     requires spot { IsSpot nodes.old prefix spot.0 spot.1 }
     requires room { HasRoomFor nodes.old 2 }
+    requires small { nodes.old.capacity < 2 ^ 32 }
     ensures trie { IsTrie nodes.new }
     ensures tight { IsTight nodes.new }
     ensures numbers { Numbers nodes.old nodes.new prefix (Some number) }
@@ -93,8 +97,10 @@ fn put_over(nodes: &mut Slab<Node>, spot: (usize, bool), below: usize, prefix: P
     requires trie { IsTrie nodes.old }
     requires tight { IsTight nodes.old }
     requires spot { IsSpot nodes.old prefix spot.0 spot.1 }
+    requires key { below + 1 < 2 ^ 32 }
     requires link { (n : Node) → get nodes.old spot.0 ≡ Some n → child n spot.1 ≡ Some below }
     requires room { HasRoomFor nodes.old 2 }
+    requires small { nodes.old.capacity < 2 ^ 32 }
     ensures trie { IsTrie nodes.new }
     ensures tight { IsTight nodes.new }
     ensures numbers { Numbers nodes.old nodes.new prefix (Some number) }
@@ -122,11 +128,13 @@ fn put_beside(
     requires trie { IsTrie nodes.old }
     requires tight { IsTight nodes.old }
     requires spot { IsSpot nodes.old prefix spot.0 spot.1 }
+    requires key { below + 1 < 2 ^ 32 }
     requires link { (n : Node) → get nodes.old spot.0 ≡ Some n → child n spot.1 ≡ Some below }
     requires differs { (n : Node) → get nodes.old below ≡ Some n → n.prefix ≢ prefix }
     requires parts { (n : Node) → get nodes.old below ≡ Some n → ¬ IsTrue (covers prefix n.prefix) }
     requires there { ContainsKey nodes.old below }
     requires room { HasRoomFor nodes.old 2 }
+    requires small { nodes.old.capacity < 2 ^ 32 }
     ensures trie { IsTrie nodes.new }
     ensures tight { IsTight nodes.new }
     ensures numbers { Numbers nodes.old nodes.new prefix (Some number) }

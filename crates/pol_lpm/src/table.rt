@@ -13,6 +13,9 @@ use slab::Slab;
 use std::alloc::{AllocError as Memory, Global};
 use std::marker::Model;
 
+/// How many nodes there is room for, as a link to one has 32 bits.
+const MOST_NODES: usize = 4_294_967_295;
+
 /// A finite map from prefixes to numbers, in which an address is looked up by the longest prefix that contains it
 /// (longest-prefix match, RFC 4632, section 5.1).
 #[derive(Drop)]
@@ -56,6 +59,9 @@ impl PrefixTable {
         ensures err { OnErr result (self.new ≡ self.old) }
     {
         self.nodes.reserve(3)?;
+        if self.nodes.capacity() > MOST_NODES {
+            return Err(Memory);
+        }
         grow(&self.nodes, &mut self.starts)?;
         let over = put(&mut self.nodes, prefix, number);
         renew(&self.nodes, &mut self.starts, &over);

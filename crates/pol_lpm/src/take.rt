@@ -52,7 +52,7 @@ fn prune(nodes: &mut Slab<Node>, at: usize, spot: (usize, bool)) -> bool
     if node.is_needed() {
         return false;
     }
-    let only = node.low.or(node.high);
+    let only = node.only();
     splice(nodes, spot.0, spot.1, at, only);
     only.is_none()
 }

@@ -8,8 +8,8 @@ use Rattle.pol_lpm.proofs.Tight.{tight_weaker, tight_all, needed_with_number, fo
 use Rattle.slab.specs.Slab.{get}
 use Rattle.pol_lpm.proofs.put.put_beside.Goals as goal
 
-pub over-node-requires : goal.over-node-requires
-over-node-requires c =
+pub over-node-requires-clause-longer : goal.over-node-requires-clause-longer
+over-node-requires-clause-longer c =
     let h = c.requires.spot in
     let m = c.index.result.now in
     let f = c.common-fork.ensures in

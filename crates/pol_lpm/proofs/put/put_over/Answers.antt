@@ -15,8 +15,8 @@ index-requires c =
     let (_, is, _) = tree.linked c.args.spot.0 h.parent c.args.spot.1 c.args.below h.there (c.requires.link h.parent h.there) in
     ap is_some is
 
-pub over-node-requires : goal.over-node-requires
-over-node-requires c =
+pub over-node-requires-clause-longer : goal.over-node-requires-clause-longer
+over-node-requires-clause-longer c =
     let tree = c.requires.trie.tree in
     let differs : c.index.result.now.prefix ≢ c.args.prefix = search rules in
     strictly c.args.prefix c.index.result.now.prefix (tree.valid c.args.below c.index.result.now c.index.ensures) (sym c.covers.ensures.value ∙ c.if-covers.true) differs

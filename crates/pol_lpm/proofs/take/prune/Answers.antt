@@ -17,7 +17,7 @@ pub splice-requires-clause-only : goal.splice-requires-clause-only
 splice-requires-clause-only c =
     let n = c.index-node.result.now in
     let free : 2 ≤ weight n → ⊥ = λ enough. both_ways _ c.if-is_needed.false (c.is_needed.ensures.1 enough) in
-    has_only c.args.nodes.now c.requires.trie.tree c.args.spot.0 c.args.at c.args.spot.1 n c.or-only.result (c.requires.spot n c.index-node.ensures) c.index-node.ensures c.or-only.ensures (not_both_below n free)
+    has_only c.args.nodes.now c.requires.trie.tree c.args.spot.0 c.args.at c.args.spot.1 n c.only-only.result (c.requires.spot n c.index-node.ensures) c.index-node.ensures c.only-only.ensures.key (not_both_below n free)
 
 pub splice-requires-clause-number : goal.splice-requires-clause-number
 splice-requires-clause-number c = λ m is.
@@ -26,7 +26,7 @@ splice-requires-clause-number c = λ m is.
     ap (λ x. x.number) (same_Some m n (sym is ∙ c.index-node.ensures)) ∙ no_number n free
 
 pub returns-clause-tight : goal.returns-clause-tight
-returns-clause-tight c = loosened_if (get c.splice.new.nodes) c.or-only.result c.is_none.result c.args.spot.0 c.is_none.ensures c.splice.ensures.tight
+returns-clause-tight c = loosened_if (get c.splice.new.nodes) c.only-only.result c.is_none.result c.args.spot.0 c.is_none.ensures c.splice.ensures.tight
 
 pub returns-clause-left : goal.returns-clause-left
 returns-clause-left c = λ _ n is root. c.splice.ensures.left n root is
@@ -36,4 +36,4 @@ returns-clause-stays c = λ m is some.
     let n = c.index-node.result.now in
     let free : 2 ≤ weight n → ⊥ = λ enough. both_ways _ c.if-is_needed.false (c.is_needed.ensures.1 enough) in
     let some' = subst (λ x. 1 ≤ weight x) (same_Some m n (sym is ∙ c.index-node.ensures)) some in
-    alone_stays n c.or-only.result c.is_none.result c.or-only.ensures c.is_none.ensures (no_number n free) some'
+    alone_stays n c.only-only.result c.is_none.result c.only-only.ensures.key c.is_none.ensures (no_number n free) some'

@@ -9,6 +9,11 @@ invariant_of-self c =
     let trie = IsTrie-room c.self.inside.nodes c.reserve.new.self c.reserve.ensures.rest_kept c.self.invariant.0 in
     (trie, starts_room c.self.inside.nodes c.reserve.new.self c.reserve.ensures.rest_kept c.self.invariant.0 trie c.self.inside.starts.items c.self.invariant.1, tight_room c.self.inside.nodes c.reserve.new.self c.reserve.ensures.rest_kept c.self.invariant.2)
 
+pub invariant_of-self-then-capacity-gt-MOST_NODES : goal.invariant_of-self-then-capacity-gt-MOST_NODES
+invariant_of-self-then-capacity-gt-MOST_NODES c =
+    let trie = IsTrie-room c.self.inside.nodes c.reserve.new.self c.reserve.ensures.rest_kept c.self.invariant.0 in
+    (trie, starts_room c.self.inside.nodes c.reserve.new.self c.reserve.ensures.rest_kept c.self.invariant.0 trie c.self.inside.starts.items c.self.invariant.1, tight_room c.self.inside.nodes c.reserve.new.self c.reserve.ensures.rest_kept c.self.invariant.2)
+
 pub grow-requires-clause-trie : goal.grow-requires-clause-trie
 grow-requires-clause-trie c = IsTrie-room c.self.inside.nodes c.reserve.new.self c.reserve.ensures.rest_kept c.self.invariant.0
 
