@@ -1,5 +1,5 @@
 //! Live endpoints, by name, address and slot.
-ghost use Rattle.std.specs.Prelude.{◌≡◌, ◌<◌, nat_lt, [], None, count_by, length, OnOk};
+ghost use Rattle.std.specs.Prelude.{◌≡◌, ◌<◌, [], None, length, OnOk};
 ghost use Rattle.std.specs.Option.{option_copied};
 ghost use Rattle.pol_model.specs.Committed.{slots_of};
 ghost use Rattle.pol_model.specs.Endpoints.{endpoint_of, free_slot, without_endpoint};
@@ -7,6 +7,7 @@ ghost use Rattle.pol_model.specs.Numbers.{placed_by};
 ghost use Rattle.pol_model.specs.Remote.{endpoint_at};
 ghost use Rattle.pol_tables.specs.Tables.{endpoint_in};
 
+use crate::slots::{at_slot, count_slots, least_slot, place_of};
 use indexmap::IndexMap;
 use pol_addr::Addr;
 use pol_data::{Memory, Text};
@@ -73,11 +74,7 @@ impl Endpoints {
     pub fn at_slot(&self, slot: u32) -> Option<&Endpoint>
         ensures found { option_copied result ≡ endpoint_in slot self.now.list }
     {
-        let place = self.place_of(slot);
-        match self.by_name.get_index(place) {
-            Some((_, endpoint)) if endpoint.slot == slot => Some(endpoint),
-            _ => None,
-        }
+        at_slot(self.by_name.values().as_slice(), slot)
     }
 
     /// The live endpoint that has the address. It takes no memory.
@@ -85,7 +82,7 @@ impl Endpoints {
         ensures found { option_copied result ≡ endpoint_at address self.now.list }
     {
         match self.by_address.get(&address) {
-            Some(slot) => self.at_slot(*slot),
+            Some(slot) => at_slot(self.by_name.values().as_slice(), *slot),
             None => None,
         }
     }
@@ -95,24 +92,14 @@ impl Endpoints {
         ensures free { result ≡ free_slot self.now.list }
         ensures within { length self.now.list < ENDPOINTS_MAX → result < ENDPOINTS_MAX }
     {
-        let mut next = 0u32;
-        for endpoint in self.as_slice() {
-            if endpoint.slot != next {
-                return next;
-            }
-            next += 1;
-        }
-        next
+        least_slot(self.by_name.values().as_slice())
     }
 
     /// One more than the greatest slot, 0 where no endpoint is live. It takes no memory.
     pub fn slots(&self) -> u32
         ensures slots { result ≡ slots_of self.now.list }
     {
-        match self.as_slice().last() {
-            Some(endpoint) => endpoint.slot + 1,
-            None => 0,
-        }
+        count_slots(self.by_name.values().as_slice())
     }
 
     /// Room for one endpoint more. The one error is want of memory.
@@ -134,7 +121,7 @@ impl Endpoints {
         requires within { endpoint.slot < ENDPOINTS_MAX }
         ensures list { self.new.list ≡ placed_by (λ endpoint. endpoint.slot) endpoint self.old.list }
     {
-        let place = self.place_of(endpoint.slot);
+        let place = place_of(self.by_name.values().as_slice(), endpoint.slot);
         self.by_address
             .insert(endpoint.address, endpoint.slot)
             .unwrap();
@@ -148,19 +135,12 @@ impl Endpoints {
         ensures list { self.new.list ≡ without_endpoint name.now self.old.list }
         ensures removed { result ≡ endpoint_of name.now self.old.list }
     {
-        let endpoint = self.by_name.shift_remove(name)?;
-        self.by_address.swap_remove(&endpoint.address);
-        Some(endpoint)
-    }
-
-    /// How many endpoints have a lesser slot.
-    fn place_of(&self, slot: u32) -> usize
-        ensures { result ≡ count_by (λ endpoint. nat_lt endpoint.slot slot) self.now.list }
-    {
-        self.by_name.partition_point(
-            |_name: &String, endpoint: &Endpoint| -> bool
-                ensures { result ≡ nat_lt endpoint.now.slot slot }
-            { endpoint.slot < slot },
-        )
+        match self.by_name.shift_remove(name) {
+            Some(endpoint) => {
+                self.by_address.swap_remove(&endpoint.address);
+                Some(endpoint)
+            }
+            None => None,
+        }
     }
 }

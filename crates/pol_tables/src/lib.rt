@@ -7,6 +7,7 @@
 mod endpoints;
 mod named;
 mod policies;
+mod slots;
 
 pub use endpoints::Endpoints;
 pub use named::Named;

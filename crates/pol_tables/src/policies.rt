@@ -23,11 +23,11 @@ impl Model for Policies {
     ghost Value = { PolicyTable };
 
     ghost use Rattle.indexmap.specs.IndexMap.{spare, values};
-    ghost use Rattle.pol_tables.specs.Tied.{IsKeyed};
+    ghost use Rattle.pol_tables.specs.Tied.{ArePolicies};
 
     ghost view = { λ p. record { list = values p.rows; room = spare p.rows } };
 
-    ghost invariant = { λ p. IsKeyed (λ key. key) (λ stamped. stamped.policy.key) p.rows.entries };
+    ghost invariant = { λ p. ArePolicies p.rows.entries };
 }
 
 impl Policies {
