@@ -9,6 +9,7 @@
 mod hold;
 mod moves;
 mod numbers;
+mod peers;
 mod plan;
 mod prefixes;
 mod release;
