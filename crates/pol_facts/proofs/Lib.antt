@@ -10,7 +10,6 @@ pub mod KeepsAll
 pub mod KeptFrom
 pub mod KeptRows
 pub mod KeptStates
-pub mod KeyOrder
 pub mod Keyed
 pub mod Ledger
 pub mod Lives

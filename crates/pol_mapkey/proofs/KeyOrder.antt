@@ -1,8 +1,9 @@
--- The order of keys is total, and tells keys apart.
-use Rattle.std.proofs.Common.{◌≡◌, ℕ, ◌==◌, ◌&&◌, ◌<◌, true, refl, subst}
+-- The orders of port prefixes and of keys are total, and tell them apart.
+use Rattle.std.proofs.Common.{◌≡◌, ℕ, true, ◌==◌, ◌&&◌, ◌<◌, refl, subst}
 use Rattle.std.proofs.lemmas.Bool.{and_from, eq-eqb}
 use Rattle.std.proofs.lemmas.Cmp.{nat_cmp_total, on_total, then_total, ranked, by_ranked}
 use Rattle.std.specs.Cmp.{IsTotalOrder}
+use Rattle.std.specs.FinMap.{IsAntisymmetric}
 use Rattle.std.specs.Ordering.{nat_cmp, ordering_then}
 use Rattle.std.specs.declared.cmp.Ordering.{Ordering}
 use Rattle.std.specs.declared.cmp.Ordering.TheVariants.{Less, Equal, Greater}
@@ -11,6 +12,7 @@ use Rattle.pol_ports.specs.PortPrefix.{same_prefix, prefix_cmp}
 use Rattle.pol_ports.specs.declared.Direction.{Direction}
 use Rattle.pol_ports.specs.declared.Direction.TheVariants.{Ingress, Egress}
 use Rattle.pol_ports.specs.declared.PortPrefix.{PortPrefix}
+use Rattle.pol_ports.proofs.Same.{same_prefix-is}
 use Rattle.pol_mapkey.specs.KeyProto.{key_proto_cmp, same_key_proto, proto_place}
 use Rattle.pol_mapkey.specs.MapKey.{key_cmp}
 use Rattle.pol_mapkey.specs.declared.MapKey.{MapKey}
@@ -30,7 +32,7 @@ direction_cmp_total : IsTotalOrder direction_cmp
 direction_cmp_total =
     subst IsTotalOrder (λ i a b. direction_cmp-numbers a b i) (on_total direction_number nat_cmp_total)
 
-prefix_cmp_total : IsTotalOrder prefix_cmp
+pub prefix_cmp_total : IsTotalOrder prefix_cmp
 prefix_cmp_total = then_total (on_total (λ (p : PortPrefix). p.bits) nat_cmp_total) (on_total (λ (p : PortPrefix). p.len) nat_cmp_total)
 
 pub key_cmp_total : IsTotalOrder key_cmp
@@ -54,7 +56,12 @@ direction_equal Ingress Egress e = cc
 direction_equal Egress Ingress e = cc
 direction_equal Egress Egress e = refl
 
-pub key_cmp-same : (a b : MapKey) → key_cmp a b ≡ Equal → a ≡ b
+pub prefix_cmp-same : IsAntisymmetric prefix_cmp
+prefix_cmp-same p q e =
+    let both = then_equal (nat_cmp p.bits q.bits) _ e in
+    same_prefix-is p q (and_from (p.bits == q.bits) (p.len == q.len) (nat_equal _ _ both.0) (nat_equal _ _ both.1))
+
+pub key_cmp-same : IsAntisymmetric key_cmp
 key_cmp-same a b e =
     let one = then_equal (direction_cmp a.dir b.dir) _ e in
     let two = then_equal (nat_cmp a.id b.id) _ one.1 in
