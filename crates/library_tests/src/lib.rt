@@ -11,6 +11,8 @@ mod arena;
 #[cfg(test)]
 mod data;
 #[cfg(test)]
+mod held_prefixes;
+#[cfg(test)]
 mod labels;
 #[cfg(test)]
 mod policies;
@@ -20,6 +22,8 @@ mod ports;
 mod prefix_table;
 #[cfg(test)]
 mod requests;
+#[cfg(test)]
+mod rows;
 #[cfg(test)]
 mod streams;
 #[cfg(test)]

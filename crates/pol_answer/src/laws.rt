@@ -30,6 +30,15 @@ pub fn the_text_tells_the_answer()
     ensures no_more { (a : Answer) → text_of (shown a) ≡ text_of a }
 {}
 
+/// So do the texts of some answers, one behind another: they are cut at their newlines in one way, so where two
+/// lists give the same bytes they have as many answers, and each tells the other's. For names and keys such as
+/// reading gives hold no newline.
+pub fn the_texts_tell_the_answers()
+    ensures plain { (answer : Answer) → IsTrue (has_read_parts answer) → IsTrue (has_plain_names answer) }
+    ensures tell { (a b : List Answer) → IsTrue (list_all has_read_parts a) → IsTrue (list_all has_read_parts b) → texts_of a ≡ texts_of b
+        → map shown a ≡ map shown b }
+{}
+
 /// The texts of some answers, written out ('profile').
 pub fn answer_examples()
     ensures commits { texts_of (answer.Committed 1 (Some 256) ∷ answer.Committed 4 None ∷ []) ≡ codes "ok 1 identity 256\nok 4\n" }

@@ -8,8 +8,6 @@ mod change;
 pub mod laws;
 mod log;
 mod net;
-#[cfg(test)]
-mod tests;
 
 pub use change::Change;
 pub use log::ChangeLog;

@@ -20,7 +20,7 @@ use Rattle.pol_mapkey.specs.declared.KeyProto.TheVariants.{Every, Tcp, Udp, Sctp
 use Rattle.pol_mapkey.specs.declared.MapKey.{MapKey}
 use Rattle.pol_mapkey.proofs.Equality.{same_key-is}
 use Rattle.pol_mapkey.proofs.Keys.{covers_is, covers_from, covers-three, proto_covers-cases}
-use Rattle.pol_facts.proofs.KeyOrder.{key_cmp_total}
+use Rattle.pol_mapkey.proofs.KeyOrder.{key_cmp_total}
 
 -- numbers for directions, and that numbers tell directions and protocols apart
 pub dir_place : Direction → ℕ

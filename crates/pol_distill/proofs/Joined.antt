@@ -14,9 +14,9 @@ use Rattle.pol_mapkey.specs.Entries.{Entry, is_deny}
 use Rattle.pol_mapkey.specs.declared.Kind.{Kind}
 use Rattle.pol_mapkey.specs.declared.Kind.TheVariants.{Allow, Deny}
 use Rattle.pol_mapkey.proofs.Equality.{same_key-is, same_key-self}
+use Rattle.pol_mapkey.proofs.KeyOrder.{key_cmp_total, key_cmp-same}
 use Rattle.pol_model.specs.PolicyMap.{merged, put_entry, stronger}
 use Rattle.pol_distill.specs.Passing.{Follows, Rises, begins_with}
-use Rattle.pol_facts.proofs.KeyOrder.{key_cmp_total, key_cmp-same}
 
 -- the last entry of each key
 abbrev pub joined : List Entry → List Entry

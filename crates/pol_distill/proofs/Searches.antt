@@ -15,7 +15,7 @@ use Rattle.pol_mapkey.specs.declared.Kind.{Kind}
 use Rattle.pol_mapkey.specs.declared.MapKey.{MapKey}
 use Rattle.pol_mapkey.specs.contracts.MapKeyOrd.TheImpl as key_ord
 use Rattle.pol_mapkey.proofs.Order.{cmp-key_cmp}
-use Rattle.pol_facts.proofs.KeyOrder.{key_cmp_total, key_cmp-same}
+use Rattle.pol_mapkey.proofs.KeyOrder.{key_cmp_total, key_cmp-same}
 use Rattle.pol_distill.specs.Sorted.{IsTable, entry_order}
 
 -- of two keys in order the first compares no later with a third

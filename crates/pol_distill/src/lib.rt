@@ -11,8 +11,6 @@ pub mod laws;
 mod make;
 mod sweep;
 mod table;
-#[cfg(test)]
-mod tests;
 
 pub use make::{distill, have_sets};
 pub use table::MapTable;

@@ -10,9 +10,9 @@ pub mod KeepsAll
 pub mod KeptFrom
 pub mod KeptRows
 pub mod KeptStates
-pub mod KeyOrder
 pub mod Keyed
 pub mod Ledger
+pub mod Lives
 pub mod LocalNumbers
 pub mod Membership
 pub mod Merged

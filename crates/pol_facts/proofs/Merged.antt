@@ -20,8 +20,8 @@ use Rattle.pol_mapkey.specs.declared.Kind.TheVariants.{Allow, Deny}
 use Rattle.pol_mapkey.specs.declared.MapKey.{MapKey}
 use Rattle.pol_mapkey.proofs.Equality.{same_key-is, same_key-self}
 use Rattle.pol_mapkey.proofs.Longest.{one_kind}
+use Rattle.pol_mapkey.proofs.KeyOrder.{key_cmp_total, key_cmp-same}
 use Rattle.pol_model.specs.PolicyMap.{stronger, put_entry, merged}
-use Rattle.pol_facts.proofs.KeyOrder.{key_cmp_total, key_cmp-same}
 
 -- some element that passes, and an element that does
 pub passing : {X : Type 0} (p : X → Bool) (xs : List X) → list_any p xs ≡ true → (x : X) × Contains xs x × (p x ≡ true)

@@ -9,6 +9,3 @@ pub mod laws;
 mod script;
 
 pub use script::generated;
-
-#[cfg(test)]
-mod tests;

@@ -27,7 +27,7 @@ use Rattle.pol_history.proofs.Cuts.{commits-append, revision-append}
 use Rattle.pol_history.proofs.LastReports.{last_report-more}
 use Rattle.pol_history.proofs.LegalEvents.{legal_front, legal_last, map-front}
 use Rattle.pol_history.proofs.Lists.{by_growth, no_element}
-use Rattle.pol_history.proofs.Lives.{found_kept, found_lost, named_alike}
+use Rattle.pol_facts.proofs.Lives.{found_kept, found_lost, named_alike}
 use Rattle.pol_history.proofs.Names.{state-more}
 use Rattle.pol_history.proofs.Same.{same-is}
 

@@ -27,7 +27,8 @@ use Rattle.pol_history.proofs.Cuts.{revision-append, revision-take, state-cut, s
 use Rattle.pol_history.proofs.LastReports.{Tells, last_report-more, told}
 use Rattle.pol_history.proofs.LegalEvents.{each_legal, legal_more}
 use Rattle.pol_history.proofs.Lists.{get_cases}
-use Rattle.pol_history.proofs.Lives.{added-within, lives-back, lives-then}
+use Rattle.pol_facts.proofs.Lives.{added-within}
+use Rattle.pol_history.proofs.Lives.{lives-back, lives-then}
 use Rattle.pol_history.proofs.Names.{slot-live}
 use Rattle.pol_history.proofs.Same.{live-parts, same_cases}
 

@@ -22,6 +22,8 @@ pub record Grows (options : Options) (old new : PassView) (own : List Request) :
   pub legal : IsLegal options new.history
   pub mine : new.mine ≡ old.mine ++ own
 
--- the commits of the pass in what it has seen are the requests that it committed, no more and no fewer
-pub record HasItsCommits (pass : ℕ) (view : PassView) : Type 0 where
-  pub commits : commits_by pass view.history ≡ view.mine
+-- Such a call of this pass, which then has seen all its own commits: they are the requests that it committed, no more and
+-- no fewer. So in each call that may wait and has memory, but where a pass learns, and where a session is played.
+pub record GrowsWhole (options : Options) (pass : ℕ) (old new : PassView) (own : List Request) : Type 0 where
+  pub grows : Grows options old new own
+  pub commits : commits_by pass new.history ≡ new.mine

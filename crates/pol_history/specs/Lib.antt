@@ -6,9 +6,11 @@ pub mod Look
 pub mod Machine
 pub mod MachineKeeps
 pub mod Grows
+pub mod Meet
 pub mod Calls
 pub mod Regenerate
 pub mod Content
 pub mod ExampleEvents
 pub mod SmallHistories
 pub mod SmallRuns
+pub mod SmallMeetings

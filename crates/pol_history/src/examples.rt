@@ -1,9 +1,11 @@
-//! Small histories: a legal one, and some that are not. And small runs of the machine.
-ghost use Rattle.std.specs.Prelude.{◌≡◌};
+//! Small histories: a legal one, and some that are not. Small runs of the machine, and a meeting of two passes.
+ghost use Rattle.std.specs.Prelude.{◌≡◌, [], ◌∷◌};
 ghost use Rattle.pol_history.specs.ExampleEvents.{at_most};
 ghost use Rattle.pol_history.specs.Legal.{IsLegal};
 ghost use Rattle.pol_history.specs.Machine.{replies_to};
+ghost use Rattle.pol_history.specs.Meet.{HaveMet};
 ghost use Rattle.pol_history.specs.SmallHistories as history;
+ghost use Rattle.pol_history.specs.SmallMeetings as passes;
 ghost use Rattle.pol_history.specs.SmallRuns as runs;
 
 /// Two passes, a map that is too large, one that is published, and an endpoint that comes back.
@@ -42,4 +44,12 @@ pub fn replies()
     ensures taken_before { replies_to (at_most 16384) runs.taken_before ≡ runs.taken_before_replies }
     ensures too_large { replies_to (at_most 1) runs.too_large ≡ runs.too_large_replies }
     ensures taken_again { replies_to (at_most 2) runs.taken_again ≡ runs.taken_again_replies }
+{}
+
+/// Two passes that meet have both seen what either had. They haven't met where nothing was done, nor where a commit is of
+/// a pass that wasn't handed out ('profile').
+pub fn meetings()
+    ensures met { HaveMet (at_most 2) (0 ∷ 1 ∷ []) passes.before passes.after }
+    ensures nothing_done { HaveMet (at_most 2) (0 ∷ 1 ∷ []) passes.before passes.before → ⊥ }
+    ensures not_handed_out { HaveMet (at_most 2) (0 ∷ []) passes.before passes.after → ⊥ }
 {}

@@ -86,7 +86,7 @@ module _ (reserved : List IdentityRow) (cluster : List (Slot (List Label))) (loc
   )
 
   -- the set has a place
-  place-found : (place : ℕ) → HasPlace same_labels labels cluster place → (place < length cluster) × (number_of_labels labels old ≡ Some (CLUSTER_FIRST + place))
+  pub place-found : (place : ℕ) → HasPlace same_labels labels cluster place → (place < length cluster) × (number_of_labels labels old ≡ Some (CLUSTER_FIRST + place))
   place-found place has =
       let within = taken_within cluster place has.0 has.1 in
       let few = known.cluster_few in
@@ -114,7 +114,7 @@ module _ (reserved : List IdentityRow) (cluster : List (Slot (List Label))) (loc
       }
 
   -- the set has none
-  none-found : HasNone same_labels labels cluster → has_reserved labels ≡ false → number_of_labels labels old ≡ None
+  pub none-found : HasNone same_labels labels cluster → has_reserved labels ≡ false → number_of_labels labels old ≡ None
   none-found none free = by (number_of_labels labels old) refl
     where
       by : (o : Option ℕ) → number_of_labels labels old ≡ o → o ≡ None
@@ -167,11 +167,14 @@ module _ (reserved : List IdentityRow) (cluster : List (Slot (List Label))) (loc
       ∙ lt-ltb CLUSTER_LAST (free_number CLUSTER_FIRST old) (omega (arith, number, full, least))
 
   -- the reserved set of what has no labels yet
+  pub init-found : is_init labels ≡ true → number_of_labels labels old ≡ Some INIT_IDENTITY
+  init-found init =
+      ap (λ l. number_of_labels l old) ((same_labels-Decides labels _).0 init)
+      ∙ found-labels old known.keeps (reserved_row INIT_IDENTITY (codes "init")) (reserved-there old known.keeps _ (4, omega arith, refl)) refl
+
   pub hold-init : is_init labels ≡ true → IsHeld labels reserved old INIT_IDENTITY cluster local
   hold-init init =
-      let same : labels ≡ reserved_label (codes "init") ∷ [] = (same_labels-Decides labels _).0 init in
-      let found = found-labels old known.keeps (reserved_row INIT_IDENTITY (codes "init")) (reserved-there old known.keeps _ (4, omega arith, refl)) refl in
-      let told = number-found INIT_IDENTITY (ap (λ l. number_of_labels l old) same ∙ found) in
+      let told = number-found INIT_IDENTITY (init-found init) in
       record {
         number = told.0;
         is = sym (recounted-reserved INIT_IDENTITY (λ count. count + 1) old refl) ∙ told.1;

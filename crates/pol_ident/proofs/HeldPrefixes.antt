@@ -1,7 +1,7 @@
 -- A prefix and the rows: what its number is, and what the rows are once it is held.
-use Rattle.std.proofs.Common.{◌≡◌, ◌≢◌, ℕ, ◌+◌, ◌-◌, ◌<◌, ◌≤◌, Bool, true, false, cond, List, [], ◌∷◌, ◌++◌, length, Option, None, Some, inl, inr, refl, sym, ap, subst, ◌∙◌, arith}
+use Rattle.std.proofs.Common.{◌≡◌, ◌≢◌, ℕ, ◌+◌, ◌-◌, ◌<◌, ◌≤◌, Bool, true, false, cond, List, [], ◌∷◌, ◌++◌, count_by, is_some, length, Option, None, Some, inl, inr, refl, sym, ap, subst, ◌∙◌, arith}
 use Rattle.std.specs.Prelude.{codes}
-use Rattle.std.proofs.lemmas.Bool.{both_ways, lt-leb}
+use Rattle.std.proofs.lemmas.Bool.{both_ways, le-leb, lt-leb}
 use Rattle.std.proofs.lemmas.List.Sums.{sum_by-cons}
 use Rattle.pol_addr.specs.Cidr.{IsPrefix}
 use Rattle.pol_addr.specs.Prefix.{world}
@@ -61,6 +61,19 @@ locals-le first (None ∷ slots) = omega (arith, locals-le (first + 1) slots)
 locals-le first (Some own ∷ slots) =
     omega (arith, locals-le (first + 1) slots, at_most_one (is_local first), sum_by-cons (λ row. cond (is_local row.number) 1 0) (row_with worlds Some first own) (rows_then worlds Some (first + 1) slots []))
 
+locals-count : (first : ℕ) (slots : List (Slot Prefix)) → LOCAL_FIRST ≤ first → locals_held (rows_then worlds Some first slots []) ≡ count_by is_some slots
+locals-count first [] from = refl
+locals-count first (None ∷ slots) from =
+    let rest = locals-count (first + 1) slots (omega (arith, from)) in
+    let none = sum_by-cons (λ (slot : Slot Prefix). cond (is_some slot) 1 0) None slots in
+    omega (arith, rest, none)
+locals-count first (Some own ∷ slots) from =
+    let rest = locals-count (first + 1) slots (omega (arith, from)) in
+    let one = sum_by-cons (λ (slot : Slot Prefix). cond (is_some slot) 1 0) (Some own) slots in
+    sum_by-cons (λ row. cond (is_local row.number) 1 0) (row_with worlds Some first own) (rows_then worlds Some (first + 1) slots [])
+    ∙ ap (λ b. cond b 1 0 + locals_held (rows_then worlds Some (first + 1) slots [])) (le-leb LOCAL_FIRST first from)
+    ∙ omega (arith, rest, one)
+
 locals-below : (limit first : ℕ) (slots : List (Slot Prefix)) → free_place slots < limit → length slots ≤ limit → locals_held (rows_then worlds Some first slots []) < limit
 locals-below limit first [] free few = omega (arith, free)
 locals-below limit first (None ∷ slots) free few = omega (arith, few, locals-le (first + 1) slots)
@@ -75,6 +88,12 @@ module _ (cluster : List (Slot (List Label))) (local : List (Slot Prefix)) (few 
   free-number =
       free-past plain without LOCAL_FIRST CLUSTER_FIRST cluster (local_rows local) (omega (arith, few))
       ∙ free-here worlds Some LOCAL_FIRST local [] tt
+
+  pub locals-all : locals_held rows ≡ count_by is_some local
+  locals-all =
+      locals-front reserved_identities (cluster_rows cluster (local_rows local)) (reserved-below LOCAL_FIRST (omega arith))
+      ∙ locals-past plain without CLUSTER_FIRST cluster (local_rows local) (omega (arith, few))
+      ∙ locals-count LOCAL_FIRST local (omega arith)
 
   locals-room : free_place local < LOCAL_IDENTITIES → length local ≤ LOCAL_IDENTITIES → locals_held rows < LOCAL_IDENTITIES
   locals-room free long =
@@ -139,7 +158,7 @@ module _ (reserved : List IdentityRow) (cluster : List (Slot (List Label))) (loc
       some_is_none e = cc
 
   -- the prefix has a place
-  place-found : (place : ℕ) → HasPlace prefixes.ghosts.eq prefix local place → number_of_prefix prefix old ≡ Some (LOCAL_FIRST + place)
+  pub place-found : (place : ℕ) → HasPlace prefixes.ghosts.eq prefix local place → number_of_prefix prefix old ≡ Some (LOCAL_FIRST + place)
   place-found place has =
       let there = In-right _ reserved_identities _ (In-past plain without (row_with worlds Some (LOCAL_FIRST + place) has.0) CLUSTER_FIRST cluster (local_rows local) (In-here worlds Some (LOCAL_FIRST + place) LOCAL_FIRST place local [] has.0 refl has.1)) in
       found-prefix old known.keeps (row_with worlds Some (LOCAL_FIRST + place) has.0) prefix (Contains-from_In old _ there) (sym (ap Some ((prefix_eq-Decides prefix has.0.0).0 has.2)))
@@ -166,7 +185,7 @@ module _ (reserved : List IdentityRow) (cluster : List (Slot (List Label))) (loc
       some_is_none e = cc
 
   -- the prefix has none
-  none-found : HasNone prefixes.ghosts.eq prefix local → prefix.len ≢ 0 → number_of_prefix prefix old ≡ None
+  pub none-found : HasNone prefixes.ghosts.eq prefix local → prefix.len ≢ 0 → number_of_prefix prefix old ≡ None
   none-found none long = by (number_of_prefix prefix old) refl
     where
       by : (o : Option ℕ) → number_of_prefix prefix old ≡ o → o ≡ None
@@ -216,9 +235,12 @@ module _ (reserved : List IdentityRow) (cluster : List (Slot (List Label))) (loc
       (omega (arith, number, within, least, full, locals-few old known.keeps), none-found none long)
 
   -- the world's
+  pub world-found : prefix ≡ world → number_of_prefix prefix old ≡ Some WORLD_IDENTITY
+  world-found same = found-prefix old known.keeps (reserved_row WORLD_IDENTITY (codes "world")) prefix (reserved-there old known.keeps _ (1, omega arith, refl)) (sym (ap Some same))
+
   pub hold-world : prefix ≡ world → IsHeld prefix reserved old WORLD_IDENTITY cluster local
   hold-world same =
-      let found = found-prefix old known.keeps (reserved_row WORLD_IDENTITY (codes "world")) prefix (reserved-there old known.keeps _ (1, omega arith, refl)) (sym (ap Some same)) in
+      let found = world-found same in
       let told = number-found WORLD_IDENTITY found in
       record {
         number = told.0;

@@ -98,6 +98,23 @@ pub local-tells : (cluster : List (Slot (List Label))) (local : List (Slot Prefi
 local-tells cluster local number place is few f g same key at =
     ap (option_map f) at ∙ told (row_with worlds Some number) f g same (slot_at local place) ∙ sym (ap (option_map g) (local-row cluster local number place is few))
 
+-- how many hold what stands there
+held_by : {K : Type 0} (row : K × ℕ → IdentityRow) → ((own : K × ℕ) → own.1 ≡ (row own).holders) → (slot : Slot K) → option_map (λ own. own.1) slot ≡ option_map (λ row. row.holders) (option_map row slot)
+held_by row same None = refl
+held_by row same (Some own) = ap Some (same own)
+
+pub cluster-holders : (cluster : List (Slot (List Label))) (local : List (Slot Prefix)) (number place : ℕ) → IsPlaceOf number (Cluster place)
+    → option_map (λ own. own.1) (slot_at cluster place) ≡ option_map (λ row. row.holders) (row_of number (rows_of cluster local))
+cluster-holders cluster local number place is =
+    held_by (row_with plain without number) (λ own. refl) (slot_at cluster place)
+    ∙ sym (ap (option_map (λ row. row.holders)) (cluster-row cluster local number place is))
+
+pub local-holders : (cluster : List (Slot (List Label))) (local : List (Slot Prefix)) (number place : ℕ) → IsPlaceOf number (Local place) → length cluster ≤ CLUSTER_IDENTITIES
+    → option_map (λ own. own.1) (slot_at local place) ≡ option_map (λ row. row.holders) (row_of number (rows_of cluster local))
+local-holders cluster local number place is few =
+    held_by (row_with worlds Some number) (λ own. refl) (slot_at local place)
+    ∙ sym (ap (option_map (λ row. row.holders)) (local-row cluster local number place is few))
+
 -- a number has a row where one is found
 pub has_row-found : (number : ℕ) (rows : List IdentityRow) → has_row number rows ≡ is_some (row_of number rows)
 has_row-found number [] = refl

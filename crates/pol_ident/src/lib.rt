@@ -6,13 +6,15 @@
 
 mod acquire;
 mod error;
+mod find;
+mod holders;
 mod identities;
 mod look;
 mod numbering;
 mod place;
+mod prefixes;
 mod release;
 mod select;
-#[cfg(test)]
 mod tests;
 
 pub use error::IdentError;

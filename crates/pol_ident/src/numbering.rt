@@ -1,5 +1,5 @@
 //! Keys under places: each key has the least place that was free when it came, until its last holder goes.
-ghost use Rattle.std.specs.Prelude.{◌≡◌, ◌+◌, ◌^◌, ◌<◌, ◌≤◌, ◌++◌, [], None, IsSome, IfSome, IfNone, OnOk, OnErr, option_map, length, slice_index_or, slice_set, vec_capacity};
+ghost use Rattle.std.specs.Prelude.{◌≡◌, ◌+◌, ◌^◌, ◌<◌, ◌≤◌, ◌++◌, [], None, IsSome, IfSome, IfNone, OnOk, OnErr, count_by, is_some, option_map, length, slice_index_or, slice_set, vec_capacity};
 ghost use Rattle.std.specs.BinaryHeap.{heap_capacity, heap_items, heap_len};
 ghost use Rattle.std.specs.Option.{option_copied};
 ghost use Rattle.pol_ident.specs.Slots.{HasNone, HasPlace, changed, filled, free_place, numbers_from, one_less, one_more, slot_at};
@@ -152,6 +152,21 @@ impl<K: Eq + Hash + Drop> Numbering<K> {
         let held = held_at(&self.slots, place)?;
         let (key, _) = self.places.get_index(held.index)?;
         Some(key)
+    }
+
+    /// How many hold the key of the place.
+    pub(crate) fn holders_at(&self, place: u32) -> Option<u64>
+        ensures { result ≡ option_map (λ own. own.1) (slot_at self.now place) }
+    {
+        let held = held_at(&self.slots, place)?;
+        Some(held.holders)
+    }
+
+    /// How many places have a key.
+    pub(crate) fn taken(&self) -> usize
+        ensures { result ≡ count_by is_some self.now }
+    {
+        self.slots.len() - self.free.len()
     }
 
     /// The least place without a key.

@@ -7,8 +7,6 @@
 mod filter;
 pub mod laws;
 mod select;
-#[cfg(test)]
-mod tests;
 
 pub use filter::{Filter, FilterList, Filters};
 pub use pol_model::{Mode, Stamped};

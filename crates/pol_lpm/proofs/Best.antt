@@ -11,7 +11,7 @@ use Rattle.pol_lpm.specs.declared.node.Node.{Node}
 use Rattle.pol_lpm.specs.Trie.{IsTree, StandsOver, NoneBetween, IsNumberUpTo, NoNumberUpTo, IsBest, len_at}
 use Rattle.pol_lpm.proofs.Steps.{len_at-node}
 
-some_none : (o : Option ℕ) → IsSome o → o ≡ None → ⊥
+pub some_none : (o : Option ℕ) → IsSome o → o ≡ None → ⊥
 some_none o some none = absurd (cc)
 
 module _ (s : Slab Node) (t : IsTree (get s)) (target : Prefix) where

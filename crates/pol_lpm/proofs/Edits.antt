@@ -1,5 +1,5 @@
 -- What the edits of the trie leave.
-use Rattle.std.proofs.Common.{◌≡◌, ◌≢◌, ℕ, ◌<◌, subst, arith, Bool, true, false, not, Option, Some, None, refl, sym, ap, ◌∙◌, inl, inr}
+use Rattle.std.proofs.Common.{◌≡◌, ◌≢◌, ℕ, ◌<◌, ◌≤◌, IsSome, is_some, subst, arith, Bool, true, false, not, Option, Some, None, refl, sym, ap, ◌∙◌, inl, inr}
 use Rattle.std.proofs.lemmas.Option.{none-some, same_Some}
 use Rattle.std.proofs.lemmas.Bool.{cases_eq}
 use Rattle.slab.specs.Slab.{Slab, get, Updates}
@@ -8,15 +8,18 @@ use Rattle.pol_addr.specs.Prefix.{world}
 use Rattle.pol_addr.proofs.Containment.{covers_from_half}
 use Rattle.pol_addr.proofs.Halves.{half_moved, covers_moved}
 use Rattle.pol_lpm.specs.declared.node.Node.{Node}
-use Rattle.pol_lpm.specs.Trie.{child, with_child, IsTree, IsTrie, HasRoot, FitsBelow, HasOnly, number_of, Numbers, SameNumbers, StillThere}
+use Rattle.pol_lpm.specs.Trie.{child, with_child, IsTree, IsTrie, HasRoot, FitsBelow, HasOnly, number_of, Numbers, SameNumbers, StillThere, AllStillThere}
+use Rattle.pol_lpm.specs.Sizes.{weight, IsBalanced, IsTightBut, loosened}
+use Rattle.pol_lpm.proofs.Balance.{key_of-link_of, balanced_attached, balanced_spliced, balanced_numbered}
+use Rattle.pol_lpm.proofs.Tight.{tight_attached, tight_spliced, left_above}
 use Rattle.pol_lpm.proofs.Attach.{Attached, attached_tree, attached_keeps, attached_from, absent}
 use Rattle.pol_lpm.proofs.Splice.{Spliced, spliced_tree, spliced_keeps, spliced_from}
 use Rattle.pol_lpm.proofs.Lookup.{number_in-absent}
 use Rattle.pol_lpm.proofs.Numbers.{number_of-node, same_number, numbers_at}
 
 with_child-this : (n : Node) (high : Bool) (key : Option ℕ) → child (with_child n high key) high ≡ key
-with_child-this n true key = refl
-with_child-this n false key = refl
+with_child-this n true key = key_of-link_of key
+with_child-this n false key = key_of-link_of key
 
 with_child-other : (n : Node) (high : Bool) (key : Option ℕ) → child (with_child n high key) (not high) ≡ child n (not high)
 with_child-other n true key = refl
@@ -31,15 +34,25 @@ with_child-number n true key = refl
 with_child-number n false key = refl
 
 -- a root that is still there
-IsTrie-rooted : (s : Slab Node) → IsTree (get s) → HasRoot (get s) → IsTrie s
-IsTrie-rooted s t root = record {
+IsTrie-rooted : (s : Slab Node) → IsTree (get s) → HasRoot (get s) → IsBalanced s → IsTrie s
+IsTrie-rooted s t root balanced = record {
   fresh = λ none. absurd (none-some root.0 (sym none ∙ root.1));
   rooted = λ i n is. root;
   tree = t;
+  balanced = balanced;
 }
 
-HasRoot-kept : (old new : ℕ → Option Node) → HasRoot old → ((n : Node) → old 0 ≡ Some n → (m : Node) × (new 0 ≡ Some m) × (m.prefix ≡ n.prefix)) → HasRoot new
+root_there : (at : ℕ → Option Node) → HasRoot at → IsSome (at 0)
+root_there at (root, is, _) = ap is_some is
+
+pub HasRoot-kept : (old new : ℕ → Option Node) → HasRoot old → ((n : Node) → old 0 ≡ Some n → (m : Node) × (new 0 ≡ Some m) × (m.prefix ≡ n.prefix)) → HasRoot new
 HasRoot-kept old new (root, is, prefix_is) keeps = let (m, is', same) = keeps root is in (m, is', same ∙ prefix_is)
+
+pub still_twice : (old mid new : Slab Node) → AllStillThere old mid → AllStillThere mid new → AllStillThere old new
+still_twice old mid new first second j n is =
+    let (m, is', same) = first j n is in
+    let (m', is'', same') = second j m is' in
+    (m', is'', same' ∙ same)
 
 module _ (old mid new : Slab Node) (i key : ℕ) (high : Bool) (c : Node) (t : IsTrie old) (fits : FitsBelow old i high c) (vacant : get old key ≡ None)
     (inserted : Updates old mid key (Some c)) (linked : Updates mid new i (Some (with_child fits.parent high (Some key)))) where
@@ -69,11 +82,21 @@ module _ (old mid new : Slab Node) (i key : ℕ) (high : Bool) (c : Node) (t : I
   keeps : (k : ℕ) (m : Node) → get old k ≡ Some m → (m' : Node) × (get new k ≡ Some m') × (m'.prefix ≡ m.prefix) × (m'.number ≡ m.number)
   keeps = attached_keeps (get old) (get new) i key fits.parent (with_child fits.parent high (Some key)) c high t.tree attached
 
+  pub attached_kept : AllStillThere old new
+  attached_kept k m is = let (m', is', same, _) = keeps k m is in (m', is', same)
+
   pub attached_trie : IsTrie new
   attached_trie = IsTrie-rooted new tree' (HasRoot-kept (get old) (get new) (t.rooted i fits.parent fits.there) (λ n is. let (m, is', same, _) = keeps 0 n is in (m, is', same)))
+      (balanced_attached old mid new i key high fits.parent c (root_there (get old) (t.rooted i fits.parent fits.there)) t.balanced (inserted.others i (not_key i fits.parent fits.there) ∙ fits.there) vacant fits.counted inserted linked)
 
   pub attached_there : get new key ≡ Some c
   attached_there = let h = attached in h.new
+
+  pub attached_tight : (k : ℕ) → IsTightBut (get old) k → (key ≢ k → 2 ≤ weight c) → IsTightBut (get new) k
+  attached_tight = tight_attached (get old) (get new) i key fits.parent (with_child fits.parent high (Some key)) c high attached
+
+  pub attached_parent : (n : Node) → get old i ≡ Some n → get new i ≡ Some (with_child n high (Some key))
+  attached_parent n is = linked.changed ∙ ap (λ x. Some (with_child x high (Some key))) (same_Some fits.parent n (sym fits.there ∙ is))
 
   pub attached_absent : number_of old c.prefix ≡ None
   attached_absent = number_in-absent old.slots c.prefix (λ k m is same. absent (get old) (get new) i key fits.parent (with_child fits.parent high (Some key)) c high t.tree attached k m is (sym same))
@@ -141,11 +164,23 @@ module _ (old mid new : Slab Node) (i k : ℕ) (high : Bool) (only : Option ℕ)
         let nodes : n ≡ h.node = same_Some n h.node (sym is ∙ ap (get old) same ∙ h.is) in
         omega (arith, link_longer (get old) t.tree i k h.parent h.node high h.there h.is h.link, ap (λ x. x.prefix.len) nodes, ap (λ p. p.len) prefix_is)
 
-    pub spliced_trie : IsTrie new
-    spliced_trie =
+    pub spliced_root : HasRoot (get new)
+    spliced_root =
         let (root, is, prefix_is) = t.rooted i h.parent h.there in
         let (m, is', same) = splice_others 0 root (not_root root is prefix_is) is in
-        IsTrie-rooted new spliced' (m, is', same ∙ prefix_is)
+        (m, is', same ∙ prefix_is)
+
+    pub spliced_trie : IsTrie new
+    spliced_trie = IsTrie-rooted new spliced' spliced_root
+        (balanced_spliced old mid new i k high h.parent h.node only (root_there (get old) (t.rooted i h.parent h.there)) t.balanced h.there still_before h.link h.counted linked removed)
+
+    pub spliced_tight : IsTightBut (get old) k → IsTightBut (get new) (loosened only i)
+    spliced_tight tight = tight_spliced (get old) (get new) i k h.parent (with_child h.parent high only) h.node high spliced tight only (with_child-this h.parent high only)
+
+    pub spliced_left : IsTightBut (get old) k → (n : Node) → i ≢ 0 → get new i ≡ Some n → 1 ≤ weight n
+    spliced_left tight n root is =
+        let s = spliced in
+        subst (λ x. 1 ≤ weight x) (same_Some (with_child h.parent high only) n (sym s.relinked ∙ is)) (left_above (get old) (get new) i k h.parent (with_child h.parent high only) h.node high spliced tight root)
 
     pub spliced_numbers : h.node.number ≡ None → SameNumbers old new
     spliced_numbers none q = same_number old new t.tree spliced' q
@@ -183,6 +218,9 @@ module _ (old new : Slab Node) (i : ℕ) (n : Node) (number : Option ℕ) (t : I
         | inr differs ↦ (m, u.others k differs ∙ is', refl)
       ]
 
+  pub numbered_kept : AllStillThere old new
+  numbered_kept = new_of
+
   numbered_tree : IsTree (get new)
   numbered_tree =
       let tree = t.tree in
@@ -207,6 +245,7 @@ module _ (old new : Slab Node) (i : ℕ) (n : Node) (number : Option ℕ) (t : I
 
   pub numbered_trie : IsTrie new
   numbered_trie = IsTrie-rooted new numbered_tree (HasRoot-kept (get old) (get new) (t.rooted i n is) (λ m is'. new_of 0 m is'))
+      (balanced_numbered old new i n number (root_there (get old) (t.rooted i n is)) t.balanced is u)
 
   pub numbered_numbers : Numbers old new n.prefix number
   numbered_numbers = numbers_at old new n.prefix number (number_of-node new numbered_tree i (record n { number = number }) u.changed) (λ q differs.

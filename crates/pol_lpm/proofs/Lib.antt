@@ -9,3 +9,9 @@ pub mod Places
 pub mod Taking
 pub mod Maps
 pub mod Scan
+pub mod Reached
+pub mod StartLists
+pub mod Sums
+pub mod Balance
+pub mod Tight
+pub mod Bound

@@ -35,7 +35,7 @@ number_in-absent (Some o ∷ rest) q none =
 abbrev pub Apart : List (Option Node) → Type 0
 Apart slots = (i j : ℕ) (n m : Node) → slot slots i ≡ Some n → slot slots j ≡ Some m → n.prefix ≡ m.prefix → i ≡ j
 
-apart_tail : (o : Option Node) (rest : List (Option Node)) → Apart (o ∷ rest) → Apart rest
+pub apart_tail : (o : Option Node) (rest : List (Option Node)) → Apart (o ∷ rest) → Apart rest
 apart_tail o rest apart i j n m is is' same = omega (arith, apart (suc i) (suc j) n m is is' same)
 
 -- the number of a node is that of its prefix

@@ -11,6 +11,7 @@ use Rattle.pol_addr.specs.Prefix.{host_prefix, contains, covers}
 use Rattle.pol_addr.proofs.Containment.{contains-covers}
 use Rattle.pol_lpm.specs.declared.node.Node.{Node}
 use Rattle.pol_addr.specs.Order.{prefix_cmp}
+use Rattle.pol_lpm.specs.Sizes.{IsTight}
 use Rattle.pol_lpm.specs.Table.{IsLongestMatch, NoneMatches}
 use Rattle.pol_lpm.specs.Trie.{IsTree, IsTrie, numbered, number_of, map_of, Numbers, SameNumbers, IsNumberOver, NoNumberOver}
 use Rattle.pol_addr.proofs.Order.{prefix_cmp_total, prefix_cmp-IsAntisymmetric}
@@ -33,15 +34,17 @@ map_of-remove old new p numbers =
 
 -- more room changes nothing
 pub IsTrie-room : (s new : Slab Node) → new ≡ record s { capacity = new.capacity } → IsTrie s → IsTrie new
-IsTrie-room s new same t = subst IsTrie (sym same) (record { fresh = t.fresh; rooted = t.rooted; tree = t.tree })
+IsTrie-room s new same t = subst IsTrie (sym same) (record { fresh = t.fresh; rooted = t.rooted; tree = t.tree; balanced = t.balanced })
+
+pub tight_room : (s new : Slab Node) → new ≡ record s { capacity = new.capacity } → IsTight s → IsTight new
+tight_room s new same tight i n root other is = tight i n root other (sym (ap (λ x. get x i) same) ∙ is)
 
 pub numbers_room : (s new : Slab Node) → new ≡ record s { capacity = new.capacity } → SameNumbers s new
 numbers_room s new same q = ap (λ x. number_of x q) same
 
--- room, a root and then a number
-pub numbers_put : (s room rooted new : Slab Node) (p : Prefix) (x : Option ℕ) → SameNumbers s room → SameNumbers room rooted → Numbers rooted new p x → Numbers s new p x
-numbers_put s room rooted new p x first second third q =
-    third q ∙ ap (cond (eq_by_cmp prefix_cmp q p) x) (second q ∙ first q)
+-- a number that comes after a change that left all numbers
+pub numbers_after : (old mid new : Slab Node) (p : Prefix) (x : Option ℕ) → SameNumbers old mid → Numbers mid new p x → Numbers old new p x
+numbers_after old mid new p x first second q = second q ∙ ap (cond (eq_by_cmp prefix_cmp q p) x) (first q)
 
 -- ---- the longest match
 node_found : (s : Slab Node) (t : IsTree (get s)) (p : Prefix) → IsSome (map.get (map_of s) p) → (x : ℕ) × HasNumber s p x

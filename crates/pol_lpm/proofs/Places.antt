@@ -1,5 +1,5 @@
 -- Where a new prefix belongs.
-use Rattle.std.proofs.Common.{◌≡◌, ◌≢◌, ℕ, ◌<◌, ◌≤◌, subst, Bool, true, false, cond, IsSome, Option, Some, None, refl, sym, ap, ◌∙◌, inl, inr, arith}
+use Rattle.std.proofs.Common.{◌≡◌, ◌≢◌, ℕ, ◌+◌, ◌<◌, ◌≤◌, subst, Bool, true, false, cond, IsSome, Option, Some, None, refl, sym, ap, ◌∙◌, inl, inr, arith}
 use Rattle.std.proofs.lemmas.Option.{none-some, same_Some}
 use Rattle.std.proofs.lemmas.Bool.{cases_eq}
 use Rattle.slab.specs.Slab.{Slab, get, Updates}
@@ -15,6 +15,10 @@ use Rattle.pol_lpm.specs.Trie.{child, with_child, IsTree, IsTrie, IsDeepest, IsS
 use Rattle.pol_addr.proofs.Halves.{covers_len, half_no_cover, half_moved}
 use Rattle.pol_addr.proofs.Order.{cases_same, tied_same, not_tied}
 use Rattle.pol_lpm.proofs.Numbers.{same_number}
+use Rattle.pol_lpm.specs.Links.{key_of}
+use Rattle.pol_lpm.specs.Sizes.{sum_of, one, count, links, IsTightBut}
+use Rattle.pol_lpm.proofs.Balance.{leaf_of, key_of-next, count_none}
+use Rattle.pol_lpm.proofs.Sums.{sum_none, sum_updated}
 use Rattle.pol_lpm.proofs.Edits.{link_longer}
 
 pub none_from_test : (o : Option Node) → (IsSome o → ⊥) → o ≡ None
@@ -37,7 +41,7 @@ spot_at s p i n b len valid d is len_is bit =
 
 -- ---- the first node
 module _ (old new : Slab Node) (key : ℕ) (root : Node) (none : (i : ℕ) (n : Node) → get old i ≡ Some n → ⊥) (u : Updates old new key (Some root))
-    (prefix_is : root.prefix ≡ world) (no_number : root.number ≡ None) (no_low : root.low ≡ None) (no_high : root.high ≡ None) where
+    (prefix_is : root.prefix ≡ world) (no_number : root.number ≡ None) (no_low : root.low ≡ 0) (no_high : root.high ≡ 0) where
   only_root : (i : ℕ) (n : Node) → get new i ≡ Some n → (i ≡ key) × (n ≡ root)
   only_root i n is =
       elim (cases_eq i key) [
@@ -46,8 +50,8 @@ module _ (old new : Slab Node) (key : ℕ) (root : Node) (none : (i : ℕ) (n : 
       ]
 
   no_child : (d : Bool) → child root d ≡ None
-  no_child true = no_high
-  no_child false = no_low
+  no_child true = ap key_of no_high
+  no_child false = ap key_of no_low
 
   root_valid : IsPrefix root.prefix
   root_valid = subst IsPrefix (sym prefix_is) world-IsPrefix
@@ -61,6 +65,16 @@ module _ (old new : Slab Node) (key : ℕ) (root : Node) (none : (i : ℕ) (n : 
     apart = λ i j n m is is_m _. (only_root i n is).0 ∙ sym (only_root j m is_m).0;
   }
 
+  none_before : (i : ℕ) → get old i ≡ None
+  none_before i = go (get old i) refl
+    where
+      go : (o : Option Node) → get old i ≡ o → o ≡ None
+      go None is = refl
+      go (Some n) is = absurd (none i n is)
+
+  first_sum : (f : Node → ℕ) → sum_of f new.slots + 0 ≡ 0 + f root
+  first_sum f = sum_updated f old new key None (Some root) (none_before key) u ∙ ap (λ x. x + f root) (sum_none f old.slots none_before)
+
   pub root_trie : key ≡ 0 → IsTrie new
   root_trie first =
       let there : get new 0 ≡ Some root = ap (get new) (sym first) ∙ u.changed in
@@ -68,7 +82,11 @@ module _ (old new : Slab Node) (key : ℕ) (root : Node) (none : (i : ℕ) (n : 
         fresh = λ missing. absurd (none-some root (sym missing ∙ there));
         rooted = λ i n is. (root, there, prefix_is);
         tree = root_tree;
+        balanced = λ _. omega (arith, first_sum links, first_sum one, ap (λ x. count (key_of x)) no_low, ap (λ x. count (key_of x)) no_high);
       }
+
+  pub root_tight : IsTightBut (get new) key
+  root_tight i n _ other is = absurd (other (only_root i n is).0)
 
   pub root_numbers : IsTrie old → SameNumbers old new
   root_numbers t q = same_number old new t.tree root_tree q
@@ -76,8 +94,9 @@ module _ (old new : Slab Node) (key : ℕ) (root : Node) (none : (i : ℕ) (n : 
       (λ x h. absurd (none-some x (sym no_number ∙ ap (λ y. y.number) (sym (only_root h.key h.node h.there).1) ∙ h.number)))
 
 -- ---- a node that fits
-abbrev pub leaf_of : Prefix → Option ℕ → Node
-leaf_of p number = record { prefix = p; number = number; low = None; high = None }
+links_over : (p : Prefix) (number : Option ℕ) (b : Bool) (k : ℕ) → links (with_child (leaf_of p number) b (Some k)) ≡ 1
+links_over p number true k = let one_more : count (key_of (k + 1)) ≡ 1 = ap count (key_of-next k) in omega (arith, one_more)
+links_over p number false k = let one_more : count (key_of (k + 1)) ≡ 1 = ap count (key_of-next k) in omega (arith, one_more)
 
 leaf_child : (p : Prefix) (number : Option ℕ) (d : Bool) → child (leaf_of p number) d ≡ None
 leaf_child p number true = refl
@@ -91,18 +110,19 @@ fits_leaf s i high n p number is valid under free = record {
   under = under;
   moved = λ d k link. absurd (none-some k (sym (leaf_child p number d) ∙ link));
   below = λ k m link _. absurd (free k link);
+  counted = sym (count_none (child n high) free);
 }
 
 -- the only child of a leaf that got one
 only_child : (p : Prefix) (number : Option ℕ) (b d : Bool) (k l : ℕ) → child (with_child (leaf_of p number) b (Some k)) d ≡ Some l → (d ≡ b) × (l ≡ k)
-only_child p number true true k l link = (refl, sym (same_Some k l link))
+only_child p number true true k l link = (refl, sym (same_Some k l (sym (key_of-next k) ∙ link)))
 only_child p number true false k l link = absurd (none-some l link)
 only_child p number false true k l link = absurd (none-some l link)
-only_child p number false false k l link = (refl, sym (same_Some k l link))
+only_child p number false false k l link = (refl, sym (same_Some k l (sym (key_of-next k) ∙ link)))
 
 its_child : (p : Prefix) (number : Option ℕ) (b : Bool) (k : ℕ) → child (with_child (leaf_of p number) b (Some k)) b ≡ Some k
-its_child p number true k = refl
-its_child p number false k = refl
+its_child p number true k = key_of-next k
+its_child p number false k = key_of-next k
 
 pub over_prefix : (p : Prefix) (number : Option ℕ) (b : Bool) (k : Option ℕ) → (with_child (leaf_of p number) b k).prefix ≡ p
 over_prefix p number true k = refl
@@ -127,6 +147,7 @@ fits_over s i high n p number b k m is valid under link is_m over =
           let key : l ≡ k = same_Some l k (sym link' ∙ link) in
           let node : m' ≡ m = same_Some m' m (sym is' ∙ ap (get s) key ∙ is_m) in
           (b, its_child p number b k ∙ ap Some (sym key), half_moved p _ m.prefix m'.prefix b b same refl (ap (λ x. x.prefix) node) over);
+      counted = links_over p number b k ∙ sym (ap count link);
     }
 
 -- without a root there is no node
@@ -173,7 +194,7 @@ module _ (s : Slab Node) (t : IsTree (get s)) (p : Prefix) (i : ℕ) (high : Boo
         fits_over s i high spot.parent fork number (bit_of m.prefix fork.len) k m spot.there valid under link is (covers_half fork m.prefix valid_m that fork_over_node)
 
     -- the two lie in different halves of the fork
-    fork_parts : bit_of p fork.len ≡ bit_of m.prefix fork.len → ⊥
+    pub fork_parts : bit_of p fork.len ≡ bit_of m.prefix fork.len → ⊥
     fork_parts same =
         let over = covers_half fork p spot.valid this fork_over_new in
         let over' = covers_half fork m.prefix valid_m that fork_over_node in

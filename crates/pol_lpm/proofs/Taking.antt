@@ -1,7 +1,7 @@
 -- Where a prefix stands, and what a node has below it.
-use Rattle.std.proofs.Common.{◌≡◌, ◌≢◌, ℕ, ◌<◌, Bool, true, false, IsSome, if◌then◌else◌, Option, Some, None, refl, sym, ap, ◌∙◌, inl, inr, arith}
+use Rattle.std.proofs.Common.{◌≡◌, ◌≢◌, ℕ, ◌<◌, subst, Bool, true, false, IsSome, if◌then◌else◌, Option, Some, None, refl, sym, ap, ◌∙◌, inl, inr, arith}
 use Rattle.std.proofs.lemmas.Option.{none-some, same_Some}
-use Rattle.std.proofs.lemmas.Bool.{cases_lt}
+use Rattle.std.proofs.lemmas.Bool.{cases_lt, both_ways}
 use Rattle.std.specs.Option.{option_or}
 use Rattle.slab.specs.Slab.{Slab, get}
 use Rattle.pol_addr.specs.declared.network.Prefix.{Prefix}
@@ -9,14 +9,17 @@ use Rattle.pol_addr.specs.Cidr.{IsPrefix}
 use Rattle.pol_addr.specs.Prefix.{half, covers}
 use Rattle.pol_addr.proofs.Containment.{covers_from_half, covers_refl, same_from_covered}
 use Rattle.pol_lpm.specs.declared.node.Node.{Node}
-use Rattle.pol_lpm.specs.Trie.{child, IsTree, IsTrie, IsSpot, IsNodeOf, HasOnly, Numbers, number_of}
+use Rattle.pol_lpm.specs.Trie.{child, IsTree, IsTrie, IsSpot, IsNodeOf, HasOnly, Numbers, StillThere, StillThereOutside, number_of}
 use Rattle.pol_addr.proofs.Halves.{covers_len}
 use Rattle.pol_lpm.proofs.Lookup.{number_in-absent}
 use Rattle.pol_lpm.proofs.Numbers.{number_of-node, numbers_at}
 use Rattle.pol_addr.proofs.World.{world_from_len}
+use Rattle.pol_lpm.specs.Links.{key_of}
+use Rattle.pol_lpm.specs.Sizes.{count}
+use Rattle.pol_lpm.proofs.Balance.{links-only}
 use Rattle.pol_lpm.proofs.Edits.{link_longer}
 
-some_from_test : (o : Option Node) → IsSome o → (n : Node) × (o ≡ Some n)
+pub some_from_test : (o : Option Node) → IsSome o → (n : Node) × (o ≡ Some n)
 some_from_test None some = absurd (cc)
 some_from_test (Some n) some = (n, refl)
 
@@ -43,10 +46,32 @@ in_spot s t p i high spot j n is same =
 pub spot_shorter : (s : Slab Node) (t : IsTree (get s)) (p : Prefix) (i : ℕ) (high : Bool) (spot : IsSpot s p i high) → spot.parent.prefix.len < p.len
 spot_shorter s t p i high spot = (covers_from_half spot.parent.prefix p high (t.valid i spot.parent spot.there) spot.valid spot.under).1
 
+pub spot_over : (s : Slab Node) (t : IsTree (get s)) (p : Prefix) (i : ℕ) (high : Bool) (spot : IsSpot s p i high) (n : Node) → get s i ≡ Some n → covers n.prefix p ≡ true
+spot_over s t p i high spot n is =
+    ap (λ x. covers x.prefix p) (same_Some n spot.parent (sym is ∙ spot.there)) ∙ (covers_from_half spot.parent.prefix p high (t.valid i spot.parent spot.there) spot.valid spot.under).0
+
 pub spot_apart : (s : Slab Node) (t : IsTree (get s)) (n : Node) (i j : ℕ) (high : Bool) (spot : IsSpot s n.prefix i high) → get s j ≡ Some n → i ≢ j
 spot_apart s t n i j high spot is same =
     let nodes : spot.parent ≡ n = same_Some spot.parent n (sym spot.there ∙ ap (get s) same ∙ is) in
     omega (arith, spot_shorter s t n.prefix i high spot, ap (λ x. x.prefix.len) nodes)
+
+-- only the root has the prefix of length 0
+pub root_key : (s : Slab Node) → IsTrie s → (i : ℕ) (n : Node) → get s i ≡ Some n → n.prefix.len ≡ 0 → i ≡ 0
+root_key s t i n is zero =
+    let (root, there, prefix_is) = t.rooted i n is in
+    let tree = t.tree in
+    tree.apart i 0 n root is there (world_from_len n.prefix (tree.valid i n is) zero ∙ sym prefix_is)
+
+pub below_root : (s : Slab Node) → IsTrie s → (i : ℕ) (n : Node) → get s i ≡ Some n → i ≢ 0 → 0 < n.prefix.len
+below_root s t i n is other =
+    elim (cases_lt 0 n.prefix.len) [
+      | inl longer ↦ longer
+      | inr none ↦ absurd (other (root_key s t i n is (omega (arith, none))))
+    ]
+
+-- the spot of a node is that of its prefix
+pub spot_of_node : (s : Slab Node) (m : Node) (i j : ℕ) (high : Bool) → get s j ≡ Some m → IsSpot s m.prefix i high → (n : Node) → get s j ≡ Some n → IsSpot s n.prefix i high
+spot_of_node s m i j high is spot n is' = subst (λ x. IsSpot s x.prefix i high) (same_Some m n (sym is ∙ is')) spot
 
 -- ---- what is below a node with at most one child
 moved_by : (low high : Option ℕ) → (IsSome low → IsSome high → ⊥) → (d : Bool) (l : ℕ) → (if d then high else low) ≡ Some l → option_or low high ≡ Some l
@@ -60,15 +85,20 @@ from_one : (low high : Option ℕ) (l : ℕ) → option_or low high ≡ Some l �
 from_one None high l link = (true, link)
 from_one (Some x) high l link = (false, link)
 
-pub has_only : (s : Slab Node) (t : IsTree (get s)) (i j : ℕ) (high : Bool) (n : Node) (only : Option ℕ) (spot : IsSpot s n.prefix i high) → get s j ≡ Some n → only ≡ option_or n.low n.high → (IsSome n.low → IsSome n.high → ⊥) → HasOnly s i high j only
+side : (n : Node) (d : Bool) → (if d then key_of n.high else key_of n.low) ≡ child n d
+side n true = refl
+side n false = refl
+
+pub has_only : (s : Slab Node) (t : IsTree (get s)) (i j : ℕ) (high : Bool) (n : Node) (only : Option ℕ) (spot : IsSpot s n.prefix i high) → get s j ≡ Some n → only ≡ option_or (key_of n.low) (key_of n.high) → (IsSome (key_of n.low) → IsSome (key_of n.high) → ⊥) → HasOnly s i high j only
 has_only s t i j high n only spot is only_is one = record {
   parent = spot.parent;
   there = spot.there;
   link = in_spot s t n.prefix i high spot j n is refl;
   node = n;
   is = is;
-  moved = λ d l link. only_is ∙ moved_by n.low n.high one d l link;
-  from = λ l link. from_one n.low n.high l (sym only_is ∙ link);
+  moved = λ d l link. only_is ∙ moved_by (key_of n.low) (key_of n.high) one d l (side n d ∙ link);
+  from = λ l link. let (d, is_d) = from_one (key_of n.low) (key_of n.high) l (sym only_is ∙ link) in (d, sym (side n d) ∙ is_d);
+  counted = links-only (key_of n.low) (key_of n.high) one ∙ ap count (sym only_is);
 }
 
 -- ---- numbers
@@ -82,3 +112,14 @@ pub number_of-at : (s : Slab Node) (t : IsTree (get s)) (p : Prefix) (i : ℕ) (
 number_of-at s t p i n h is =
     let same : h.node ≡ n = same_Some h.node n (sym h.there ∙ is) in
     ap (number_of s) (sym h.prefix ∙ ap (λ x. x.prefix) same) ∙ number_of-node s t i n is
+
+-- ---- nodes that are still there
+pub pruned_kept : (old new : Slab Node) (j : ℕ) (m : Node) (over : Prefix) → get old j ≡ Some m → covers over m.prefix ≡ true → StillThere old new j → StillThereOutside old new over
+pruned_kept old new j m over is covered still k n outside is_n =
+    still k n (λ same. both_ways _ outside (ap (λ x. covers over x.prefix) (same_Some n m (sym is_n ∙ ap (get old) same ∙ is)) ∙ covered)) is_n
+
+pub kept_twice : (old mid new : Slab Node) (over : Prefix) → StillThereOutside old mid over → StillThereOutside mid new over → StillThereOutside old new over
+kept_twice old mid new over first second k n outside is =
+    let (m, is', same) = first k n outside is in
+    let (m', is'', same') = second k m (ap (covers over) same ∙ outside) is' in
+    (m', is'', same' ∙ same)

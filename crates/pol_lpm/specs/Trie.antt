@@ -10,10 +10,12 @@ use Rattle.pol_addr.specs.Prefix.{world, bit_of, half, covers}
 use Rattle.pol_lpm.specs.declared.node.Node.{Node}
 use Rattle.pol_addr.specs.Order.{prefix_cmp}
 use Rattle.pol_lpm.specs.Table.{PrefixMap}
+use Rattle.pol_lpm.specs.Links.{key_of, link_of}
+use Rattle.pol_lpm.specs.Sizes.{count, links, IsBalanced}
 
 -- the key of the child on the side of this bit
 abbrev pub child : Node → Bool → Option ℕ
-child n high = if high then n.high else n.low
+child n high = key_of (if high then n.high else n.low)
 
 -- Which nodes stand under which keys. A node's child on a side covers each node whose prefix lies in that half.
 pub record IsTree (at : ℕ → Option Node) : Type 0 where
@@ -26,16 +28,17 @@ pub record IsTree (at : ℕ → Option Node) : Type 0 where
 abbrev pub HasRoot : (ℕ → Option Node) → Type 0
 HasRoot at = (root : Node) × (at 0 ≡ Some root) × (root.prefix ≡ world)
 
--- the root is there as soon as any node is
+-- The root is there as soon as any node is, and each other node stands right below one.
 pub record IsTrie (s : Slab Node) : Type 0 where
   pub fresh : get s 0 ≡ None → s.vacant_key ≡ 0
   pub rooted : (i : ℕ) (n : Node) → get s i ≡ Some n → HasRoot (get s)
   pub tree : IsTree (get s)
+  pub balanced : IsBalanced s
 
 -- the node with this key below it on this side
 abbrev pub with_child : Node → Bool → Option ℕ → Node
-with_child n true key = record n { high = key }
-with_child n false key = record n { low = key }
+with_child n true key = record n { high = link_of key }
+with_child n false key = record n { low = link_of key }
 
 -- the key of the child on the side of the target, where the target is longer
 abbrev pub child_toward : Node → Prefix → Option ℕ
@@ -94,6 +97,7 @@ pub record FitsBelow (s : Slab Node) (i : ℕ) (high : Bool) (c : Node) : Type 0
   pub under : covers (half parent.prefix high) c.prefix ≡ true
   pub moved : (d : Bool) (k : ℕ) → child c d ≡ Some k → (m : Node) × (get s k ≡ Some m) × (covers (half c.prefix d) m.prefix ≡ true)
   pub below : (k : ℕ) (m : Node) → child parent high ≡ Some k → get s k ≡ Some m → (d : Bool) × (child c d ≡ Some k) × (covers (half c.prefix d) m.prefix ≡ true)
+  pub counted : links c ≡ count (child parent high)
 
 -- a node stands below another on a side, and has at most this one child
 pub record HasOnly (s : Slab Node) (i : ℕ) (high : Bool) (k : ℕ) (only : Option ℕ) : Type 0 where
@@ -104,6 +108,7 @@ pub record HasOnly (s : Slab Node) (i : ℕ) (high : Bool) (k : ℕ) (only : Opt
   pub is : get s k ≡ Some node
   pub moved : (d : Bool) (l : ℕ) → child node d ≡ Some l → only ≡ Some l
   pub from : (l : ℕ) → only ≡ Some l → (d : Bool) × (child node d ≡ Some l)
+  pub counted : links node ≡ count only
 
 -- the prefix of a node with its number, if it has one, before the rest
 abbrev pub entry_before : Prefix → Option ℕ → List (Prefix × ℕ) → List (Prefix × ℕ)
@@ -145,6 +150,15 @@ SameNumbers old new = (q : Prefix) → number_of new q ≡ number_of old q
 -- each node but this one is still there with its prefix
 abbrev pub StillThere : Slab Node → Slab Node → ℕ → Type 0
 StillThere old new k = (j : ℕ) (n : Node) → j ≢ k → get old j ≡ Some n → (m : Node) × (get new j ≡ Some m) × (m.prefix ≡ n.prefix)
+
+-- each node is still there with its prefix
+abbrev pub AllStillThere : Slab Node → Slab Node → Type 0
+AllStillThere old new = (j : ℕ) (n : Node) → get old j ≡ Some n → (m : Node) × (get new j ≡ Some m) × (m.prefix ≡ n.prefix)
+
+-- the same of each node that this prefix doesn't cover
+abbrev pub StillThereOutside : Slab Node → Slab Node → Prefix → Type 0
+StillThereOutside old new over =
+    (j : ℕ) (n : Node) → covers over n.prefix ≡ false → get old j ≡ Some n → (m : Node) × (get new j ≡ Some m) × (m.prefix ≡ n.prefix)
 
 -- the nodes as a map
 abbrev pub map_of : Slab Node → PrefixMap

@@ -1,12 +1,14 @@
 //! A table from prefixes to numbers, looked up by the longest prefix that contains an address.
 //!
-//! The table is a path-compressed binary trie, whose nodes stand under keys in one slab.
+//! The table is a path-compressed binary trie, whose nodes stand under keys in one slab. A look-up starts at the longest node
+//! over the address's first bits, which a second table keeps.
 #![tactic(auto)]
 
 mod edit;
 pub mod laws;
 mod node;
 mod put;
+mod starts;
 mod table;
 mod take;
 mod walk;

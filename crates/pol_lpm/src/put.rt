@@ -1,9 +1,10 @@
 //! A number put under a prefix.
-ghost use Rattle.std.specs.Prelude.{◌≡◌, ◌<◌, ◌≤◌, ◌+◌, ◌≢◌, Some, IsTrue};
+ghost use Rattle.std.specs.Prelude.{◌≡◌, ◌<◌, ◌≤◌, ◌^◌, ◌+◌, ◌≢◌, Some, IsTrue, true};
 ghost use Rattle.slab.specs.Slab.{get, ContainsKey, HasRoomFor, slab_len};
 ghost use Rattle.pol_addr.specs.Prefix.{covers};
 ghost use Rattle.pol_lpm.specs.declared.node.Node.{Node};
-ghost use Rattle.pol_lpm.specs.Trie.{IsTrie, HasRoot, IsSpot, Numbers, SameNumbers, child};
+ghost use Rattle.pol_lpm.specs.Sizes.{IsTight};
+ghost use Rattle.pol_lpm.specs.Trie.{IsTrie, HasRoot, IsSpot, Numbers, SameNumbers, AllStillThere, child};
 
 use crate::edit::{attach, set_number};
 use crate::node::Node;
@@ -12,12 +13,16 @@ use pol_addr::Prefix;
 use slab::Slab;
 
 /// Makes the root, if no node is there yet.
-pub(crate) fn make_root(nodes: &mut Slab<Node>)
+fn make_root(nodes: &mut Slab<Node>)
     requires trie { IsTrie nodes.old }
+    requires tight { IsTight nodes.old }
     requires room { HasRoomFor nodes.old 1 }
+    requires small { nodes.old.capacity < 2 ^ 32 }
     ensures trie { IsTrie nodes.new }
+    ensures tight { IsTight nodes.new }
     ensures rooted { HasRoot (get nodes.new) }
     ensures numbers { SameNumbers nodes.old nodes.new }
+    ensures kept { AllStillThere nodes.old nodes.new }
     ensures len { slab_len nodes.new ≤ slab_len nodes.old + 1 }
     ensures capacity { nodes.new.capacity ≡ nodes.old.capacity }
 {
@@ -26,35 +31,80 @@ pub(crate) fn make_root(nodes: &mut Slab<Node>)
     }
 }
 
-/// Puts the number under the prefix.
-pub(crate) fn put(nodes: &mut Slab<Node>, prefix: Prefix, number: u32)
+/// Puts the number under the prefix, and makes the root before, if no node is there yet. Gives the prefix of the node below
+/// which that changes nodes.
+pub(crate) fn put(nodes: &mut Slab<Node>, prefix: Prefix, number: u32) -> Prefix
     requires trie { IsTrie nodes.old }
+    requires tight { IsTight nodes.old }
+    requires room { HasRoomFor nodes.old 3 }
+    requires small { nodes.old.capacity < 2 ^ 32 }
+    ensures over { covers result prefix ≡ true }
+    ensures trie { IsTrie nodes.new }
+    ensures tight { IsTight nodes.new }
+    ensures rooted { HasRoot (get nodes.new) }
+    ensures numbers { Numbers nodes.old nodes.new prefix (Some number) }
+    ensures kept { AllStillThere nodes.old nodes.new }
+{
+    make_root(nodes);
+    put_below(nodes, prefix, number)
+}
+
+/// The same where the root is there.
+fn put_below(nodes: &mut Slab<Node>, prefix: Prefix, number: u32) -> Prefix
+    requires trie { IsTrie nodes.old }
+    requires tight { IsTight nodes.old }
     requires rooted { HasRoot (get nodes.old) }
     requires room { HasRoomFor nodes.old 2 }
+    requires small { nodes.old.capacity < 2 ^ 32 }
+    ensures over { covers result prefix ≡ true }
     ensures trie { IsTrie nodes.new }
+    ensures tight { IsTight nodes.new }
     ensures numbers { Numbers nodes.old nodes.new prefix (Some number) }
+    ensures kept { AllStillThere nodes.old nodes.new }
 {
     if prefix.len() == 0 {
         set_number(nodes, 0, Some(number));
-        return;
+        return prefix;
     }
-    let (parent, high) = spot_of(nodes, &prefix);
-    match nodes[parent].child(high) {
+    let spot = spot_of(nodes, &prefix);
+    let over = nodes[spot.0].prefix;
+    put_in(nodes, spot, prefix, number);
+    over
+}
+
+/// The same in the prefix's spot.
+fn put_in(nodes: &mut Slab<Node>, spot: (usize, bool), prefix: Prefix, number: u32)
+    requires trie { IsTrie nodes.old }
+    requires tight { IsTight nodes.old }
+    requires spot { IsSpot nodes.old prefix spot.0 spot.1 }
+    requires room { HasRoomFor nodes.old 2 }
+    requires small { nodes.old.capacity < 2 ^ 32 }
+    ensures trie { IsTrie nodes.new }
+    ensures tight { IsTight nodes.new }
+    ensures numbers { Numbers nodes.old nodes.new prefix (Some number) }
+    ensures kept { AllStillThere nodes.old nodes.new }
+{
+    match nodes[spot.0].child(spot.1) {
         None => {
-            attach(nodes, parent, high, Node::leaf(prefix, Some(number)));
+            attach(nodes, spot.0, spot.1, Node::leaf(prefix, Some(number)));
         }
-        Some(below) => put_over(nodes, (parent, high), below, prefix, number),
+        Some(below) => put_over(nodes, spot, below, prefix, number),
     }
 }
 
 /// The same where a node is in the spot already.
 fn put_over(nodes: &mut Slab<Node>, spot: (usize, bool), below: usize, prefix: Prefix, number: u32)
     requires trie { IsTrie nodes.old }
+    requires tight { IsTight nodes.old }
     requires spot { IsSpot nodes.old prefix spot.0 spot.1 }
+    requires key { below + 1 < 2 ^ 32 }
     requires link { (n : Node) → get nodes.old spot.0 ≡ Some n → child n spot.1 ≡ Some below }
     requires room { HasRoomFor nodes.old 2 }
+    requires small { nodes.old.capacity < 2 ^ 32 }
     ensures trie { IsTrie nodes.new }
+    ensures tight { IsTight nodes.new }
     ensures numbers { Numbers nodes.old nodes.new prefix (Some number) }
+    ensures kept { AllStillThere nodes.old nodes.new }
 {
     let other = nodes[below].prefix;
     if other == prefix {
@@ -76,14 +126,19 @@ fn put_beside(
     number: u32,
 )
     requires trie { IsTrie nodes.old }
+    requires tight { IsTight nodes.old }
     requires spot { IsSpot nodes.old prefix spot.0 spot.1 }
+    requires key { below + 1 < 2 ^ 32 }
     requires link { (n : Node) → get nodes.old spot.0 ≡ Some n → child n spot.1 ≡ Some below }
     requires differs { (n : Node) → get nodes.old below ≡ Some n → n.prefix ≢ prefix }
     requires parts { (n : Node) → get nodes.old below ≡ Some n → ¬ IsTrue (covers prefix n.prefix) }
     requires there { ContainsKey nodes.old below }
     requires room { HasRoomFor nodes.old 2 }
+    requires small { nodes.old.capacity < 2 ^ 32 }
     ensures trie { IsTrie nodes.new }
+    ensures tight { IsTight nodes.new }
     ensures numbers { Numbers nodes.old nodes.new prefix (Some number) }
+    ensures kept { AllStillThere nodes.old nodes.new }
 {
     let other = nodes[below].prefix;
     let fork = prefix.common(&other);

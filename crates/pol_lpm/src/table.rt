@@ -1,22 +1,28 @@
 //! The table: a trie seen as a finite map.
-ghost use Rattle.std.specs.Prelude.{◌≡◌, ◌↔◌, OnOk, OnErr, IfOk, IfSome, IsNone};
+ghost use Rattle.std.specs.Prelude.{◌≡◌, ◌+◌, ◌*◌, ◌≤◌, ◌↔◌, OnOk, OnErr, IfOk, IfSome, IsNone};
 ghost use Rattle.std.specs.FinMap as map;
 ghost use Rattle.pol_lpm.specs.Table.{IsLongestMatch, NoneMatches, look_up};
 
 use crate::node::Node;
-use crate::put::{make_root, put};
+use crate::put::put;
+use crate::starts::{copied, grow, longest_over, renew};
 use crate::take::take;
-use crate::walk::longest_over;
+use crate::walk::Reached;
 use pol_addr::{Addr, Prefix};
 use slab::Slab;
 use std::alloc::{AllocError as Memory, Global};
 use std::marker::Model;
+
+/// How many nodes there is room for, as a link to one has 32 bits.
+const MOST_NODES: usize = 4_294_967_295;
 
 /// A finite map from prefixes to numbers, in which an address is looked up by the longest prefix that contains it
 /// (longest-prefix match, RFC 4632, section 5.1).
 #[derive(Drop)]
 pub struct PrefixTable {
     nodes: Slab<Node>,
+    // In the order of their prefixes, which all have one length. None in a small table.
+    starts: Vec<Reached>,
 }
 
 impl Model for PrefixTable {
@@ -27,10 +33,12 @@ impl Model for PrefixTable {
     ghost coded = { table_code };
 
     ghost use Rattle.pol_lpm.specs.Trie.{map_of, IsTrie};
+    ghost use Rattle.pol_lpm.specs.Sizes.{IsTight};
+    ghost use Rattle.pol_lpm.specs.Starts.{AreStarts};
 
     ghost view = { λ t. map_of t.nodes };
 
-    ghost invariant = { λ t. IsTrie t.nodes };
+    ghost invariant = { λ t. IsTrie t.nodes × AreStarts t.nodes t.starts.items × IsTight t.nodes };
 }
 
 impl PrefixTable {
@@ -40,6 +48,7 @@ impl PrefixTable {
     {
         PrefixTable {
             nodes: Slab::new(alloc),
+            starts: Vec::new(alloc),
         }
     }
 
@@ -50,8 +59,12 @@ impl PrefixTable {
         ensures err { OnErr result (self.new ≡ self.old) }
     {
         self.nodes.reserve(3)?;
-        make_root(&mut self.nodes);
-        put(&mut self.nodes, prefix, number);
+        if self.nodes.capacity() > MOST_NODES {
+            return Err(Memory);
+        }
+        grow(&self.nodes, &mut self.starts)?;
+        let over = put(&mut self.nodes, prefix, number);
+        renew(&self.nodes, &mut self.starts, &over);
         Ok(())
     }
 
@@ -60,7 +73,9 @@ impl PrefixTable {
         ensures value { result ≡ map.get self.old prefix }
         ensures rest { self.new ≡ map.remove self.old prefix }
     {
-        take(&mut self.nodes, &prefix)
+        let (number, over) = take(&mut self.nodes, &prefix)?;
+        renew(&self.nodes, &mut self.starts, &over);
+        Some(number)
     }
 
     /// The number of the longest prefix that contains the address: None exactly where none does. It takes no memory.
@@ -69,16 +84,25 @@ impl PrefixTable {
         ensures found { IfSome result (IsLongestMatch self.now addr) }
         ensures none { IsNone result ↔ NoneMatches self.now addr }
     {
-        longest_over(&self.nodes, &Prefix::host(addr))
+        longest_over(&self.nodes, self.starts.as_slice(), addr)
+    }
+
+    /// How many nodes it takes: each prefix has one, and there are at most twice as many and one more. So what `remove` leaves
+    /// empty is free again, and a copy takes no more.
+    pub fn nodes(&self) -> usize
+        ensures least { map.len self.now ≤ result }
+        ensures most { result ≤ 2 * map.len self.now + 1 }
+    {
+        self.nodes.len()
     }
 
     /// The same table once more. The one error is want of memory.
     pub fn copy(&self, alloc: Global) -> Result<PrefixTable, Memory>
         ensures { IfOk result (λ copy. copy ≡ self.now) }
     {
-        let _ = alloc;
         Ok(PrefixTable {
             nodes: self.nodes.clone()?,
+            starts: copied(alloc, self.starts.as_slice())?,
         })
     }
 }

@@ -1,8 +1,9 @@
 //! Walks from the root down to a prefix.
-ghost use Rattle.std.specs.Prelude.{◌≡◌, ◌<◌, ◌≤◌, IfSome, IfNone, Some};
+ghost use Rattle.std.specs.Prelude.{◌≡◌, ◌+◌, ◌<◌, ◌≤◌, IfSome, IfNone, Some};
 ghost use Rattle.slab.specs.Slab.{get};
 ghost use Rattle.pol_addr.specs.Cidr.{IsPrefix};
-ghost use Rattle.pol_lpm.specs.Trie.{IsTrie, HasRoot, child_toward, StandsOver, IsDeepest, NoneBetween, IsNumberOver, NoNumberOver, IsSpot, len_at};
+ghost use Rattle.pol_lpm.specs.Trie.{IsTrie, HasRoot, child_toward, StandsOver, IsDeepest, NoneBetween, IsSpot, len_at};
+ghost use Rattle.pol_lpm.specs.Starts.{HasReached};
 
 use crate::node::Node;
 use pol_addr::Prefix;
@@ -66,20 +67,55 @@ pub(crate) fn spot_of(nodes: &Slab<Node>, prefix: &Prefix) -> (usize, bool)
     (parent, prefix.bit(nodes[parent].prefix.len()))
 }
 
-/// The number of the longest node that covers the target.
-pub(crate) fn longest_over(nodes: &Slab<Node>, target: &Prefix) -> Option<u32>
+/// How far a walk has come: the prefix that it leads to, the longest node so far that covers it, the number of the longest
+/// of these nodes that has one, and how many it came by.
+#[derive(Clone, Copy, Debug)]
+pub(crate) struct Reached {
+    pub(crate) to: Prefix,
+    pub(crate) at: usize,
+    pub(crate) number: Option<u32>,
+    pub(crate) visits: u8,
+}
+
+/// At the root.
+pub(crate) fn at_root(nodes: &Slab<Node>, to: Prefix) -> Reached
     requires trie { IsTrie nodes.now }
-    ensures found { IfSome result (IsNumberOver nodes.now target.now) }
-    ensures none { IfNone result (NoNumberOver nodes.now target.now) }
-    ensures valid { IsPrefix target.now }
+    requires rooted { HasRoot (get nodes.now) }
+    ensures to { result.to ≡ to }
+    ensures reached { HasReached nodes.now result }
 {
-    let limit = target.len() + 1;
-    let root = nodes.get(0)?;
-    let mut at = 0;
-    let mut best = root.number;
-    while let Some(next) = step(nodes, at, target, limit) {
-        at = next;
-        best = nodes[at].number.or(best);
+    let _ = to.len();
+    Reached {
+        to,
+        at: 0,
+        number: nodes[0].number,
+        visits: 1,
     }
-    best
+}
+
+/// On to the longest node that covers the prefix. The walk comes by at most one node of each length from 0 to 32.
+pub(crate) fn to_end(nodes: &Slab<Node>, from: Reached) -> Reached
+    requires trie { IsTrie nodes.now }
+    requires reached { HasReached nodes.now from }
+    ensures to { result.to ≡ from.to }
+    ensures reached { HasReached nodes.now result }
+    ensures deepest { IsDeepest nodes.now from.to (from.to.len + 1) result.at }
+    ensures visits { result.visits ≤ 33 }
+{
+    let to = from.to;
+    let limit = to.len() + 1;
+    let mut at = from.at;
+    let mut number = from.number;
+    let mut visits = from.visits;
+    while let Some(next) = step(nodes, at, &to, limit) {
+        at = next;
+        number = nodes[at].number.or(number);
+        visits += 1;
+    }
+    Reached {
+        to,
+        at,
+        number,
+        visits,
+    }
 }

@@ -2,3 +2,4 @@ pub mod Keys
 pub mod Order
 pub mod Longest
 pub mod Equality
+pub mod KeyOrder

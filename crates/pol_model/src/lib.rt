@@ -16,8 +16,6 @@ mod request;
 mod reserved;
 mod row;
 mod row_copy;
-#[cfg(test)]
-mod row_tests;
 mod sections;
 mod size;
 

@@ -1,11 +1,11 @@
 -- Beginnings of one list, and of one history.
-use Rattle.std.proofs.Common.{◌≡◌, ℕ, ◌≤◌, true, false, cond, nat_le, take, drop, List, [], ◌∷◌, ◌++◌, length, refl, sym, ap, ◌∙◌, arith, inl, inr, append_assoc, append-nil}
+use Rattle.std.proofs.Common.{◌≡◌, ℕ, ◌≤◌, true, false, cond, nat_le, take, drop, List, [], ◌∷◌, ◌++◌, length, refl, sym, ap, ◌∙◌, arith, inl, inr, append_assoc, append-nil, subst, ◌⊎◌}
 use Rattle.std.proofs.lemmas.Bool.{cases_Bool, leb-true, leb-false}
 use Rattle.std.proofs.Math.Seq.{take-append_seam}
-use Rattle.std.proofs.lemmas.List.{take-append-drop}
+use Rattle.std.proofs.lemmas.List.{length-append, nil_from_length, take-append-drop}
 use mathlib.Core.List.{IsPrefix}
 use Rattle.pol_pool.specs.declared.seen.Seen.{Seen}
-use Rattle.pol_pool.specs.Queue.{GoesOn, IsHistory, joined, longer}
+use Rattle.pol_pool.specs.Queue.{GoesOn, IsHistory, joined, longer, seen}
 
 pub begins_itself : (xs : List ℕ) → IsPrefix xs xs
 begins_itself xs = ([], append-nil xs)
@@ -46,6 +46,16 @@ module _ (xs ys zs : List ℕ) (one : IsPrefix xs zs) (other : IsPrefix ys zs) w
   pub longer_begins : IsPrefix (longer xs ys) zs
   longer_begins = elim (nat_le (length xs) (length ys)) as (λ b. IsPrefix (cond b ys xs) zs) [ true ↦ other | false ↦ one ]
 
+-- two lists that begin each other are one
+pub begins_both : (xs ys : List ℕ) → IsPrefix xs ys → IsPrefix ys xs → xs ≡ ys
+begins_both xs ys one other =
+    let more = ap length one.1 in
+    let back = ap length other.1 in
+    let first = length-append xs one.0 in
+    let second = length-append ys other.0 in
+    let none : one.0 ≡ [] = nil_from_length one.0 (omega (arith, more, back, first, second)) in
+    sym (append-nil xs) ∙ ap (λ l. xs ++ l) (sym none) ∙ one.1
+
 -- ---- histories
 
 pub sound_from : (v : Seen) → IsPrefix v.taken v.put → IsHistory v
@@ -76,6 +86,16 @@ module _ (v w whole : Seen) (one : GoesOn v whole) (other : GoesOn w whole) wher
     put = longer_begins v.put w.put whole.put one.put other.put;
     taken = longer_begins v.taken w.taken whole.taken one.taken other.taken;
   }
+
+  whole_again : GoesOn whole (joined v w) → joined v w ≡ whole
+  whole_again it =
+      let put = begins_both (joined v w).put whole.put joined_whole.put it.put in
+      let taken = begins_both (joined v w).taken whole.taken joined_whole.taken it.taken in λ i. seen (put i) (taken i)
+
+  -- where one of two is the whole history, so is the joined one
+  pub joined_knows : (v ≡ whole) ⊎ (w ≡ whole) → joined v w ≡ whole
+  joined_knows (inl is) = whole_again (subst (λ u. GoesOn u (joined v w)) is joined_first)
+  joined_knows (inr is) = whole_again (subst (λ u. GoesOn u (joined v w)) is joined_second)
 
   -- what was taken was put before, in the history of whichever has seen more taken
   pub joined_sound : IsHistory v → IsHistory w → IsHistory (joined v w)

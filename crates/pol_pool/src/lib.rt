@@ -11,6 +11,7 @@ pub mod laws;
 mod pass;
 mod rule;
 mod seen;
+mod share;
 mod worker;
 
 pub use calls::{Calls, Over};
@@ -18,6 +19,7 @@ pub use hints::{Hints, HintsFull};
 pub use job::{Gate, Job, OpenGate};
 pub use pass::HintPass;
 pub use seen::Seen;
+pub use share::{Share, Standing};
 pub use worker::work;
 
 #[cfg(test)]

@@ -1,75 +1,76 @@
 //! The rule of the queue, and what each kind of step tells.
-use crate::seen::Seen;
+use crate::share::Standing;
 use crossbeam_queue::protocol::{Join, Lesson, Outcome, Protocol, Split};
 
-/// What was put is what was taken and then what the queue holds, and each pass has seen a beginning of both.
+/// What was put is what was taken and then what the queue holds, each pass has seen a beginning of both, and the passes
+/// share the queue.
 pub(crate) struct InOrder;
 
-impl Protocol<u32, Seen> for InOrder {
-    ghost use Rattle.std.specs.Prelude.{[]};
-    ghost use Rattle.pol_pool.specs.Queue.{IsQueue, seen};
+impl Protocol<u32, Standing> for InOrder {
+    ghost use Rattle.pol_pool.specs.Queue.{IsQueue, newly_made};
 
     ghost holds = { IsQueue };
 
-    ghost first = { seen [] [] };
+    ghost first = { newly_made };
 }
 
-/// A pass more, which has seen what this one has.
+/// A pass more, which has seen what this one has, and half of its share.
 pub(crate) struct Twice;
 
-impl Split<Seen> for Twice {
-    ghost left = { λ v. v };
+impl Split<Standing> for Twice {
+    ghost use Rattle.pol_pool.specs.Queue.{with_half};
 
-    ghost right = { λ v. v };
+    ghost left = { with_half };
+
+    ghost right = { with_half };
 }
 
-/// A pass that has seen what either has.
+/// A pass that has seen what either has, and both shares.
 pub(crate) struct Together;
 
-impl Join<Seen> for Together {
-    ghost use Rattle.std.specs.Prelude.{[]};
-    ghost use Rattle.pol_pool.specs.Queue.{joined, seen};
+impl Join<Standing> for Together {
+    ghost use Rattle.pol_pool.specs.Queue.{of_both, spent};
 
-    ghost both = { joined };
+    ghost both = { of_both };
 
-    ghost spent = { seen [] [] };
+    ghost spent = { spent };
 }
 
-/// A hint is put; a queue without room was full.
+/// A hint is put; what a queue without room held.
 pub(crate) struct Puts;
 
-impl Outcome<u32, Seen> for Puts {
-    ghost use Rattle.pol_pool.specs.Queue.{AddsPut};
+impl Outcome<u32, Standing> for Puts {
+    ghost use Rattle.pol_pool.specs.Queue.{TellsPut};
 
-    ghost then = { AddsPut };
+    ghost then = { TellsPut };
 }
 
-impl Lesson<u32, Seen> for Puts {
-    ghost use Rattle.pol_pool.specs.Queue.{Holds};
+impl Lesson<u32, Standing> for Puts {
+    ghost use Rattle.pol_pool.specs.Queue.{KnowsItems};
 
-    ghost fact = { Holds };
+    ghost fact = { KnowsItems };
 }
 
-/// A hint is taken; a queue without a hint was empty.
+/// A hint is taken; what a queue without a hint held.
 pub(crate) struct Takes;
 
-impl Outcome<u32, Seen> for Takes {
-    ghost use Rattle.pol_pool.specs.Queue.{AddsTaken};
+impl Outcome<u32, Standing> for Takes {
+    ghost use Rattle.pol_pool.specs.Queue.{TellsTaken};
 
-    ghost then = { AddsTaken };
+    ghost then = { TellsTaken };
 }
 
-impl Lesson<u32, Seen> for Takes {
-    ghost use Rattle.pol_pool.specs.Queue.{Holds};
+impl Lesson<u32, Standing> for Takes {
+    ghost use Rattle.pol_pool.specs.Queue.{KnowsItems};
 
-    ghost fact = { Holds };
+    ghost fact = { KnowsItems };
 }
 
-/// What was taken was put before.
+/// What was taken was put before, and no share is more than the whole.
 pub(crate) struct Sound;
 
-impl Lesson<u32, Seen> for Sound {
-    ghost use Rattle.pol_pool.specs.Queue.{IsHistory};
+impl Lesson<u32, Standing> for Sound {
+    ghost use Rattle.pol_pool.specs.Queue.{IsSound};
 
-    ghost fact = { λ v items. IsHistory v };
+    ghost fact = { λ v items. IsSound v };
 }

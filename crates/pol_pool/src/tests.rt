@@ -1,4 +1,5 @@
 //! What no clause says: that memory is there, that each hint is worked on once, and that workers run at the same time.
+ghost use Rattle.std.specs.Prelude.{◌≡◌, ◌≤◌, true, Some, None, IfOk};
 ghost use Rattle.pol_pool.specs.Passes.{IsHintPassOf};
 
 use crate::{Calls, Gate, HintPass, Hints, HintsFull, Job, OpenGate, Over, work};
@@ -18,6 +19,29 @@ fn hints_come_in_order_and_fit_the_room(rt: HostRuntime) -> Result<(), Fail> {
     assert!(rt; hints.take(&rt, &mut other) == Some(5));
     hints.join(&rt, &mut pass, other);
     assert!(rt; hints.take(&rt, &mut pass).is_none());
+    Ok(())
+}
+
+// What the only pass of a queue is answered: a hint that is put first is taken first, and then there is none.
+fn one_hint<R: Wait>(
+    rt: &R,
+    alloc: Global,
+    room: u32,
+    slot: u32,
+) -> Result<(bool, Option<u32>, Option<u32>), Memory>
+    requires { 1 ≤ room }
+    ensures { IfOk result (λ r. r ≡ (true, Some slot, None)) }
+{
+    let (hints, mut pass) = Hints::new(alloc, room)?;
+    let put = hints.put(rt, &mut pass, slot).is_ok();
+    let first = hints.take(rt, &mut pass);
+    let second = hints.take(rt, &mut pass);
+    Ok((put, first, second))
+}
+
+#[test]
+fn one_hint_comes_back(rt: HostRuntime) -> Result<(), Fail> {
+    assert!(rt; one_hint(&rt, rt.alloc(), 3, 7)? == (true, Some(7), None));
     Ok(())
 }
 

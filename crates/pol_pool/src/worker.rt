@@ -1,7 +1,7 @@
 //! The loop of a worker.
-ghost use Rattle.std.specs.Prelude.{OnOk};
-ghost use Rattle.pol_pool.specs.Passes.{IsHintPassOf, seen_by};
-ghost use Rattle.pol_pool.specs.Queue.{GoesOn, WasHeld};
+ghost use Rattle.std.specs.Prelude.{◌≡◌, [], OnOk};
+ghost use Rattle.pol_pool.specs.Passes.{IsHintPassOf, IsOnly, seen_by, share_of};
+ghost use Rattle.pol_pool.specs.Queue.{GoesOn, waiting};
 
 use crate::calls::{Calls, Over};
 use crate::hints::Hints;
@@ -29,7 +29,8 @@ pub fn work<J: Job, G: Gate, R: Wait>(
     requires pass { IsHintPassOf hints.now pass.old }
     ensures pass { IsHintPassOf hints.now pass.new }
     ensures seen { GoesOn (seen_by pass.old) (seen_by pass.new) }
-    ensures empty { OnOk result (WasHeld 0 (seen_by pass.new)) }
+    ensures share { share_of pass.new ≡ share_of pass.old }
+    ensures empty { OnOk result (IsOnly pass.old → waiting (seen_by pass.new) ≡ []) }
 {
     for _ in rt.forever() {
         let is_over = over.is_set();

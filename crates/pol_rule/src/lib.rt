@@ -9,8 +9,6 @@
 mod covering;
 mod fault;
 mod holding;
-#[cfg(test)]
-mod holding_tests;
 pub mod laws;
 mod policy;
 mod policy_copy;

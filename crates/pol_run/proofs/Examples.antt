@@ -10,13 +10,13 @@ use Rattle.pol_model.specs.declared.answer.FullSlot.{FullSlot}
 use Rattle.pol_model.specs.declared.options.Options.{Options}
 use Rattle.pol_model.specs.declared.request.Query.{Query}
 use Rattle.pol_model.specs.declared.row.Endpoint.{Endpoint}
+use Rattle.pol_facts.proofs.Lives.{found_back}
 use Rattle.pol_script.specs.declared.line_fault.LineFault.TheVariants as line
 use Rattle.pol_run.specs.Spots.{Spot, stands_before}
-use Rattle.pol_run.specs.History.{state_at}
+use Rattle.pol_run.specs.History.{history_of, state_at}
 use Rattle.pol_run.specs.Endpoints.{IsVerdictFor, fits_limit, size_at}
 use Rattle.pol_run.specs.RightAnswer.{IsRightVerdict}
 use Rattle.pol_run.specs.ExampleLines.{web, db}
-use Rattle.pol_run.proofs.Lives.{live_back}
 
 -- an endpoint without labels, in the first slot
 abbrev pub web_since : ℕ → Endpoint
@@ -77,7 +77,7 @@ module _ (options : Options) (spots : List Spot) (spot : Spot) (query : Query) (
     pub verdict_endpoint : right.endpoint ≡ e
     verdict_endpoint =
         found_same query.endpoint (state_at options spots revision).endpoints right.endpoint e
-        (live_back options spots revision right.moment query.endpoint right.endpoint right.by_moment right.since_added right.live.found)
+        (found_back options (history_of spots) revision right.moment query.endpoint right.endpoint right.by_moment right.since_added right.live.found)
         found
 
     -- so no verdict line before was for it at a later revision

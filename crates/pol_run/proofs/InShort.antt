@@ -9,6 +9,7 @@ use Rattle.pol_model.specs.declared.answer.FullSlot.{FullSlot}
 use Rattle.pol_model.specs.declared.options.Options.{Options}
 use Rattle.pol_model.specs.declared.request.Query.{Query}
 use Rattle.pol_model.specs.declared.request.Request.{Request}
+use Rattle.pol_facts.proofs.Lives.{found_back}
 use Rattle.pol_answer.specs.declared.answer.Answer.{Answer}
 use Rattle.pol_answer.specs.declared.answer.Answer.TheVariants as answer
 use Rattle.pol_script.specs.declared.command.Command.TheVariants as command
@@ -22,7 +23,6 @@ use Rattle.pol_run.specs.ByIndex.{IsLine, is_ok_at, ComesBefore, IsReached, IsSi
 use Rattle.pol_run.specs.InShort.{ShowsMap, IsFoundByScan, IsUnpublished, IsExact, AreExact, Says, IsRunInShort}
 use Rattle.pol_run.proofs.Lists.{every_contained, every_weaker}
 use Rattle.pol_run.proofs.Counting.{carried_once, requests_all, request_kth}
-use Rattle.pol_run.proofs.Lives.{live_back}
 use Rattle.pol_run.proofs.ByIndex.{phase_counted, spot_of, spot_listed, stands_before_known}
 use Rattle.pol_run.proofs.ByIndexCommits.{commit_of, ok_listed, commits_counted, numbers_counted, reached_to_cap}
 use Rattle.pol_run.proofs.Seen.{since_floor}
@@ -68,7 +68,7 @@ module _ (options : Options) (lines : List Line) where
     by_scan query revision word right = record {
       endpoint = right.endpoint;
       since_added = right.since_added;
-      lives = live_back options (spots_of lines) revision right.moment query.endpoint right.endpoint right.by_moment right.since_added right.live.found;
+      lives = found_back options (history_of (spots_of lines)) revision right.moment query.endpoint right.endpoint right.by_moment right.since_added right.live.found;
       scan = right.scan;
       fits = λ limit is.
           leb-true (size_at options (spots_of lines) revision right.endpoint) limit

@@ -9,7 +9,6 @@ pub mod RightLines
 pub mod SerialLaw
 pub mod SerialAnswers
 pub mod Counting
-pub mod Lives
 pub mod Caps
 pub mod ByIndex
 pub mod ByIndexCommits
@@ -23,3 +22,4 @@ pub mod OutputsInShort
 pub mod Examples
 pub mod WrongTexts
 pub mod RightExamples
+pub mod TextHistory

@@ -12,6 +12,7 @@ use Rattle.pol_model.specs.declared.answer.FullSlot.{FullSlot}
 use Rattle.pol_model.specs.declared.options.Options.{Options}
 use Rattle.pol_model.specs.declared.request.Query.{Query}
 use Rattle.pol_model.specs.declared.row.Endpoint.{Endpoint}
+use Rattle.pol_facts.proofs.Lives.{added-within}
 use Rattle.pol_answer.specs.declared.answer.Answer.{Answer}
 use Rattle.pol_answer.specs.declared.answer.Answer.TheVariants as answer
 use Rattle.pol_script.specs.declared.command.Command.TheVariants as command
@@ -20,7 +21,6 @@ use Rattle.pol_run.specs.History.{Commit, history_of, state_at}
 use Rattle.pol_run.specs.Moments.{IsMoment, floor, cap}
 use Rattle.pol_run.specs.Endpoints.{IsVerdictFor, IsSyncFor, VerdictAnswers, SyncAnswers, has_row, fits_limit, size_at}
 use Rattle.pol_run.specs.RightAnswer.{IsRightVerdict, IsRightNotYet, HasRow, IsTooLarge}
-use Rattle.pol_run.proofs.Lives.{added_within}
 
 -- ---- tests over the elements of a list
 
@@ -91,7 +91,7 @@ verdict_since options spots (Ok (command.Look session query)) (answer.Verdict re
     omega (
       arith,
       live.same,
-      added_within options (take seen (history_of spots)) name live.endpoint live.live.found,
+      (added-within options (take seen (history_of spots)) name live.endpoint live.live.found).1,
       length-take seen (history_of spots),
     )
 verdict_since options spots reading other name added seen verdict = absurd verdict

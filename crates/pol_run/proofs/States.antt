@@ -1,5 +1,5 @@
--- The state after a list of requests, and how old its endpoints are.
-use Rattle.std.proofs.Common.{◌≡◌, ℕ, zero, suc, ◌+◌, ◌≤◌, Bool, true, false, cond, not, List, [], ◌∷◌, ◌++◌, length, find, insert, count_by, nat_lt, bytes_eq, Some, refl, subst, arith}
+-- How old the endpoints of a state are.
+use Rattle.std.proofs.Common.{◌≡◌, ℕ, zero, suc, ◌+◌, ◌≤◌, Bool, true, false, cond, not, List, [], ◌∷◌, find, insert, count_by, nat_lt, bytes_eq, Some, subst, arith}
 use Rattle.std.specs.List.{AllByRecursion}
 use Rattle.pol_model.specs.State.{State}
 use Rattle.pol_model.specs.After.{after, after_all, start, state_of, new_endpoint}
@@ -8,21 +8,6 @@ use Rattle.pol_model.specs.declared.request.Request.{Request}
 use Rattle.pol_model.specs.declared.request.Request.TheVariants.{AddEndpoint, RemoveEndpoint, AddIdentity, RemoveIdentity, Apply, Remove, SetMode}
 use Rattle.pol_model.specs.declared.row.Endpoint.{Endpoint}
 use Rattle.pol_run.proofs.Lists.{every_weaker, every_filtered}
-
--- the state after a front and a back
-pub after_append : (s : State) (front back : List Request) → after_all s (front ++ back) ≡ after_all (after_all s front) back
-after_append s [] back = refl
-after_append s (request ∷ front) back = after_append (after s request) front back
-
--- each request raises the revision by one
-pub after_revision : (s : State) (requests : List Request) → (after_all s requests).revision ≡ s.revision + length requests
-after_revision s [] = omega arith
-after_revision s (request ∷ requests) = omega (arith, after_revision (after s request) requests)
-
-pub revision_of_state : (options : Options) (requests : List Request) → (state_of options requests).revision ≡ length requests
-revision_of_state options requests = omega (arith, after_revision (start options) requests)
-
--- ---- endpoints
 
 every_inserted : {X : Type 0} (P : X → Type 0) (xs : List X) (k : ℕ) (x : X) → P x → AllByRecursion P xs → AllByRecursion P (insert xs k x)
 every_inserted P [] zero x here others = (here, tt)

@@ -11,6 +11,8 @@ use Rattle.pol_model.specs.declared.answer.FullSlot.{FullSlot}
 use Rattle.pol_model.specs.declared.options.Options.{Options}
 use Rattle.pol_model.specs.declared.request.Request.{Request}
 use Rattle.pol_model.specs.declared.row.Endpoint.{Endpoint}
+use Rattle.pol_model.proofs.Histories.{state_of-revision}
+use Rattle.pol_facts.proofs.Lives.{after_append}
 use Rattle.pol_answer.specs.declared.answer.Answer.{Answer}
 use Rattle.pol_answer.specs.declared.answer.Answer.TheVariants as answer
 use Rattle.pol_script.specs.declared.command.Command.TheVariants as command
@@ -22,7 +24,6 @@ use Rattle.pol_run.specs.Serial.{state_then, state_with}
 use Rattle.pol_run.specs.SerialLines.{Seen, Shown, SerialAnswer, seen_after, shown_by, shown_at}
 use Rattle.pol_run.proofs.Lists.{every_weaker, every_append}
 use Rattle.pol_run.proofs.Numbering.{IsCountedFrom, requests_in, history_front}
-use Rattle.pol_run.proofs.States.{after_append, revision_of_state}
 use Rattle.pol_run.proofs.Indices.{spot_at, line_cases, phase_later}
 use Rattle.pol_run.proofs.Moments.{commits_append}
 
@@ -135,7 +136,7 @@ module _ (options : Options) (spots : List Spot) (s : State) (here now : ℕ) (s
       omega (
         arith,
         ap (λ (x : State). x.revision) walked.reached,
-        revision_of_state options (requests_in (commits_of front)),
+        state_of-revision options (requests_in (commits_of front)),
         length-map (commits_of front) (λ c. c.request),
       )
 

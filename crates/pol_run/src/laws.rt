@@ -1,13 +1,15 @@
 //! Laws of runs, over the definitions alone: which answers are a run, and what a run says.
-ghost use Rattle.std.specs.Prelude.{◌≡◌, ◌≤◌, ℕ, List, Option, None};
-ghost use Rattle.std.specs.List.{zip};
+ghost use Rattle.std.specs.Prelude.{◌≡◌, ◌≤◌, ℕ, List, Option, None, IsTrue};
+ghost use Rattle.std.specs.List.{list_all, zip};
 ghost use Rattle.pol_model.specs.declared.options.Options.{Options};
+ghost use Rattle.pol_run.specs.History.{commits_of, history_of};
 ghost use Rattle.pol_run.specs.InShort.{IsRunInShort, IsRunOfInShort, begins_marked};
 ghost use Rattle.pol_run.specs.Moments.{IsCutBeforeLater, cap};
 ghost use Rattle.pol_run.specs.Run.{IsRun, IsRunOf, is_marked, readings_of, status_of};
 ghost use Rattle.pol_run.specs.Serial.{serial_answers};
 ghost use Rattle.pol_run.specs.SerialLines.{IsSerial};
 ghost use Rattle.pol_run.specs.Spots.{Line, Reading, Spot, spots_of};
+ghost use Rattle.pol_answer.specs.Shown.{has_read_parts};
 ghost use Rattle.pol_answer.specs.Text.{text_of, texts_of};
 ghost use Rattle.pol_answer.specs.declared.answer.Answer.{Answer};
 
@@ -50,6 +52,18 @@ pub fn outputs_in_short()
         → IsRunOfInShort options script written ended }
     ensures all { (options : Options) (script written : List ℕ) (ended : ℕ) → IsRunOfInShort options script written ended
         → IsRunOf options script written ended }
+{}
+
+/// The history is read from the bytes of the output: whichever answers have these texts, the same lines commit,
+/// with the same requests and numbers, where the answers' parts are such as reading gives. So all the runs that an
+/// output of a script is have one history ('profile').
+pub fn the_output_tells_the_history()
+    ensures commits { (readings : List Reading) (a b : List Answer) → IsTrue (list_all has_read_parts a) → IsTrue (list_all has_read_parts b)
+        → texts_of a ≡ texts_of b → commits_of (spots_of (zip readings a)) ≡ commits_of (spots_of (zip readings b)) }
+    ensures history { (options other : Options) (script written : List ℕ) (ended : ℕ)
+        (a : IsRunOf options script written ended) (b : IsRunOf other script written ended)
+        → IsTrue (list_all has_read_parts a.answers) → IsTrue (list_all has_read_parts b.answers)
+        → history_of (spots_of (zip (readings_of script) a.answers)) ≡ history_of (spots_of (zip (readings_of script) b.answers)) }
 {}
 
 /// The cap of a line is the greatest revision whose commits hold none that stands behind the line in

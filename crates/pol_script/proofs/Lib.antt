@@ -2,3 +2,4 @@ pub mod Turns
 pub mod Json
 pub mod Cuts
 pub mod ScriptLaws
+pub mod LeastUnknown

@@ -6,3 +6,4 @@ pub mod Members
 pub mod Commands
 pub mod Reading
 pub mod Lines
+pub mod Unknown

@@ -1,8 +1,18 @@
 //! Laws of the lines of a script, over the definitions alone.
 //! Each function does nothing: its contract is the law.
-ghost use Rattle.std.specs.Prelude.{◌≡◌, ◌≢◌, ℕ, List, [], ◌∷◌, ◌++◌, IsTrue};
+ghost use Rattle.std.specs.Prelude.{◌≡◌, ◌≢◌, ℕ, false, List, [], ◌∷◌, ◌++◌, IsTrue, Result, Ok, Err};
 ghost use Rattle.std.specs.List.{flat_map, list_all};
+ghost use Rattle.serde_json.specs.Data.{Data};
+ghost use Rattle.pol_script.specs.Commands.{make};
 ghost use Rattle.pol_script.specs.Lines.{newline, lines_of, ended, is_one_line};
+ghost use Rattle.pol_script.specs.Members.{given};
+ghost use Rattle.pol_script.specs.Reading.{object_of, op_of, reading_of};
+ghost use Rattle.pol_script.specs.Table.{rows};
+ghost use Rattle.pol_script.specs.Unknown.{is_unknown, IsLeastUnknown};
+ghost use Rattle.pol_script.specs.declared.command.Command.{Command};
+ghost use Rattle.pol_script.specs.declared.line_fault.LineFault.{LineFault};
+ghost use Rattle.pol_script.specs.declared.line_fault.LineFault.TheVariants.{UnknownField};
+ghost use Rattle.pol_script.specs.declared.op.Op.{Op};
 
 /// What the lines of a script are: lines that were ended by a newline each are read again, a last piece
 /// without a newline is read as if it had one, no line holds a newline, and the lines of a script that
@@ -13,4 +23,18 @@ pub fn script_lines()
     ensures empty { lines_of [] ≡ [] }
     ensures apart { (bytes : List ℕ) → IsTrue (list_all is_one_line (lines_of bytes)) }
     ensures whole { (bytes : List ℕ) → flat_map ended (lines_of (ended bytes)) ≡ ended bytes }
+{}
+
+/// Which member a line is refused for that its operation doesn't have: where each member of the operation is
+/// there and of its form, it is the least one by the bytes of its name, in whatever order the line has
+/// them. Where there is one there is a least one, and where there is none the line is read ('profile').
+pub fn the_least_unknown_member_is_told()
+    ensures least { (line : List ℕ) (d : Data) (op : Op) (command : Result Command LineFault) (name : List ℕ)
+        → object_of line ≡ Ok d → op_of d ≡ Ok op → given (rows op) (make op) d ≡ Ok command
+        → IsLeastUnknown op d name → reading_of line ≡ Err (UnknownField name) }
+    ensures none { (line : List ℕ) (d : Data) (op : Op) (command : Result Command LineFault)
+        → object_of line ≡ Ok d → op_of d ≡ Ok op → given (rows op) (make op) d ≡ Ok command
+        → ((name : List ℕ) → is_unknown op d name ≡ false) → reading_of line ≡ command }
+    ensures some { (line : List ℕ) (d : Data) (op : Op) (other : List ℕ) → object_of line ≡ Ok d → IsTrue (is_unknown op d other)
+        → (name : List ℕ) × IsLeastUnknown op d name }
 {}

@@ -1,16 +1,16 @@
 -- Changes that are carried out one after another are those of the plan.
-use Rattle.std.proofs.Common.{◌≡◌, ℕ, suc, ◌-◌, ◌==◌, ◌<◌, ◌≤◌, Bool, true, false, cond, List, [], ◌∷◌, ◌++◌, map, find, fold, length, Option, Some, None, refl, sym, ap, ◌∙◌, subst, inl, inr, arith}
+use Rattle.std.proofs.Common.{◌≡◌, ℕ, ◌==◌, ◌<◌, ◌≤◌, true, List, [], ◌∷◌, ◌++◌, map, find, length, Option, Some, None, refl, sym, ap, ◌∙◌, subst, inl, inr, arith}
 use Rattle.std.specs.List.{AllByRecursion, filter_map, cons_option}
 use Rattle.std.specs.Option.{option_map_or}
 use Rattle.std.proofs.lemmas.Bool.{cases_eq, cond-true, cond-false, eq-eqb, ne_eqb, or_left, or_right}
 use Rattle.pol_data.proofs.Every.{every-weaker}
 use Rattle.pol_model.specs.Ascending.{Ascends}
 use Rattle.pol_model.specs.Selects.{set_at}
-use Rattle.pol_changes.specs.Log.{Log, newest, recorded}
+use Rattle.pol_changes.specs.Log.{newest, recorded}
 use Rattle.pol_selcache.specs.Cache.{Cache, IsPlanFor, IsSound, all_recorded, carried, change_at}
-use Rattle.pol_selcache.specs.Live.{Live, AreLive, is_live, where_number, with_set}
+use Rattle.pol_selcache.specs.Live.{Live, is_live, where_number, with_set}
 use Rattle.pol_selcache.specs.Moving.{each_carried, one_carried}
-use Rattle.pol_selcache.specs.Plan.{Plan, Planned, change_to, after_changes, changes_for, changed, set_in}
+use Rattle.pol_selcache.specs.Plan.{Plan, Planned, change_to, after_changes, changed, set_in}
 use Rattle.pol_selcache.specs.declared.plan.Planned.{Planned as Kept}
 use Rattle.pol_selcache.specs.Planned.{planned_in, planned_of}
 use Rattle.pol_selcache.proofs.Exact.{change_of_own, is_of}

@@ -1,6 +1,6 @@
 -- One identity comes: what a plan asks then.
-use Rattle.std.proofs.Common.{◌≡◌, ℕ, ◌==◌, ◌<◌, ◌||◌, Bool, true, false, not, List, [], ◌∷◌, map, Result, Ok, Err, OnOk, OnErr, refl, sym, ap, ◌∙◌, inl, inr}
-use Rattle.std.proofs.lemmas.Bool.{both_ways, eq-eqb, eqb-true, ne_eqb}
+use Rattle.std.proofs.Common.{◌≡◌, ℕ, ◌==◌, ◌<◌, ◌||◌, true, false, not, List, [], ◌∷◌, Result, Ok, Err, OnOk, OnErr, refl, sym, ap, ◌∙◌, inl, inr}
+use Rattle.std.proofs.lemmas.Bool.{both_ways, eq-eqb, ne_eqb}
 use Rattle.pol_labels.specs.declared.label.Label.{Label}
 use Rattle.pol_facts.specs.Holding.{has_row}
 use Rattle.pol_facts.proofs.HoldingLaws.{held_adds, held_has}
@@ -41,7 +41,7 @@ changed_lives : (changes : List Planned) (live : List Live) (n : ℕ) → is_liv
 changed_lives changes [] n = refl
 changed_lives changes (s ∷ live) n = ap (λ b. (s.number == n) || b) (changed_lives changes live n)
 
-pub change_lives : {T E : Type 0} (r : Result T E) (plan : Plan) (old new : Cache) → OnOk r ((spare : ℕ) × (new ≡ carried plan (with_room spare old))) → OnErr r (new ≡ with_room new.log.spare old)
+pub change_lives : {T E : Type 0} (r : Result T E) (plan : Plan) (old new : Cache) → OnOk r ((spare : ℕ) × (new ≡ carried plan (with_room spare old))) → OnErr r (new ≡ old)
     → (n : ℕ) → is_live n new.live ≡ is_live n old.live
 change_lives (Ok x) plan old new ok err n = ap (λ (cache : Cache). is_live n cache.live) ok.1 ∙ changed_lives plan.changes old.live n
 change_lives (Err e) plan old new ok err n = ap (λ (cache : Cache). is_live n cache.live) err

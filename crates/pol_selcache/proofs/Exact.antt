@@ -1,10 +1,10 @@
 -- A plan makes the sets exact.
-use Rattle.std.proofs.Common.{◌≡◌, ℕ, ◌==◌, ◌<◌, ◌&&◌, Bool, true, false, cond, not, List, [], ◌∷◌, ◌++◌, map, find, length, Option, Some, None, refl, sym, ap, ◌∙◌, subst, inl, inr, arith}
+use Rattle.std.proofs.Common.{◌≡◌, ℕ, ◌==◌, ◌<◌, ◌&&◌, Bool, true, false, cond, List, [], ◌∷◌, map, find, Option, Some, None, refl, sym, ap, ◌∙◌, subst, inl, inr, arith}
 use Rattle.std.specs.List.{AllByRecursion, filter_map, cons_option}
 use Rattle.std.specs.List.Sorted.{IsStrictlySortedBy}
 use Rattle.std.specs.Option.{option_map_or}
 use Rattle.std.specs.Ordering.{nat_cmp}
-use Rattle.std.proofs.lemmas.Bool.{and_parts, cases_Bool, eqb-true, eq-eqb, ne_eqb, not_from_false, true_from_ne_false}
+use Rattle.std.proofs.lemmas.Bool.{and_parts, eq-eqb, ne_eqb, not_from_false, true_from_ne_false}
 use Rattle.pol_data.proofs.Members.{In}
 use Rattle.pol_model.specs.Ascending.{Ascends}
 use Rattle.pol_model.specs.declared.row.IdentityRow.{IdentityRow}
@@ -12,7 +12,7 @@ use Rattle.pol_model.specs.Selects.{set_at}
 use Rattle.pol_model.proofs.AscendingStates.{RowsAscend}
 use Rattle.pol_changes.specs.Ids.{has, without}
 use Rattle.pol_selcache.specs.Live.{Live, AreExact}
-use Rattle.pol_selcache.specs.Plan.{Planned, is_empty, change_to, changes_for, set_in, changed}
+use Rattle.pol_selcache.specs.Plan.{Planned, is_empty, change_to, changes_for, changed}
 use Rattle.pol_selcache.proofs.Numbers.{has-without, has_none, same_numbers}
 use Rattle.pol_selcache.proofs.RowSets.{set_sorted}
 

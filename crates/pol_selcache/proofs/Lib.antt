@@ -10,3 +10,6 @@ pub mod Sound
 pub mod Staying
 pub mod Retold
 pub mod Coming
+pub mod TakenBack
+pub mod Filed
+pub mod Untried

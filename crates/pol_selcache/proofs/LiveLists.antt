@@ -1,8 +1,7 @@
 -- Changes of the live selectors, by their places, and that what lives keeps together.
-use Rattle.std.proofs.Common.{zero, suc, ◌≡◌, ℕ, ◌+◌, ◌-◌, ◌==◌, ◌<◌, ◌≤◌, ◌||◌, Bool, true, false, cond, nat_lt, List, [], ◌∷◌, ◌++◌, map, filter, find, length, slice_get, Option, Some, None, option_map, refl, sym, ap, ◌∙◌, subst, inl, inr, arith}
-use Rattle.std.specs.List.{AllByRecursion, IsDistinct, list_any}
-use Rattle.std.proofs.lemmas.Bool.{cases_Bool, cond-true, cond-false, eqb-true, eq-eqb, ne_eqb, lt-ltb, le-ltb, ltb-true}
-use Rattle.pol_data.proofs.Every.{every-append, every-kept, every-map, every-weaker}
+use Rattle.std.proofs.Common.{zero, suc, ◌≡◌, ℕ, ◌+◌, ◌-◌, ◌==◌, ◌<◌, ◌||◌, Bool, true, false, cond, nat_lt, List, [], ◌∷◌, ◌++◌, map, filter, slice_get, Some, refl, sym, ap, ◌∙◌, subst, inl, inr, arith}
+use Rattle.std.specs.List.{AllByRecursion, IsDistinct}
+use Rattle.std.proofs.lemmas.Bool.{cond-true, cond-false, eq-eqb, ne_eqb, lt-ltb, ltb-true}
 use Rattle.pol_data.proofs.Members.{In}
 use Rattle.pol_model.specs.Ascending.{Ascends}
 use Rattle.pol_model.proofs.Ascents.{filter_ascends}
@@ -34,10 +33,10 @@ module _ (n : ℕ) (change : Live → Live) where
 
   -- where it changes neither numbers nor peers
   module _ (keeps_number : (s : Live) → (change s).number ≡ s.number) (keeps_peer : (s : Live) → (change s).peer ≡ s.peer) where
-    number_kept : (s : Live) → (where_number n change s).number ≡ s.number
+    pub number_kept : (s : Live) → (where_number n change s).number ≡ s.number
     number_kept s = elim (s.number == n) as (λ b. (cond b (change s) s).number ≡ s.number) [ true ↦ keeps_number s | false ↦ refl ]
 
-    peer_kept : (s : Live) → (where_number n change s).peer ≡ s.peer
+    pub peer_kept : (s : Live) → (where_number n change s).peer ≡ s.peer
     peer_kept s = elim (s.number == n) as (λ b. (cond b (change s) s).peer ≡ s.peer) [ true ↦ keeps_peer s | false ↦ refl ]
 
     pub numbers_kept : (live : List Live) → numbers (map (where_number n change) live) ≡ numbers live

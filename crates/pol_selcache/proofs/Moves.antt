@@ -1,14 +1,12 @@
 -- What a set gains and loses as numbers come and go.
-use Rattle.std.proofs.Common.{◌≡◌, ℕ, ◌==◌, ◌&&◌, ◌||◌, Bool, true, false, not, List, [], ◌∷◌, filter, refl, sym, ap, ◌∙◌, subst}
-use Rattle.std.specs.List.{AllByRecursion, list_any}
+use Rattle.std.proofs.Common.{◌≡◌, ℕ, ◌&&◌, ◌||◌, Bool, true, false, not, List, filter, refl, sym, ap, ◌∙◌, subst}
 use Rattle.std.specs.List.Sorted.{IsStrictlySortedBy}
 use Rattle.std.specs.Ordering.{nat_cmp}
 use Rattle.std.proofs.lemmas.List.Kept.{IsStrictlySortedBy-filter}
 use Rattle.pol_model.specs.declared.row.IdentityRow.{IdentityRow}
 use Rattle.pol_model.specs.Selects.{set_at}
-use Rattle.pol_model.proofs.AscendingStates.{RowsAscend}
 use Rattle.pol_rule.specs.declared.policy.Peer.{Peer}
-use Rattle.pol_selcache.specs.Held.{selects_held}
+use Rattle.pol_ident.specs.Look.{selects_held}
 use Rattle.pol_changes.specs.Ids.{has, without}
 use Rattle.pol_selcache.specs.Live.{rows_without}
 use Rattle.pol_selcache.specs.Moving.{Moving}

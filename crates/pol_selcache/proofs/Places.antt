@@ -1,8 +1,8 @@
 -- The table's entries: where a number stands, and what a write or a removal there makes of the selectors.
-use Rattle.std.proofs.Common.{zero, suc, ◌≡◌, ℕ, ◌+◌, ◌-◌, ◌==◌, ◌<◌, ◌≤◌, ◌||◌, Bool, true, false, cond, nat_lt, List, [], ◌∷◌, ◌++◌, map, filter, find, length, take, drop, slice_get, get_or, Option, Some, None, option_map, refl, sym, ap, ◌∙◌, subst, inl, inr, arith}
-use Rattle.std.specs.List.{AllByRecursion, AllWithin, list_any, remove}
+use Rattle.std.proofs.Common.{zero, suc, ◌≡◌, ℕ, ◌-◌, ◌==◌, ◌<◌, ◌≤◌, ◌||◌, Bool, true, false, cond, nat_lt, List, [], ◌∷◌, ◌++◌, map, filter, find, length, slice_get, get_or, Option, Some, None, option_map, refl, sym, ap, ◌∙◌, subst, inl, inr, arith}
+use Rattle.std.specs.List.{AllWithin, remove}
 use Rattle.std.specs.List.Sorted.{IsNonDecreasingBy}
-use Rattle.std.proofs.lemmas.Bool.{cond-true, cond-false, eqb-true, eq-eqb, ne_eqb, lt-ltb, le-ltb, ltb-true, ltb-false, or_cases, or_left, true_from_ne_false}
+use Rattle.std.proofs.lemmas.Bool.{cond-true, cond-false, eqb-true, ne_eqb, lt-ltb, ltb-true, ltb-false, or_cases}
 use Rattle.std.specs.Arc.{arc_value}
 use Rattle.std.proofs.lemmas.Option.{slice_get-map}
 use Rattle.std.specs.Map.{keys_of, lookup, values_of}
@@ -129,12 +129,12 @@ numbers_rise (e ∷ es) ascend (suc i) zero d less within = absurd (omega arith)
 numbers_rise (e ∷ es) ascend (suc i) (suc j) d less within = numbers_rise es ascend.1 i j d (omega arith) (omega arith)
 
 -- ---- the row at a place
-row_at : (es : Entries) (i : ℕ) (r : Row) → slice_get (values_of es) i ≡ Some r → (e : Peer × Row) × (slice_get es i ≡ Some e) × (e.1 ≡ r)
+pub row_at : (es : Entries) (i : ℕ) (r : Row) → slice_get (values_of es) i ≡ Some r → (e : Peer × Row) × (slice_get es i ≡ Some e) × (e.1 ≡ r)
 row_at [] i r at = absurd (let wrong : ⊥ = cc in wrong)
 row_at (e ∷ es) zero r at = (e, refl, (let same : e.1 ≡ r = cc in same))
 row_at (e ∷ es) (suc i) r at = row_at es i r at
 
-numbered : (es : Entries) (i n : ℕ) (e : Peer × Row) → slice_get es i ≡ Some e → option_map (λ s. s.number) (slice_get (live_in es) i) ≡ Some n → e.1.number ≡ n
+pub numbered : (es : Entries) (i n : ℕ) (e : Peer × Row) → slice_get es i ≡ Some e → option_map (λ s. s.number) (slice_get (live_in es) i) ≡ Some n → e.1.number ≡ n
 numbered [] i n e at number = absurd (let wrong : ⊥ = cc in wrong)
 numbered (f ∷ es) zero n e at number = let same : f ≡ e = cc in let own : f.1.number ≡ n = cc in ap (λ g. g.1.number) (sym same) ∙ own
 numbered (f ∷ es) (suc i) n e at number = numbered es i n e at number

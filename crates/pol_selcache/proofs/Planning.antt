@@ -1,5 +1,5 @@
 -- From what a plan asks to what each selector is judged by, and back to what the plan says.
-use Rattle.std.proofs.Common.{zero, suc, if◌then◌else◌, add-one, ◌≡◌, ℕ, ◌+◌, ◌*◌, ◌<◌, ◌≤◌, ◌&&◌, Bool, true, false, cond, not, List, [], ◌∷◌, ◌++◌, map, filter, take, length, slice_get, count_by, Option, Some, None, option_map, refl, sym, ap, ◌∙◌, subst, arith}
+use Rattle.std.proofs.Common.{zero, suc, if◌then◌else◌, add-one, ◌≡◌, ℕ, ◌+◌, ◌*◌, ◌<◌, ◌≤◌, ◌&&◌, Bool, true, false, cond, not, List, [], ◌∷◌, ◌++◌, take, length, slice_get, Option, Some, None, refl, sym, ap, ◌∙◌, arith}
 use Rattle.std.specs.List.{AllByRecursion, filter_map, cons_option}
 use Rattle.std.specs.List.Sorted.{IsStrictlySortedBy}
 use Rattle.std.specs.Ordering.{nat_cmp}
@@ -91,7 +91,7 @@ pub changes_so_far : (rows : List IdentityRow) (live : List Live) (i : ℕ) (s :
 changes_so_far rows live i s at = so_far (λ t. change_to (set_at rows t.peer) t) live i s at
 
 -- the label selectors so far
-labels-cons : (t : Live) (live : List Live) → label_selectors (t ∷ live) ≡ steps_of t.peer + label_selectors live
+pub labels-cons : (t : Live) (live : List Live) → label_selectors (t ∷ live) ≡ steps_of t.peer + label_selectors live
 labels-cons t live = sum_by-cons (λ (u : Live). if is_label_peer u.peer then 1 else 0) t live
 
 labels_next : (live : List Live) (i : ℕ) (s : Live) → slice_get live i ≡ Some s → label_selectors (take (suc i) live) ≡ label_selectors (take i live) + steps_of s.peer

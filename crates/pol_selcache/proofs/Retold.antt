@@ -1,6 +1,6 @@
 -- What a selector's set was at a revision stays told while plans are carried out.
-use Rattle.std.proofs.Common.{zero, suc, ◌≡◌, ℕ, ◌+◌, ◌-◌, ◌==◌, ◌&&◌, ◌<◌, ◌≤◌, nat_lt, Bool, true, false, cond, List, [], ◌∷◌, ◌++◌, map, filter, find, fold, take, length, slice_get, Option, Some, None, option_map, refl, sym, ap, ◌∙◌, subst, inl, inr, arith}
-use Rattle.std.specs.List.{AllByRecursion, cons_option}
+use Rattle.std.proofs.Common.{zero, suc, ◌≡◌, ℕ, ◌==◌, ◌&&◌, ◌<◌, ◌≤◌, nat_lt, Bool, true, false, cond, List, [], ◌∷◌, filter, find, take, length, slice_get, Option, Some, None, option_map, refl, sym, ap, ◌∙◌, subst, inl, inr, arith}
+use Rattle.std.specs.List.{cons_option}
 use Rattle.std.specs.List.Sorted.{IsStrictlySortedBy}
 use Rattle.std.specs.Option.{option_map_or}
 use Rattle.std.specs.Ordering.{nat_cmp}
@@ -12,16 +12,16 @@ use Rattle.pol_model.specs.Selects.{set_at}
 use Rattle.pol_sets.specs.declared.sets.Move.{Move}
 use Rattle.pol_changes.specs.declared.change.Change.{Change}
 use Rattle.pol_changes.specs.Ids.{without}
-use Rattle.pol_changes.specs.Log.{Log, InOrder, is_later_of, newest, newest_of, recorded, since}
+use Rattle.pol_changes.specs.Log.{Log, InOrder, is_later_of, newest, newest_of, recorded}
 use Rattle.pol_changes.specs.Log.{IsSound as IsLog}
 use Rattle.pol_changes.specs.Net.{after_all, move_of, net}
-use Rattle.pol_changes.specs.Sets.{AllFit, Fits, IsMove}
+use Rattle.pol_changes.specs.Sets.{AllFit, IsMove}
 use Rattle.pol_changes.proofs.LogLemmas.{none_later, recorded_sound}
 use Rattle.pol_changes.proofs.NetLemmas.{after-ascends, differences_lead, net_is_exact}
-use Rattle.pol_selcache.specs.Cache.{Cache, IsPlanFor, IsSound, all_recorded, carried, change_at}
+use Rattle.pol_selcache.specs.Cache.{all_recorded, change_at}
 use Rattle.pol_selcache.specs.Live.{Live}
-use Rattle.pol_selcache.specs.Plan.{Plan, Planned, after_changes, change_to, changes_for, is_empty, set_in}
-use Rattle.pol_selcache.specs.Told.{StartsTold, StaysTold, TellsDifference, WasAt, changes_after}
+use Rattle.pol_selcache.specs.Plan.{Planned, change_to, is_empty}
+use Rattle.pol_selcache.specs.Told.{StartsTold, StaysTold, TellsDifference, changes_after}
 use Rattle.pol_selcache.proofs.Carried.{AllAfter, none_after, plan_ascends, selectors}
 use Rattle.pol_selcache.proofs.Exact.{change_of_own, found_own, is_of}
 use Rattle.pol_selcache.proofs.RowSets.{set_sorted}

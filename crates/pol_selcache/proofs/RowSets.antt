@@ -1,16 +1,15 @@
 -- Which numbers the sets of a peer over some rows have.
-use Rattle.std.proofs.Common.{◌≡◌, ℕ, ◌==◌, ◌<◌, ◌&&◌, ◌||◌, Bool, true, false, cond, not, List, [], ◌∷◌, map, filter, find, Option, Some, None, option_map, refl, sym, ap, ◌∙◌, subst, inl, inr, arith}
+use Rattle.std.proofs.Common.{◌≡◌, ℕ, ◌==◌, ◌<◌, ◌&&◌, ◌||◌, Bool, true, false, cond, not, List, [], ◌∷◌, map, filter, Option, Some, None, option_map, refl, sym, ap, ◌∙◌, subst, inl, inr, arith}
 use Rattle.std.specs.List.{AllByRecursion, list_any}
 use Rattle.std.specs.List.Sorted.{IsStrictlySortedBy}
 use Rattle.std.specs.Option.{option_and_then, option_map_or}
 use Rattle.std.proofs.lemmas.Option.{same_Some}
 use Rattle.std.specs.Ordering.{nat_cmp}
-use Rattle.std.proofs.lemmas.Bool.{cases_Bool, eqb-true, eqb-false, and_right, and_left, ne_eqb}
+use Rattle.std.proofs.lemmas.Bool.{cases_Bool, eqb-true, and_right, ne_eqb}
 use Rattle.std.proofs.lemmas.Map.Views.{any-filter_same}
 use Rattle.pol_facts.proofs.Membership.{In-filter, In-map, find-In, list_any-map, map-In}
 use Rattle.pol_facts.proofs.SelectedPeerSets.{set_ascends}
 use Rattle.pol_facts.specs.Holding.{row_of}
-use Rattle.pol_model.specs.Ascending.{Ascends}
 use Rattle.pol_model.specs.declared.row.IdentityRow.{IdentityRow}
 use Rattle.pol_model.specs.Selects.{selects_row, set_at}
 use Rattle.pol_model.proofs.AscendingStates.{RowsAscend}
@@ -19,7 +18,7 @@ use Rattle.pol_rule.specs.declared.policy.Peer.{Peer}
 use Rattle.pol_addr.specs.declared.network.Prefix.{Prefix}
 use Rattle.pol_labels.specs.declared.label.Label.{Label}
 use Rattle.pol_ident.specs.Look.{labels_at, prefix_at}
-use Rattle.pol_selcache.specs.Held.{row_with, selects_held}
+use Rattle.pol_ident.specs.Look.{selects_held}
 use Rattle.pol_changes.specs.Ids.{has}
 use Rattle.pol_selcache.specs.Live.{rows_without}
 use Rattle.std.proofs.lemmas.List.Kept.{IsStrictlySortedBy-filter}
@@ -91,20 +90,6 @@ module _ (p : Peer) where
 
 pub rows_without_ascend : (numbers : List ℕ) (rows : List IdentityRow) → RowsAscend rows → RowsAscend (rows_without numbers rows)
 rows_without_ascend numbers rows ascend = filter_ascends (λ row. row.number) (λ row. not (has row.number numbers)) rows ascend
-
--- what is told of a held number is what its row has
-pub held_is : (rows : List IdentityRow) (p : Peer) (n : ℕ) (labels : List Label) (prefix : Option Prefix) → Some labels ≡ labels_at n rows → prefix ≡ prefix_at n rows
-    → selects_row p (row_with n labels prefix) ≡ selects_held rows p n
-held_is rows p n labels prefix its_labels its_prefix = by (row_of n rows) refl
-  where
-    by : (o : Option IdentityRow) → row_of n rows ≡ o → selects_row p (row_with n labels prefix) ≡ option_map_or (selects_row p) o false
-    by None is = absurd (let none : labels_at n rows ≡ None = ap (λ o. option_map (λ (row : IdentityRow). row.labels) o) is in let wrong : ⊥ = cc in wrong)
-    by (Some row) is =
-        let at : row.number ≡ n = eqb-true row.number n (find-In (λ r. r.number == n) row rows is).1 in
-        let same_labels : labels ≡ row.labels = same_Some labels row.labels (its_labels ∙ ap (λ o. option_map (λ (r : IdentityRow). r.labels) o) is) in
-        let same_prefix : prefix ≡ row.prefix = its_prefix ∙ ap (λ o. option_and_then (λ (r : IdentityRow). r.prefix) o) is in
-        let give : ℕ → List Label → Option Prefix → Bool = λ m ls o. selects_row p (row_with m ls o) in
-        λ i. give (sym at i) (same_labels i) (same_prefix i)
 
 -- of all held numbers those that the peer selects are its set
 pub all_selected : (rows : List IdentityRow) (p : Peer) → RowsAscend rows → filter (selects_held rows p) (map (λ row. row.number) rows) ≡ set_at rows p

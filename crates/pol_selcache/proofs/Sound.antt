@@ -1,14 +1,14 @@
 -- What every cache keeps, through each call; and that its sets stay exact.
-use Rattle.std.proofs.Common.{◌≡◌, ℕ, ◌+◌, ◌-◌, ◌==◌, ◌<◌, ◌||◌, Bool, true, false, cond, nat_lt, List, [], ◌∷◌, ◌++◌, map, filter, find, Option, Some, None, Result, Ok, Err, OnOk, OnErr, option_map, refl, sym, ap, ◌∙◌, subst, arith}
+use Rattle.std.proofs.Common.{◌≡◌, ℕ, ◌+◌, ◌==◌, ◌<◌, Bool, true, false, cond, nat_lt, List, [], ◌∷◌, ◌++◌, map, find, Some, Result, Ok, Err, OnOk, OnErr, option_map, refl, sym, ap, ◌∙◌, subst, arith}
 use Rattle.std.specs.List.{AllByRecursion}
 use Rattle.std.proofs.lemmas.Bool.{eq-eqb, or_left, or_right}
 use Rattle.std.proofs.lemmas.Option.{same_Some}
 use Rattle.pol_data.proofs.Every.{every-append, every-kept, every-weaker}
-use Rattle.pol_rule.specs.declared.policy.Peer.{Peer}
 use Rattle.pol_model.specs.declared.row.IdentityRow.{IdentityRow}
 use Rattle.pol_model.specs.Selects.{set_at}
 use Rattle.pol_changes.specs.Log.{Log}
-use Rattle.pol_selcache.specs.Cache.{Cache, IsSound}
+use Rattle.pol_changes.specs.Log.{IsSound as IsLog}
+use Rattle.pol_selcache.specs.Cache.{IsSound}
 use Rattle.pol_selcache.specs.Live.{Live, AreExact, AreLive, is_live, one_less, one_more, with_numbers, where_number, with_reference, with_set, without_reference}
 use Rattle.pol_selcache.proofs.LiveLists.{numbers, numbers_kept, reference_keeps, set_keeps, unreference_keeps}
 
@@ -30,16 +30,17 @@ below_kept n change keeps_number keeps_peer next live below =
     (subst (AllByRecursion (λ m. m < next)) (sym (numbers_kept n change keeps_number keeps_peer live)) (to_numbers next live below))
 
 module _ (live : List Live) (next : ℕ) (are : AreLive live) (below : AllBelow next live) where
-  pub reference_sound : (n : ℕ) (log : Log) → IsSound (record { live = with_reference n live; next = next; log = log })
-  reference_sound n log = record { live = reference_keeps n live are; below = below_kept n one_more (λ s. refl) (λ s. refl) next live below }
+  pub reference_sound : (n : ℕ) (log : Log) → IsLog log → IsSound (record { live = with_reference n live; next = next; log = log })
+  reference_sound n log keeps = record { live = reference_keeps n live are; below = below_kept n one_more (λ s. refl) (λ s. refl) next live below; log = keeps }
 
-  pub set_sound : (n : ℕ) (set : List ℕ) (log : Log) → IsSound (record { live = with_set n set live; next = next; log = log })
-  set_sound n set log = record { live = set_keeps n set live are; below = below_kept n (with_numbers set) (λ s. refl) (λ s. refl) next live below }
+  pub set_sound : (n : ℕ) (set : List ℕ) (log : Log) → IsLog log → IsSound (record { live = with_set n set live; next = next; log = log })
+  set_sound n set log keeps = record { live = set_keeps n set live are; below = below_kept n (with_numbers set) (λ s. refl) (λ s. refl) next live below; log = keeps }
 
-  pub unreference_sound : (n : ℕ) (log : Log) → IsSound (record { live = without_reference n live; next = next; log = log })
-  unreference_sound n log = record {
+  pub unreference_sound : (n : ℕ) (log : Log) → IsLog log → IsSound (record { live = without_reference n live; next = next; log = log })
+  unreference_sound n log keeps = record {
     live = unreference_keeps n live are;
     below = every-kept (λ s. s.number < next) (λ s. nat_lt 0 s.references) _ (below_kept n one_less (λ s. refl) (λ s. refl) next live below);
+    log = keeps;
   }
 
 -- one new selector, whose number is the next

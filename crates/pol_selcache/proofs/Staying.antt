@@ -1,10 +1,10 @@
 -- Sets over rows of which some came or went.
-use Rattle.std.proofs.Common.{◌≡◌, ℕ, ◌==◌, ◌&&◌, Bool, true, false, not, List, [], ◌∷◌, map, filter, refl, sym, ap, ◌∙◌, subst}
-use Rattle.std.specs.List.{AllByRecursion, Contains, list_any}
+use Rattle.std.proofs.Common.{◌≡◌, ℕ, ◌==◌, ◌&&◌, Bool, true, false, not, List, filter, refl, sym, ap, ◌∙◌}
+use Rattle.std.specs.List.{Contains}
 use Rattle.std.specs.Ordering.{nat_cmp}
 use Rattle.std.proofs.lemmas.List.Kept.{IsStrictlySortedBy-filter}
 use Rattle.pol_data.proofs.Every.{every-weaker}
-use Rattle.pol_data.proofs.Members.{In, In-from_Contains, every-in}
+use Rattle.pol_data.proofs.Members.{In-from_Contains, every-in}
 use Rattle.pol_facts.specs.Holding.{has_row, IsPartOf}
 use Rattle.pol_facts.proofs.HoldingLaws.{part_set}
 use Rattle.pol_facts.proofs.Membership.{In-filter, In-map, list_any-In}

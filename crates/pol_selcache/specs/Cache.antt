@@ -8,6 +8,7 @@ use Rattle.pol_model.specs.Selects.{set_at}
 use Rattle.pol_facts.specs.Holding.{has_row}
 use Rattle.pol_changes.specs.declared.change.Change.{Change}
 use Rattle.pol_changes.specs.Log.{Log, newest, recorded}
+use Rattle.pol_changes.specs.Log.{IsSound as IsLog}
 use Rattle.pol_changes.specs.Ids.{has}
 use Rattle.pol_selcache.specs.Live.{Live, AreExact, AreLive, rows_without, number_of, with_reference, without_reference}
 use Rattle.pol_selcache.specs.Plan.{Plan, Planned, changes_for, changed}
@@ -18,10 +19,12 @@ pub record Cache : Type 0 where
   pub next : ℕ
   pub log : Log
 
--- What every cache keeps: the live selectors fit together, and their numbers are less than that of the next one.
+-- What every cache keeps: the live selectors fit together, their numbers are less than that of the next one, and the log
+-- keeps its own law.
 pub record IsSound (cache : Cache) : Type 0 where
   pub live : AreLive cache.live
   pub below : AllByRecursion (λ s. s.number < cache.next) cache.live
+  pub log : IsLog cache.log
 
 -- the cache with one reference more to the selector of this number, or else with a new one
 abbrev pub added_by : Option ℕ → Peer → List IdentityRow → Cache → Cache
@@ -73,7 +76,7 @@ pub record IsPlanFor (plan : Plan) (cache : Cache) : Type 0 where
 abbrev pub with_room : ℕ → Cache → Cache
 with_room spare cache = record cache { log = record cache.log { spare = spare } }
 
--- What a plan asks: its revision is above that of every change so far; the numbers that come and go are held, and none
+-- What a plan asks: its revision is 1 at least and above that of every change so far; the numbers that come and go are held, and none
 -- does both; and the sets are exact over the rows of the numbers that don't come.
 pub record MayPlan (revision : ℕ) (come gone : List ℕ) (rows : List IdentityRow) (cache : Cache) : Type 0 where
   pub newer : newest cache.log < revision

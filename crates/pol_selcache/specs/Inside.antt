@@ -1,5 +1,5 @@
 -- How the entries of the cache's table are seen. No public clause cites this module.
-use Rattle.std.specs.Prelude.{ℕ, ◌+◌, List, map}
+use Rattle.std.specs.Prelude.{List, map}
 use Rattle.std.specs.Arc.{arc_value}
 use Rattle.pol_rule.specs.declared.policy.Peer.{Peer}
 use Rattle.pol_selcache.specs.declared.table.Row.{Row}

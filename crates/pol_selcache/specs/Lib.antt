@@ -3,6 +3,8 @@ pub mod Held
 pub mod Plan
 pub mod Cache
 pub mod Inside
+pub mod Filed
+pub mod Tried
 pub mod Planned
 pub mod Moving
 pub mod Told

@@ -1,6 +1,5 @@
 -- What is given where a plan judges one selector. No public clause cites this module.
 use Rattle.std.specs.Prelude.{ℕ, ◌≡◌, true, false, List, map, fold}
-use Rattle.std.specs.List.{AllByRecursion}
 use Rattle.std.specs.List.Sorted.{IsStrictlySortedBy}
 use Rattle.std.specs.Ordering.{nat_cmp}
 use Rattle.pol_model.specs.Ascending.{Ascends}

@@ -1,5 +1,5 @@
 -- How the changes of a plan are seen. No public clause cites this module.
-use Rattle.std.specs.Prelude.{ℕ, List, map, Option, option_map}
+use Rattle.std.specs.Prelude.{List, map}
 use Rattle.std.specs.Arc.{arc_value}
 use Rattle.pol_selcache.specs.declared.plan.Planned.{Planned}
 use Rattle.pol_selcache.specs.Plan.{Planned as Change}

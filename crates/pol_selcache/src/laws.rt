@@ -8,8 +8,9 @@ ghost use Rattle.pol_labels.specs.declared.label.Label.{Label};
 ghost use Rattle.pol_model.specs.Identities.{labels_held, number_for};
 ghost use Rattle.pol_changes.specs.Ids.{has};
 ghost use Rattle.pol_changes.specs.Log.{newest};
-ghost use Rattle.pol_selcache.specs.Cache.{Cache, MayPlan};
-ghost use Rattle.pol_selcache.specs.Live.{Live, AreExact, rows_without, with_reference, without_reference};
+ghost use Rattle.pol_rule.specs.declared.policy.Peer.{Peer};
+ghost use Rattle.pol_selcache.specs.Cache.{Cache, IsSound, MayPlan, added, dropped, number_added};
+ghost use Rattle.pol_selcache.specs.Live.{Live, AreExact, is_live, rows_without, with_reference, without_reference};
 ghost use Rattle.pol_selcache.specs.Told.{StartsTold, StaysTold, TellsDifference};
 
 /// Sets that are exact stay so where identities come, over the rows without them, and where the ones that go have gone.
@@ -30,6 +31,14 @@ pub fn a_label_set_may_come()
     ensures { (labels : List Label) (rows : List OneRow) (number revision : ℕ) (cache : Cache) → Ascends (map (λ row. row.number) rows)
         → number ≡ number_for labels rows → has_row number rows ≡ false → newest cache.log < revision → AreExact rows cache.live
         → MayPlan revision (number ∷ []) [] (labels_held labels rows) cache }
+{}
+
+/// What `add` gives is live, and `drop_ref` of it takes back what `add` did: the selectors are as they were, each with
+/// its references and its set.
+pub fn a_reference_taken_back_leaves_the_selectors()
+    ensures lives { (peer : Peer) (rows : List OneRow) (cache : Cache) → is_live (number_added peer cache) (added peer rows cache).live ≡ true }
+    ensures back { (peer : Peer) (rows : List OneRow) (cache : Cache) → IsSound cache
+        → (dropped (number_added peer cache) (added peer rows cache)).live ≡ cache.live }
 {}
 
 /// What `add` gives a new selector is what all changes since the start would have made of it: over the same rows two

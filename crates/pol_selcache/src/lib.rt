@@ -6,13 +6,13 @@
 
 mod add;
 mod cache;
+mod find;
 mod ids;
 mod judge;
 pub mod laws;
 mod plan;
 mod table;
-#[cfg(test)]
-mod tests;
+mod tried;
 
 pub use cache::SelectorCache;
 pub use plan::Plan;

@@ -1,8 +1,9 @@
 //! What numbers that come and go change.
-ghost use Rattle.std.specs.Prelude.{◌≡◌, ℕ, ◌+◌, ◌≤◌, ◌*◌, ◌&&◌, ◌++◌, [], true, IfOk, OnOk, OnErr, length, option_map};
+ghost use Rattle.std.specs.Prelude.{◌≡◌, ℕ, ◌+◌, ◌≤◌, ◌*◌, ◌&&◌, ◌++◌, [], true, IfOk, OnOk, OnErr, length, max, option_map};
 ghost use Rattle.std.specs.Arc.{arc_value};
 ghost use Rattle.std.specs.List.{AllByRecursion, cons_option};
 ghost use Rattle.pol_changes.specs.Log.{newest};
+ghost use Rattle.pol_model.specs.Ascending.{Ascends};
 ghost use Rattle.pol_model.specs.Selects.{set_at};
 ghost use Rattle.pol_selcache.specs.Live.{AreExact, is_live, label_selectors, rows_without};
 ghost use Rattle.pol_selcache.specs.Held.{steps_of};
@@ -11,11 +12,13 @@ ghost use Rattle.pol_selcache.specs.Cache.{IsPlanFor, IsSound, MayPlan, carried,
 ghost use Rattle.pol_selcache.specs.Inside.{live_of};
 ghost use Rattle.pol_selcache.specs.Moving.{Moving, one_carried};
 ghost use Rattle.pol_selcache.specs.Planned.{planned_in, planned_of};
+ghost use Rattle.pol_selcache.specs.Tried.{of_numbers};
 
 use crate::SelectorCache;
 use crate::ids::{in_both, moved, set_of_slice};
 use crate::judge::selected_of;
 use crate::table::{Row, Table};
+use crate::tried::{headings_of, tried};
 use pol_changes::Change;
 use pol_data::{Memory, Steps};
 use pol_ident::Identities;
@@ -98,7 +101,33 @@ fn plan_one<L: Ledger>(
     }))
 }
 
-/// The same of each selector.
+/// The same of each selector of these numbers.
+fn plan_each<L: Ledger>(
+    alloc: Global,
+    table: &Table,
+    tried: &[u64],
+    come: &IdSet,
+    gone: &IdSet,
+    identities: &Identities,
+    steps: &mut Steps<L>,
+) -> Result<Vec<Planned>, Memory>
+    requires moving { AllByRecursion (λ s. Moving identities.now come.now gone.now s.peer s.set) table.now }
+    requires live { AllByRecursion (λ n. is_live n table.now ≡ true) tried.now }
+    requires ascend { Ascends tried.now }
+    ensures changes { IfOk result (λ changes. planned_in changes.items ≡ changes_for (rows_without gone.now identities.now) (of_numbers tried.now table.now)) }
+    ensures cost { steps.new ≤ steps.old + label_selectors table.now * length come.now }
+{
+    let mut changes = Vec::new(alloc);
+    for number in tried {
+        let (peer, row) = table.at(table.place_of(*number));
+        let change = plan_one(alloc, peer, row, come, gone, identities, steps)?;
+        push_some(&mut changes, change)?;
+    }
+    Ok(changes)
+}
+
+/// The same of each selector. Only those are tried that stand under a heading of a number that comes or goes: no other
+/// peer selects it.
 fn plan_all<L: Ledger>(
     alloc: Global,
     table: &Table,
@@ -111,19 +140,17 @@ fn plan_all<L: Ledger>(
     ensures changes { IfOk result (λ changes. planned_in changes.items ≡ changes_for (rows_without gone.now identities.now) table.now) }
     ensures cost { steps.new ≤ steps.old + label_selectors table.now * length come.now }
 {
-    let mut changes = Vec::new(alloc);
-    for place in 0..table.len() {
-        let (peer, row) = table.at(place);
-        let change = plan_one(alloc, peer, row, come, gone, identities, steps)?;
-        push_some(&mut changes, change)?;
-    }
+    let headings = headings_of(alloc, come, gone, identities)?;
+    let numbers = tried(alloc, table, &headings)?;
+    let numbers = numbers.as_slice();
+    let changes = plan_each(alloc, table, numbers, come, gone, identities, steps)?;
     Ok(changes)
 }
 
 impl SelectorCache {
     /// What changes where some numbers come and others go, which are all held now: the sets afterwards are those over the
-    /// held numbers without the ones that go. All memory is taken here, and no set is changed. `Memory` is want of
-    /// memory.
+    /// held numbers without the ones that go. All memory is taken here, and no set is changed: a plan that isn't carried
+    /// out is dropped, and leaves nothing but room. Revisions count from 1. `Memory` is want of memory.
     pub fn plan<L: Ledger>(
         &mut self,
         revision: u64,
@@ -137,6 +164,8 @@ impl SelectorCache {
         ensures exact { IfOk result (λ plan. AreExact (rows_without gone.now identities.now) (changed plan.changes self.old.live)) }
         ensures fits { IfOk result (λ plan. IsPlanFor plan self.new) }
         ensures same { self.new ≡ with_room self.new.log.spare self.old }
+        ensures reserved { IfOk result (λ plan. self.new.log.spare ≡ max self.old.log.spare (length plan.changes)) }
+        ensures err { OnErr result (self.new ≡ self.old) }
         ensures sound { IsSound self.new }
         ensures cost { steps.new ≤ steps.old + label_selectors self.old.live * length come.now }
     {
@@ -207,7 +236,7 @@ impl SelectorCache {
         requires may { MayPlan revision come.now gone.now identities.now self.old }
         ensures changed { OnOk result ((spare : ℕ) × (self.new ≡ carried (plan_for revision (rows_without gone.now identities.now) self.old.live) (with_room spare self.old))) }
         ensures exact { OnOk result (AreExact (rows_without gone.now identities.now) self.new.live) }
-        ensures err { OnErr result (self.new ≡ with_room self.new.log.spare self.old) }
+        ensures err { OnErr result (self.new ≡ self.old) }
         ensures sound { IsSound self.new }
         ensures cost { steps.new ≤ steps.old + label_selectors self.old.live * length come.now }
     {

@@ -1,11 +1,18 @@
 //! The live selectors, by peer and by number.
-ghost use Rattle.std.specs.Prelude.{◌≡◌, ◌+◌, ◌<◌, ◌++◌, nat_lt, remove, [], ◌∷◌, Some, None, true, length, map, slice_get, option_map, IfOk, OnOk, OnErr};
+ghost use Rattle.std.specs.Prelude.{◌≡◌, ℕ, ◌+◌, ◌<◌, ◌++◌, nat_lt, remove, [], ◌∷◌, Some, None, true, length, map, slice_get, option_map, IfOk, OnOk, OnErr};
 ghost use Rattle.std.specs.Arc.{arc_value};
 ghost use Rattle.std.specs.List.{AllByRecursion};
+ghost use Rattle.indexmap.specs.IndexMap.{IsUnique, get, spare};
+ghost use Rattle.pol_rule.specs.contracts.policy.PeerPartialEq.TheImpl as peers;
+ghost use Rattle.pol_changes.specs.Ids.{has};
+ghost use Rattle.pol_rule.specs.declared.policy.Peer.{Peer as OnePeer};
+ghost use Rattle.pol_selcache.specs.declared.table.Row.{Row as OneRow};
+ghost use Rattle.pol_selcache.specs.Filed.{AreAlike, IsFiledToo, IsUnfiled, stands_in};
 ghost use Rattle.pol_selcache.specs.Live.{Live, AreLive, is_live, number_of, selector_of, with_reference, with_set, without_reference};
 
 use indexmap::IndexMap;
 use pol_data::Memory;
+use pol_filing::{Filing, Heading, Headings};
 use pol_rule::Peer;
 use pol_sets::IdSet;
 use std::alloc::{AllocError, Global};
@@ -21,25 +28,29 @@ pub(crate) struct Row {
     pub(crate) references: u64,
     /// The numbers that its peer selects.
     pub(crate) set: Arc<IdSet>,
+    /// Under what its number is filed.
+    heading: Heading,
 }
 
-/// The live selectors, in the order of their numbers.
+/// The live selectors, in the order of their numbers, and their numbers filed by what their peers ask for.
 #[derive(Drop)]
 pub(crate) struct Table {
     rows: IndexMap<Peer, Row>,
+    filing: Filing,
 }
 
 impl Model for Table {
     ghost use Rattle.std.specs.Prelude.{List};
-    ghost use Rattle.pol_selcache.specs.Live.{Live, AreLive};
+    ghost use Rattle.pol_selcache.specs.Live.{Live};
 
     ghost Value = { List Live };
 
     ghost use Rattle.pol_selcache.specs.Inside.{live_in};
+    ghost use Rattle.pol_selcache.specs.Filed.{IsTable};
 
     ghost view = { λ table. live_in table.rows.entries };
 
-    ghost invariant = { λ table. AreLive (live_in table.rows.entries) };
+    ghost invariant = { λ table. IsTable table.rows.entries table.filing };
 }
 
 /// Takes out the row at a place; those behind it move up.
@@ -47,6 +58,49 @@ fn take_out(rows: &mut IndexMap<Peer, Row>, place: usize)
     ensures { rows.new.entries ≡ remove rows.old.entries place }
 {
     rows.shift_remove_index(place);
+}
+
+/// Puts a row behind the others, for which there is room.
+fn put_behind(rows: &mut IndexMap<Peer, Row>, peer: Peer, row: Row)
+    requires room { 0 < spare rows.old }
+    requires new { get peers.ghosts.eq rows.old peer ≡ None }
+    ensures behind { rows.new.entries ≡ rows.old.entries ++ (peer, row) ∷ [] }
+    ensures apart { IsUnique peers.ghosts.eq rows.new }
+{
+    match rows.insert(peer, row) {
+        Ok(_) => (),
+        Err(_) => unreachable!(),
+    }
+}
+
+/// Puts a row behind the others, and files its number. After an error all is as before.
+fn add_row(
+    rows: &mut IndexMap<Peer, Row>,
+    filing: &mut Filing,
+    alloc: Global,
+    peer: Peer,
+    row: Row,
+) -> Result<(), Memory>
+    requires new { get peers.ghosts.eq rows.old peer ≡ None }
+    ensures behind { OnOk result (rows.new.entries ≡ rows.old.entries ++ (peer, row) ∷ []) }
+    ensures filed { OnOk result (IsFiledToo row.heading row.number filing.old filing.new) }
+    ensures apart { OnOk result (IsUnique peers.ghosts.eq rows.new) }
+    ensures err { OnErr result (rows.new.entries ≡ rows.old.entries) }
+    ensures as_before { OnErr result (AreAlike filing.old filing.new) }
+{
+    rows.reserve(1)?;
+    let heading = row.heading.copy(alloc)?;
+    filing.file(heading, row.number)?;
+    put_behind(rows, peer, row);
+    Ok(())
+}
+
+/// Takes a row's number from under its heading.
+fn unfile(rows: &IndexMap<Peer, Row>, filing: &mut Filing, place: usize, number: u64)
+    requires within { place < length rows.now.entries }
+    ensures { (e : OnePeer × OneRow) → slice_get rows.now.entries place ≡ Some e → IsUnfiled e.1.heading number filing.old filing.new }
+{
+    filing.unfile(&rows[place].heading, number);
 }
 
 impl Table {
@@ -58,6 +112,7 @@ impl Table {
     {
         Table {
             rows: IndexMap::new(alloc),
+            filing: Filing::new(alloc),
         }
     }
 
@@ -128,6 +183,7 @@ impl Table {
         let place = self.place_of(number);
         let references = self.rows[place].references;
         if references == 1 {
+            unfile(&self.rows, &mut self.filing, place, number);
             take_out(&mut self.rows, place);
         } else {
             self.rows[place].references = references - 1;
@@ -154,22 +210,37 @@ impl Table {
         &self.rows[place].set
     }
 
+    /// The numbers of the selectors that stand under some of the headings, in whatever order. The one error is want of
+    /// memory.
+    pub(crate) fn filed_under(&self, alloc: Global, headings: &Headings) -> Result<Vec<u64>, Memory>
+        ensures { IfOk result (λ numbers. (n : ℕ) → has n numbers.items ≡ stands_in headings.now n self.now) }
+    {
+        self.filing.filed_under(alloc, headings)
+    }
+
     /// A new selector, whose number is above those of the others and whose peer none of them has.
-    pub(crate) fn push(&mut self, peer: Peer, number: u64, set: Arc<IdSet>) -> Result<(), Memory>
+    pub(crate) fn push(
+        &mut self,
+        alloc: Global,
+        peer: Peer,
+        number: u64,
+        set: Arc<IdSet>,
+    ) -> Result<(), Memory>
         requires new { number_of peer self.old ≡ None }
         requires above { AllByRecursion (λ s. s.number < number) self.old }
         ensures pushed { OnOk result (self.new ≡ self.old ++ record { number = number; peer = peer; references = 1; set = arc_value set } ∷ []) }
         ensures err { OnErr result (self.new ≡ self.old) }
         ensures sound { AreLive self.new }
     {
-        self.rows.insert(
-            peer,
-            Row {
-                number,
-                references: 1,
-                set,
-            },
-        )?;
+        let _ = &self.rows;
+        let heading = Heading::of(alloc, &peer)?;
+        let row = Row {
+            number,
+            references: 1,
+            set,
+            heading,
+        };
+        add_row(&mut self.rows, &mut self.filing, alloc, peer, row)?;
         Ok(())
     }
 }

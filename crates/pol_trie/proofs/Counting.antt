@@ -19,6 +19,7 @@ use Rattle.pol_mapkey.specs.declared.Kind.{Kind}
 use Rattle.pol_mapkey.specs.KeyProto.{key_proto}
 use Rattle.pol_mapkey.specs.MapKey.{key_cmp, port_key}
 use Rattle.pol_mapkey.specs.Entries.{Entry}
+use Rattle.pol_mapkey.proofs.KeyOrder.{prefix_cmp_total, prefix_cmp-same, key_cmp_total}
 use Rattle.pol_trie.specs.declared.root.Root.{Root}
 use Rattle.pol_trie.specs.declared.key_set.KeySet.{KeySet}
 use Rattle.pol_trie.specs.PortMap.{PortMap}
@@ -31,7 +32,6 @@ use Rattle.pol_arena.specs.Pool.{Pool, node_at}
 use Rattle.pol_trie.proofs.Reading.{both_true, less_than, not_less, found_listed}
 use Rattle.pol_trie.proofs.RootLemmas.{ports_own, missed_ports, found_nowhere}
 use Rattle.pol_trie.proofs.RootCalls.{Rows, same_root, same_root-is, same_root-self}
-use Rattle.pol_trie.proofs.KeyOrder.{prefix_cmp_total, prefix_cmp-same, key_cmp_total}
 use Rattle.pol_trie.proofs.Prefixes.{middle_within, not_empty}
 use Rattle.pol_trie.proofs.Trees.{outside}
 use Rattle.pol_trie.proofs.Listing.{either, find-either, find-listed, tree_at-stands}

@@ -1,5 +1,5 @@
-mod KeyOrder
 mod Prefixes
+mod Ties
 mod Trees
 mod Stand
 mod Putting

@@ -8,11 +8,12 @@ use Rattle.pol_ports.specs.declared.PortPrefix.{PortPrefix}
 use Rattle.pol_ports.specs.PortPrefix.{end_of, same_prefix, prefix_cmp}
 use Rattle.pol_ports.proofs.Same.{same_prefix-is}
 use Rattle.pol_mapkey.specs.declared.Kind.{Kind}
+use Rattle.pol_mapkey.proofs.KeyOrder.{prefix_cmp_total, prefix_cmp-same}
 use Rattle.pol_trie.specs.declared.node.Node.{Node}
 use Rattle.pol_trie.specs.PortMap.{PortMap, Decides}
 use Rattle.pol_trie.specs.Tree.{Tree, Leaf, Fork, middle, kind_in, walk, Fits, listed, entry_before, node_count}
 use Rattle.pol_trie.specs.Standing.{Stands, IsTrie, HasRoom, Becomes, tree_of, tree_under, tree_at, ports_of}
-use Rattle.pol_trie.proofs.KeyOrder.{prefix_cmp_total, prefix_cmp-same, tied_prefixes}
+use Rattle.pol_trie.proofs.Ties.{tied_prefixes}
 use Rattle.pol_trie.proofs.Prefixes.{takes_all}
 use Rattle.pol_trie.proofs.Putting.{with_kind}
 use Rattle.pol_trie.proofs.Sizes.{node_count-below}

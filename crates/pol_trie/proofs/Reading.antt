@@ -24,11 +24,12 @@ use Rattle.pol_mapkey.specs.MapKey.{key_cmp, covers, covers_packet, every_key, p
 use Rattle.pol_mapkey.specs.Entries.{Entry, reaches, longest}
 use Rattle.pol_mapkey.proofs.Keys.{key_same, covers_from, packet_is, packet_from, proto_covers-self, proto_covers-cases, covers-self}
 use Rattle.pol_mapkey.proofs.Longest.{NoneReaches, IsLongest, OneKindAKey, longest_is, longest_none}
+use Rattle.pol_mapkey.proofs.KeyOrder.{key_cmp_total, key_cmp-same}
 use Rattle.pol_trie.specs.declared.key_set.KeySet.{KeySet}
 use Rattle.pol_trie.specs.KeySet.{kind_of, Covering}
 use Rattle.pol_trie.specs.PortMap.{Decides, IsLongestOf, NoneHolds}
 use Rattle.pol_trie.specs.PolicyMap.{PolicyMap}
-use Rattle.pol_trie.proofs.KeyOrder.{key_cmp_total, key_cmp-same, tied_from, tied_is}
+use Rattle.pol_trie.proofs.Ties.{tied_from, tied_is}
 
 -- ---- the entries of a map are what it gives
 pub both_true : (a b : Bool) → T (a && b) → T a × T b

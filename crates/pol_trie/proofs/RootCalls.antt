@@ -18,13 +18,13 @@ use Rattle.pol_mapkey.specs.declared.MapKey.{MapKey}
 use Rattle.pol_mapkey.specs.Entries.{Entry, word_of}
 use Rattle.pol_mapkey.specs.KeyProto.{same_key_proto}
 use Rattle.pol_mapkey.specs.MapKey.{key_cmp}
+use Rattle.pol_mapkey.proofs.KeyOrder.{key_cmp_total, key_cmp-same}
 use Rattle.pol_trie.specs.declared.root.Root.{Root}
 use Rattle.pol_trie.specs.declared.key_set.KeySet.{KeySet}
 use Rattle.pol_trie.specs.contracts.root.RootPartialEq.TheImpl as root
 use Rattle.pol_trie.specs.KeySet.{kind_of}
 use Rattle.pol_trie.specs.PolicyMap.{PolicyMap}
 use Rattle.pol_trie.specs.Roots.{root_of, policy_of, kind_at, word_of_kinds}
-use Rattle.pol_trie.proofs.KeyOrder.{key_cmp_total, key_cmp-same}
 use Rattle.pol_trie.proofs.RootLemmas.{get-policy_of, kind_changes}
 
 -- `==` of roots

@@ -18,13 +18,14 @@ use Rattle.pol_mapkey.specs.KeyProto.{key_proto, same_key_proto}
 use Rattle.pol_mapkey.specs.MapKey.{key_cmp, every_key, port_key}
 use Rattle.pol_mapkey.specs.Entries.{Entry}
 use Rattle.pol_mapkey.proofs.Keys.{key_same}
+use Rattle.pol_mapkey.proofs.KeyOrder.{key_cmp_total, key_cmp-same, prefix_cmp_total, prefix_cmp-same}
 use Rattle.pol_trie.specs.declared.root.Root.{Root}
 use Rattle.pol_trie.specs.declared.key_set.KeySet.{KeySet}
 use Rattle.pol_trie.specs.KeySet.{kind_of}
 use Rattle.pol_trie.specs.PortMap.{PortMap}
 use Rattle.pol_trie.specs.PolicyMap.{PolicyMap}
 use Rattle.pol_trie.specs.Roots.{root_of, every_entry, port_entries, entries_of, policy_of, kind_at}
-use Rattle.pol_trie.proofs.KeyOrder.{key_cmp_total, key_cmp-same, tied_from, tied_is, untied_from, prefix_cmp_total, prefix_cmp-same}
+use Rattle.pol_trie.proofs.Ties.{tied_from, tied_is, untied_from}
 use Rattle.pol_trie.proofs.Prefixes.{same_from}
 use Rattle.pol_trie.proofs.Listing.{either, find-either}
 

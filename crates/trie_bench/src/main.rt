@@ -21,7 +21,7 @@ const IDENTITIES: u32 = 1_000;
 const KEYS: u32 = 16_000;
 
 /// How many packets are looked up.
-const LOOK_UPS: u32 = 1_000_000;
+const LOOK_UPS: u32 = 100_000;
 
 /// A port, scattered by an odd factor.
 fn port_of(i: u32) -> u16 {
@@ -90,23 +90,52 @@ fn allowed(trie: &PolicyTrie) -> u32 {
     allowed_over::<Brand>(Blank::new(1), trie)
 }
 
+fn time_sets<R: Clock + Eprint + AllocGlobal>(rt: &R, trie: &mut PolicyTrie) -> Result<()> {
+    let start = Instant::now(rt)?;
+    fill(trie)?;
+    let nanos = start.elapsed(rt)?.as_nanos() / u128::from(KEYS);
+    let count = trie.count();
+    eprintln!(rt; "set: {nanos} ns, {count} keys")?;
+    Ok(())
+}
+
+fn time_look_ups<R: Clock + Eprint + AllocGlobal>(rt: &R, trie: &PolicyTrie) -> Result<()> {
+    let start = Instant::now(rt)?;
+    let found = allowed(trie);
+    let nanos = start.elapsed(rt)?.as_nanos() / u128::from(LOOK_UPS);
+    eprintln!(rt; "look: {nanos} ns, {found} allowed")?;
+    Ok(())
+}
+
+/// How many microseconds a copy took, and how many keys it has.
+fn time_of_copy<R: Clock + AllocGlobal>(rt: &R, trie: &PolicyTrie) -> Result<(u128, u32)> {
+    let start = Instant::now(rt)?;
+    let copy = trie.copy(rt.alloc())?;
+    Ok((start.elapsed(rt)?.as_nanos() / 1000, copy.count()))
+}
+
+fn time_copy<R: Clock + Eprint + AllocGlobal>(rt: &R, trie: &PolicyTrie) -> Result<()> {
+    let (micros, count) = time_of_copy(rt, trie)?;
+    eprintln!(rt; "copy: {micros} us, {count} keys")?;
+    Ok(())
+}
+
+fn time_clears<R: Clock + Eprint + AllocGlobal>(rt: &R, trie: &mut PolicyTrie) -> Result<()> {
+    let start = Instant::now(rt)?;
+    let there = clear(trie);
+    let nanos = start.elapsed(rt)?.as_nanos() / u128::from(KEYS);
+    eprintln!(rt; "clear: {nanos} ns, {there} keys")?;
+    Ok(())
+}
+
+fn time_all<R: Clock + Eprint + AllocGlobal>(rt: &R, trie: &mut PolicyTrie) -> Result<()> {
+    time_sets(rt, trie)?;
+    time_look_ups(rt, trie)?;
+    time_copy(rt, trie)?;
+    time_clears(rt, trie)
+}
+
 fn main(rt: HostRuntime) -> Result<()> {
     let mut trie = PolicyTrie::new(rt.alloc());
-    let start = Instant::now(&rt)?;
-    fill(&mut trie)?;
-    let set = start.elapsed(&rt)?.as_nanos() / u128::from(KEYS);
-    let start = Instant::now(&rt)?;
-    let found = allowed(&trie);
-    let look = start.elapsed(&rt)?.as_nanos() / u128::from(LOOK_UPS);
-    let start = Instant::now(&rt)?;
-    let copy = trie.copy(rt.alloc())?;
-    let copied = start.elapsed(&rt)?.as_nanos() / 1000;
-    let count = copy.count();
-    let start = Instant::now(&rt)?;
-    let there = clear(&mut trie);
-    let cleared = start.elapsed(&rt)?.as_nanos() / u128::from(KEYS);
-    eprintln!(&rt;
-        "{count} keys: set {set} ns, look {look} ns ({found} allowed), copy {copied} us, clear {cleared} ns ({there} there)"
-    )?;
-    Ok(())
+    time_all(&rt, &mut trie)
 }

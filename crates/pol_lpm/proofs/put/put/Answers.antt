@@ -1,10 +1,14 @@
-use Rattle.std.proofs.Common.{◌≡◌, Some, sym, ◌∙◌, subst}
-use Rattle.pol_lpm.specs.Trie.{Numbers}
-use Rattle.pol_addr.proofs.World.{world_from_len}
+use Rattle.std.proofs.Common.{Some}
+use Rattle.slab.specs.Slab.{get}
+use Rattle.pol_lpm.proofs.Edits.{HasRoot-kept, still_twice}
+use Rattle.pol_lpm.proofs.Maps.{numbers_after}
 use Rattle.pol_lpm.proofs.put.put.Goals as goal
 
-pub returns-then-len-eq0-clause-numbers : goal.returns-then-len-eq0-clause-numbers
-returns-then-len-eq0-clause-numbers c =
-    let (root, is, prefix_is) = c.requires.rooted in
-    let same : root.prefix ≡ c.args.prefix = prefix_is ∙ sym (world_from_len c.args.prefix c.len.ensures.valid (sym c.len.ensures.value ∙ c.if-len-eq0.true)) in
-    subst (λ p. Numbers c.args.nodes.now c.set_number.new.nodes p (Some c.args.number)) same (c.set_number.ensures.numbers root is)
+pub returns-clause-rooted : goal.returns-clause-rooted
+returns-clause-rooted c = HasRoot-kept (get c.make_root.new.nodes) (get c.put_below.new.nodes) c.make_root.ensures.rooted (λ n is. c.put_below.ensures.kept 0 n is)
+
+pub returns-clause-numbers : goal.returns-clause-numbers
+returns-clause-numbers c = numbers_after c.args.nodes.now c.make_root.new.nodes c.put_below.new.nodes c.args.prefix (Some c.args.number) c.make_root.ensures.numbers c.put_below.ensures.numbers
+
+pub returns-clause-kept : goal.returns-clause-kept
+returns-clause-kept c = still_twice c.args.nodes.now c.make_root.new.nodes c.put_below.new.nodes c.make_root.ensures.kept c.put_below.ensures.kept

@@ -4,7 +4,8 @@ use Rattle.std.proofs.lemmas.Bool.{both_ways}
 use Rattle.pol_addr.specs.Prefix.{covers}
 use Rattle.pol_lpm.specs.Trie.{FitsBelow}
 use Rattle.pol_addr.proofs.World.{strictly}
-use Rattle.pol_lpm.proofs.Places.{fits_between}
+use Rattle.pol_lpm.proofs.Places.{fits_between, over_number}
+use Rattle.pol_lpm.proofs.Tight.{needed_with_number}
 use Rattle.pol_lpm.proofs.put.put_over.Goals as goal
 
 pub index-requires : goal.index-requires
@@ -14,8 +15,8 @@ index-requires c =
     let (_, is, _) = tree.linked c.args.spot.0 h.parent c.args.spot.1 c.args.below h.there (c.requires.link h.parent h.there) in
     ap is_some is
 
-pub over-node-requires : goal.over-node-requires
-over-node-requires c =
+pub over-node-requires-clause-longer : goal.over-node-requires-clause-longer
+over-node-requires-clause-longer c =
     let tree = c.requires.trie.tree in
     let differs : c.index.result.now.prefix ≢ c.args.prefix = search rules in
     strictly c.args.prefix c.index.result.now.prefix (tree.valid c.args.below c.index.result.now c.index.ensures) (sym c.covers.ensures.value ∙ c.if-covers.true) differs
@@ -35,3 +36,8 @@ put_beside-requires-clause-differs c = λ n is.
 pub put_beside-requires-clause-parts : goal.put_beside-requires-clause-parts
 put_beside-requires-clause-parts c = λ n is over.
     both_ways _ c.if-covers.false (c.covers.ensures.value ∙ ap (λ x. covers c.args.prefix x.prefix) (same_Some c.index.result.now n (sym c.index.ensures ∙ is)) ∙ over)
+
+pub returns-then-covers-clause-tight : goal.returns-then-covers-clause-tight
+returns-then-covers-clause-tight c =
+    let number = ap (λ n. n.number) c.over-node.ensures ∙ over_number c.args.prefix (Some c.args.number) _ (Some c.args.below) in
+    c.attach.ensures.tight 0 c.requires.tight (λ _. needed_with_number c.over-node.result c.args.number number)

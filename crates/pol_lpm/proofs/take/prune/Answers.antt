@@ -1,15 +1,39 @@
-use Rattle.std.proofs.Common.{IsSome, ◌∙◌}
+use Rattle.std.proofs.Common.{◌≤◌, subst, sym, ap, ◌∙◌}
 use Rattle.std.proofs.lemmas.Bool.{both_ways}
+use Rattle.std.proofs.lemmas.Option.{same_Some}
+use Rattle.slab.specs.Slab.{get}
+use Rattle.pol_lpm.specs.Sizes.{weight}
 use Rattle.pol_lpm.proofs.Taking.{has_only}
+use Rattle.pol_lpm.proofs.Tight.{tight_all, loosened_if, alone_stays, not_both_below, no_number}
 use Rattle.pol_lpm.proofs.take.prune.Goals as goal
-use Rattle.pol_lpm.proofs.take.prune.Goals.{else-is_some-2-via-then-is_some-2+else-is_some-3, else-is_some-2-via-else-is_some-2}
+
+pub returns-then-is_needed-clause-tight : goal.returns-then-is_needed-clause-tight
+returns-then-is_needed-clause-tight c = tight_all (get c.args.nodes.now) c.args.at c.index-node.result.now c.requires.tight c.index-node.ensures (c.is_needed.ensures.0 c.if-is_needed.true)
+
+pub returns-then-is_needed-clause-rooted : goal.returns-then-is_needed-clause-rooted
+returns-then-is_needed-clause-rooted c = c.requires.trie.rooted c.args.at c.index-node.result.now c.index-node.ensures
 
 pub splice-requires-clause-only : goal.splice-requires-clause-only
 splice-requires-clause-only c =
     let n = c.index-node.result.now in
-    let one : IsSome n.low → IsSome n.high → ⊥ =
-    elim c.else-is_some-2.branch [
-      | else-is_some-2-via-then-is_some-2+else-is_some-3 w ↦ λ _ some. both_ways _ w.if-is_some-3.false (w.is_some-then-is_some-2.ensures ∙ some)
-      | else-is_some-2-via-else-is_some-2 w ↦ λ some _. both_ways _ w.if-is_some-2.false (c.is_some-2.ensures ∙ some)
-    ] in
-    has_only c.args.nodes.now c.requires.trie.tree c.spot_of-parent.result.0 c.args.at c.spot_of-parent.result.1 n c.or-only.result c.spot_of-parent.ensures.spot c.index-node.ensures c.or-only.ensures one
+    let free : 2 ≤ weight n → ⊥ = λ enough. both_ways _ c.if-is_needed.false (c.is_needed.ensures.1 enough) in
+    has_only c.args.nodes.now c.requires.trie.tree c.args.spot.0 c.args.at c.args.spot.1 n c.only-only.result (c.requires.spot n c.index-node.ensures) c.index-node.ensures c.only-only.ensures.key (not_both_below n free)
+
+pub splice-requires-clause-number : goal.splice-requires-clause-number
+splice-requires-clause-number c = λ m is.
+    let n = c.index-node.result.now in
+    let free : 2 ≤ weight n → ⊥ = λ enough. both_ways _ c.if-is_needed.false (c.is_needed.ensures.1 enough) in
+    ap (λ x. x.number) (same_Some m n (sym is ∙ c.index-node.ensures)) ∙ no_number n free
+
+pub returns-clause-tight : goal.returns-clause-tight
+returns-clause-tight c = loosened_if (get c.splice.new.nodes) c.only-only.result c.is_none.result c.args.spot.0 c.is_none.ensures c.splice.ensures.tight
+
+pub returns-clause-left : goal.returns-clause-left
+returns-clause-left c = λ _ n is root. c.splice.ensures.left n root is
+
+pub returns-clause-stays : goal.returns-clause-stays
+returns-clause-stays c = λ m is some.
+    let n = c.index-node.result.now in
+    let free : 2 ≤ weight n → ⊥ = λ enough. both_ways _ c.if-is_needed.false (c.is_needed.ensures.1 enough) in
+    let some' = subst (λ x. 1 ≤ weight x) (same_Some m n (sym is ∙ c.index-node.ensures)) some in
+    alone_stays n c.only-only.result c.is_none.result c.only-only.ensures.key c.is_none.ensures (no_number n free) some'

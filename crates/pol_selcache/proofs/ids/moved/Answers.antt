@@ -1,4 +1,4 @@
-use Rattle.std.proofs.Common.{◌≡◌, ◌&&◌, ◌||◌, not, ap, ◌∙◌, sym}
+use Rattle.std.proofs.Common.{◌&&◌, ◌||◌, not, ap, ◌∙◌}
 use Rattle.pol_changes.specs.Ids.{has}
 use Rattle.pol_selcache.proofs.Numbers.{has-append, has-without, and_swap}
 use Rattle.pol_selcache.proofs.ids.moved.Goals as goal

@@ -1,5 +1,6 @@
 use Rattle.std.proofs.Common.{◌≡◌, ◌≤◌, ◌+◌, ◌*◌, filter, take}
-use Rattle.pol_selcache.specs.Held.{selects_held, steps_of}
+use Rattle.pol_ident.specs.Look.{selects_held}
+use Rattle.pol_selcache.specs.Held.{steps_of}
 use Rattle.pol_selcache.proofs.judge.selected.Given as goal
 
 abbrev pub invariant-loop-number : goal.invariant-loop-number

@@ -1,8 +1,8 @@
-use Rattle.std.proofs.Common.{filter, sym, subst, ap, ◌∙◌}
+use Rattle.std.proofs.Common.{sym, subst}
 use Rattle.std.specs.List.Sorted.{IsStrictlySortedBy}
 use Rattle.std.specs.Ordering.{nat_cmp}
 use Rattle.std.proofs.lemmas.List.Kept.{IsStrictlySortedBy-filter}
-use Rattle.pol_selcache.specs.Held.{selects_held}
+use Rattle.pol_ident.specs.Look.{selects_held}
 use Rattle.pol_selcache.proofs.judge.selected_of.Goals as goal
 
 pub from_ascending-requires : goal.from_ascending-requires

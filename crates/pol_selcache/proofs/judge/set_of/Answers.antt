@@ -2,7 +2,7 @@ use Rattle.std.proofs.Common.{◌≡◌, filter, sym, subst, ap, ◌∙◌}
 use Rattle.std.specs.List.Sorted.{IsStrictlySortedBy}
 use Rattle.std.specs.Ordering.{nat_cmp}
 use Rattle.pol_model.specs.Selects.{set_at}
-use Rattle.pol_selcache.specs.Held.{selects_held}
+use Rattle.pol_ident.specs.Look.{selects_held}
 use Rattle.pol_selcache.proofs.RowSets.{all_selected, set_sorted}
 use Rattle.pol_selcache.proofs.judge.set_of.Goals as goal
 

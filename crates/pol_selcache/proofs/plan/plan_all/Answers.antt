@@ -1,23 +1,15 @@
-use Rattle.std.proofs.Common.{◌≡◌, ◌++◌, [], sym, ◌∙◌}
-use Rattle.std.specs.List.{cons_option}
-use Rattle.pol_selcache.specs.Inside.{live_of}
+use Rattle.std.proofs.Common.{ap, ◌∙◌}
 use Rattle.pol_selcache.specs.Live.{rows_without}
-use Rattle.pol_selcache.specs.Plan.{Planned}
-use Rattle.pol_selcache.proofs.Planning.{changes_so_far, cost_in_all, cost_so_far}
+use Rattle.pol_selcache.specs.Plan.{changes_for}
+use Rattle.pol_selcache.specs.Tried.{of_numbers}
+use Rattle.pol_selcache.proofs.Untried.{tried_change}
 use Rattle.pol_selcache.proofs.plan.plan_all.Goals as goal
 
-pub returns-in_err-change-clause-cost : goal.returns-in_err-change-clause-cost
-returns-in_err-change-clause-cost g c =
-    cost_in_all c.args.table.now c.loop-place.place _ c.at.ensures.at _ _ _ _ c.loop-place.invariant.1 c.plan_one.ensures.cost
-
-pub returns-in_err-push_some-clause-cost : goal.returns-in_err-push_some-clause-cost
-returns-in_err-push_some-clause-cost g c =
-    cost_in_all c.args.table.now c.loop-place.place _ c.at.ensures.at _ _ _ _ c.loop-place.invariant.1 c.plan_one.ensures.cost
-
-pub loop-place-preserved : goal.loop-place-preserved
-loop-place-preserved g c = (
-  c.in_ok-push_some.ensures.pushed
-      ∙ (λ i. c.loop-place.invariant.0 i ++ cons_option (c.in_ok-change.ensures.change i) [])
-      ∙ sym (changes_so_far (rows_without c.args.gone.now c.args.identities.now) c.args.table.now c.loop-place.place _ c.at.ensures.at),
-  cost_so_far c.args.table.now c.loop-place.place _ c.at.ensures.at _ _ _ _ c.loop-place.invariant.1 c.plan_one.ensures.cost,
-)
+pub returns-clause-changes : goal.returns-clause-changes
+returns-clause-changes g c =
+    let rows = c.args.identities.now in
+    let come = c.args.come.now in
+    let gone = c.args.gone.now in
+    c.in_ok-changes.ensures.changes
+    ∙ ap (λ ns. changes_for (rows_without gone rows) (of_numbers ns c.args.table.now)) c.as_slice-numbers.ensures.value
+    ∙ tried_change rows come gone c.in_ok-numbers.numbers.items c.in_ok-headings.headings c.in_ok-headings.ensures.come c.in_ok-headings.ensures.gone c.args.table.now c.requires.moving c.in_ok-numbers.ensures.all

@@ -2,4 +2,4 @@ use Rattle.pol_pool.proofs.Steps.{holds, puts}
 use Rattle.pol_pool.proofs.hints.Hints.put.Goals as goal
 
 pub push_as-requires-clause-rule : goal.push_as-requires-clause-rule
-push_as-requires-clause-rule g c = (puts _ _ _ _, holds _ _)
+push_as-requires-clause-rule g c = (puts _ _ _ _ c.requires.pass.1, holds _ _)

@@ -2,4 +2,4 @@ use Rattle.pol_pool.proofs.Steps.{holds, takes}
 use Rattle.pol_pool.proofs.hints.Hints.take.Goals as goal
 
 pub pop_as-requires-clause-rule : goal.pop_as-requires-clause-rule
-pop_as-requires-clause-rule g c = (takes _ _, holds _ _)
+pop_as-requires-clause-rule g c = (takes _ _ c.requires.pass.1, holds _ _)

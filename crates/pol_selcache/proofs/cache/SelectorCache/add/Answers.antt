@@ -1,4 +1,4 @@
-use Rattle.std.proofs.Common.{◌≡◌, List, true, sym, subst, ◌∙◌}
+use Rattle.std.proofs.Common.{List, sym, subst}
 use Rattle.pol_selcache.specs.Cache.{Cache, IsSound}
 use Rattle.pol_selcache.specs.Live.{Live, AreExact}
 use Rattle.pol_selcache.proofs.Sound.{found_lives, reference_exact, reference_sound, referred_below}
@@ -11,6 +11,7 @@ pub invariant_of-self-in-Some : goal.invariant_of-self-in-Some
 invariant_of-self-in-Some g c = record {
   live = c.refer.ensures.sound;
   below = referred_below c.refer.result c.in-Some.number c.self.inside.next c.self.inside.table c.refer.new.self c.refer.ensures.referred c.refer.ensures.err c.self.invariant.below;
+  log = c.self.invariant.log;
 }
 
 pub returns-in_ok-refer-in-Some-clause-exact : goal.returns-in_ok-refer-in-Some-clause-exact
@@ -21,4 +22,4 @@ returns-in_ok-refer-in-Some-clause-exact g c =
 pub returns-in_ok-refer-in-Some-clause-sound : goal.returns-in_ok-refer-in-Some-clause-sound
 returns-in_ok-refer-in-Some-clause-sound g c =
     subst (λ (live : List Live). IsSound (record { live = live; next = c.self.inside.next; log = c.self.inside.log })) (sym c.in_ok-refer-in-Some.ensures.referred)
-    (reference_sound c.self.inside.table c.self.inside.next c.self.invariant.live c.self.invariant.below c.in-Some.number c.self.inside.log)
+    (reference_sound c.self.inside.table c.self.inside.next c.self.invariant.live c.self.invariant.below c.in-Some.number c.self.inside.log c.self.invariant.log)

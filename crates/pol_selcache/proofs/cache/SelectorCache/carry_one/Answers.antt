@@ -1,4 +1,4 @@
-use Rattle.std.proofs.Common.{◌≡◌, ℕ, List, ap, sym, subst, ◌∙◌}
+use Rattle.std.proofs.Common.{List, ap, sym, subst, ◌∙◌}
 use Rattle.std.specs.Arc.{arc_value}
 use Rattle.pol_changes.specs.Log.{Log}
 use Rattle.pol_selcache.specs.Cache.{Cache, IsSound}
@@ -11,7 +11,7 @@ use Rattle.pol_selcache.proofs.cache.SelectorCache.carry_one.Goals as goal
 pub invariant_of-self : goal.invariant_of-self
 invariant_of-self c =
     subst (λ (live : List Live). IsSound (record { live = live; next = c.self.inside.next; log = c.record.new.self })) (sym c.put_set.ensures.put)
-    (set_sound c.self.inside.table c.self.inside.next c.self.invariant.live c.self.invariant.below c.args.change.selector (arc_value c.args.change.set) c.record.new.self)
+    (set_sound c.self.inside.table c.self.inside.next c.self.invariant.live c.self.invariant.below c.args.change.selector (arc_value c.args.change.set) c.record.new.self c.record.ensures.sound)
 
 pub returns-clause-carried : goal.returns-clause-carried
 returns-clause-carried c =

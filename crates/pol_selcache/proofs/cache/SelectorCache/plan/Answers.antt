@@ -1,4 +1,4 @@
-use Rattle.std.proofs.Common.{◌≡◌, ◌<◌, ◌≤◌, List, length, ap, sym, subst, ◌∙◌, arith}
+use Rattle.std.proofs.Common.{◌≡◌, ◌<◌, ◌≤◌, List, length, max, ap, sym, subst, ◌∙◌, arith}
 use Rattle.std.proofs.lemmas.List.{length-map}
 use Rattle.std.specs.List.{AllByRecursion}
 use Rattle.pol_changes.specs.Log.{Log, newest}
@@ -75,3 +75,10 @@ returns-clause-fits g c =
       ascend = rows_without_ascend c.in_ok-gone.gone rows c.held-none.ensures.sound.numbers;
       changes = c.in_ok-changes.ensures.changes;
     }
+
+pub returns-clause-reserved : goal.returns-clause-reserved
+returns-clause-reserved g c =
+    let count : length (planned_in c.in_ok-changes.changes.items) ≡ c.len.result =
+    length-map c.in_ok-changes.changes.items planned_of ∙ sym (c.len.ensures ∙ c.in_ok-changes.changes.ok.0) in
+    ap (λ (log : Log). log.spare) c.in_ok-reserve.ensures.ok
+    ∙ (λ i. max (c.self.view_is i).log.spare (sym count i))

@@ -3,9 +3,9 @@ use Rattle.std.specs.FinMap as map
 use Rattle.std.proofs.lemmas.Bool.{cases_lt, both_ways}
 use Rattle.pol_mapkey.specs.declared.MapKey.{MapKey}
 use Rattle.pol_mapkey.specs.MapKey.{key_cmp}
+use Rattle.pol_mapkey.proofs.KeyOrder.{key_cmp_total}
 use Rattle.pol_trie.specs.PolicyMap.{PolicyMap}
 use Rattle.pol_trie.specs.Roots.{policy_of}
-use Rattle.pol_trie.proofs.KeyOrder.{key_cmp_total}
 use Rattle.pol_trie.proofs.trie.PolicyTrie.clear.Goals as goal
 
 picked : (b : Bool) (x y : ℕ) → b ≡ true → cond b x y ≡ x

@@ -1,8 +1,8 @@
 use Rattle.std.proofs.Common.{◌≡◌, ℕ, ◌+◌, true, false, cond, Option, Some, None, is_some, is_none, refl, sym, ap, ◌∙◌}
 use Rattle.std.specs.FinMap as map
 use Rattle.pol_mapkey.specs.declared.Kind.{Kind}
+use Rattle.pol_mapkey.proofs.KeyOrder.{key_cmp_total}
 use Rattle.pol_trie.specs.Roots.{policy_of}
-use Rattle.pol_trie.proofs.KeyOrder.{key_cmp_total}
 use Rattle.pol_trie.proofs.trie.PolicyTrie.set.Goals as goal
 
 longer : (o : Option Kind) (n : ℕ) → true ≡ is_none o → cond (is_some o) n (n + 1) ≡ n + 1

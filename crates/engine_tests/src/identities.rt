@@ -1,0 +1,110 @@
+//! Numbers run out, are given back and are taken again.
+
+use pol_addr::{Addr, Prefix};
+use pol_data::Text;
+use pol_ident::{IdentError, Identities};
+use pol_labels::{Label, LabelSet};
+use pol_model::has_reserved;
+use std::alloc::Global;
+use std::test::Fail;
+
+/// The prefix of one address.
+fn address(bits: u32) -> Prefix {
+    Prefix::host(Addr { bits })
+}
+
+/// The set of the one label `k8s:app=N`.
+fn app(alloc: Global, number: u32) -> Option<LabelSet> {
+    let value = format!(in alloc; "{number}").ok()?;
+    let mut labels = Vec::new(alloc);
+    labels
+        .push(Label {
+            source: Text::from_str(alloc, "k8s").ok()?,
+            key: Text::from_str(alloc, "app").ok()?,
+            value: Text::from_str(alloc, value.as_str()).ok()?,
+        })
+        .ok()?;
+    LabelSet::from_labels(alloc, labels).ok()
+}
+
+/// The number that the set takes, where its labels may be held.
+fn number_of(identities: &mut Identities, labels: &LabelSet) -> Result<u32, IdentError> {
+    if has_reserved(labels) {
+        return Err(IdentError::Memory);
+    }
+    identities.acquire(labels)
+}
+
+fn give_back(identities: &mut Identities, number: u32) -> bool {
+    let held = identities.held(number);
+    if held {
+        identities.release(number);
+    }
+    held
+}
+
+fn prefixes_take(identities: &mut Identities) -> bool {
+    for i in 0..65_535u32 {
+        if identities.acquire_prefix(address(i)) != Ok(16_777_217 + i) {
+            return false;
+        }
+    }
+    true
+}
+
+fn prefixes_run_out(identities: &mut Identities) -> bool {
+    let one_more = address(65_535);
+    prefixes_take(identities)
+        && identities.acquire_prefix(one_more) == Err(IdentError::Exhausted)
+        && give_back(identities, 16_777_217)
+        && identities.acquire_prefix(one_more) == Ok(16_777_217)
+}
+
+fn sets_take(alloc: Global, identities: &mut Identities) -> Option<bool> {
+    for i in 0..65_280u32 {
+        let labels = app(alloc, i)?;
+        if number_of(identities, &labels) != Ok(256 + i) {
+            return Some(false);
+        }
+    }
+    Some(true)
+}
+
+fn sets_run_out(alloc: Global, identities: &mut Identities) -> Option<bool> {
+    let taken = sets_take(alloc, identities)?;
+    let one_more = app(alloc, 65_280)?;
+    Some(
+        taken
+            && number_of(identities, &one_more) == Err(IdentError::Exhausted)
+            && give_back(identities, 300)
+            && give_back(identities, 256)
+            && number_of(identities, &one_more) == Ok(256)
+            && number_of(identities, &one_more) == Ok(256),
+    )
+}
+
+#[test]
+fn prefixes_are_refused_and_taken_again(rt: HostRuntime) -> Result<(), Fail> {
+    let mut identities = Identities::new(rt.alloc())?;
+    assert!(rt; prefixes_run_out(&mut identities));
+    Ok(())
+}
+
+#[test]
+fn label_sets_are_refused_and_taken_again(rt: HostRuntime) -> Result<(), Fail> {
+    let mut identities = Identities::new(rt.alloc())?;
+    assert!(rt; sets_run_out(rt.alloc(), &mut identities) == Some(true));
+    Ok(())
+}
+
+#[test]
+fn numbers_ascend(rt: HostRuntime) -> Result<(), Fail> {
+    let mut identities = Identities::new(rt.alloc())?;
+    assert!(rt; identities.acquire_prefix(Prefix::world()) == Ok(2));
+    assert!(rt; identities.acquire_prefix(address(7)) == Ok(16_777_217));
+    let labels = app(rt.alloc(), 1).ok_or("no memory")?;
+    assert!(rt; number_of(&mut identities, &labels) == Ok(256));
+    let numbers = identities.numbers(rt.alloc())?;
+    assert!(rt; numbers.as_slice() == [1, 2, 3, 4, 5, 6, 7, 8, 256, 16_777_217].as_slice());
+    Ok(())
+}

@@ -1,6 +1,0 @@
-use Rattle.std.proofs.Common.{◌≤◌}
-use Rattle.pol_changes.specs.Log.{newest}
-use Rattle.pol_changes.proofs.tests.come_and_go.Given as goal
-
-abbrev pub invariant-loop-turn : goal.invariant-loop-turn
-invariant-loop-turn l = newest l.log ≤ l.turn

@@ -1,6 +1,0 @@
-use Rattle.std.specs.List.Sorted.{IsStrictlySortedBy}
-use Rattle.pol_changes.proofs.tests.one.Goals as goal
-
-pub from_ascending-requires : goal.from_ascending-requires
-unfolding IsStrictlySortedBy
-from_ascending-requires c = record { ascending = rw (c.in_ok-push.ensures.items, c.new-ids.ensures.items) (tt, tt) }

@@ -1,0 +1,4 @@
+pub mod Heading
+pub mod Filed
+pub mod Tried
+pub mod Inside

@@ -1,0 +1,11 @@
+pub mod Digits
+pub mod Pieces
+pub mod Printing
+pub mod LinesRead
+pub mod EndpointLine
+pub mod VerdictLine
+pub mod PolicyText
+pub mod PolicyRead
+pub mod ApplyLine
+pub mod SyncLine
+pub mod Script

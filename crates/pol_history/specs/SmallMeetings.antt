@@ -1,0 +1,28 @@
+-- Two passes that each committed once; the second has seen both commits.
+use Rattle.std.specs.Prelude.{List, [], ◌∷◌}
+use Rattle.pol_model.specs.declared.options.Mode.TheVariants.{Always}
+use Rattle.pol_model.specs.declared.request.Request.TheVariants.{SetMode}
+use Rattle.pol_history.specs.declared.event.HistoryEvent.{HistoryEvent}
+use Rattle.pol_history.specs.ExampleEvents.{add_web, commit}
+use Rattle.pol_history.specs.Grows.{PassView}
+
+abbrev pub one_commit : List HistoryEvent
+one_commit = commit 0 0 add_web ∷ []
+
+abbrev pub both_commits : List HistoryEvent
+both_commits = commit 0 0 add_web ∷ commit 1 0 (SetMode Always) ∷ []
+
+abbrev pub first_before : PassView
+first_before = record { history = one_commit; mine = add_web ∷ [] }
+
+abbrev pub first_after : PassView
+first_after = record { history = both_commits; mine = add_web ∷ [] }
+
+abbrev pub second : PassView
+second = record { history = both_commits; mine = SetMode Always ∷ [] }
+
+abbrev pub before : List PassView
+before = first_before ∷ second ∷ []
+
+abbrev pub after : List PassView
+after = first_after ∷ second ∷ []

@@ -1,0 +1,5 @@
+pub mod Carried
+pub mod Coming
+pub mod Going
+pub mod Moving
+pub mod Readying

@@ -1,0 +1,18 @@
+//! The numbers that are held, with what follows from them: the sets of the selectors, which change as numbers come and
+//! go.
+//!
+//! What a request takes, it takes before it gives anything up, and each call that takes something takes all memory:
+//! `hold_labels`, `hold_prefixes`, `plan_release`, `plan_prefixes`. What then carries it out or takes it back takes none:
+//! `carry_out`, `release`, `release_prefixes`.
+#![tactic(auto)]
+
+mod hold;
+mod moves;
+mod numbers;
+mod peers;
+mod plan;
+mod prefixes;
+mod release;
+
+pub use hold::LabelsHeld;
+pub use numbers::Numbers;

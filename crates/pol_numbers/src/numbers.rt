@@ -1,0 +1,80 @@
+//! The numbers that are held, and what is told of them.
+ghost use Rattle.std.specs.Prelude.{◌≡◌, ◌≤◌, IfOk, option_map};
+ghost use Rattle.pol_model.specs.Remote.{longest_at};
+ghost use Rattle.pol_facts.specs.Keeps.{KeepsRows};
+ghost use Rattle.pol_changes.specs.Log.{newest};
+ghost use Rattle.pol_selcache.specs.Cache.{IsPlanFor, IsSound, carried};
+ghost use Rattle.pol_numbers.specs.Held.{nothing_held};
+
+use pol_addr::Addr;
+use pol_data::Memory;
+use pol_ident::Identities;
+use pol_lpm::PrefixTable;
+use pol_prefixes::table_of_start;
+use pol_selcache::{Plan, SelectorCache};
+use std::alloc::Global;
+use std::marker::Model;
+
+/// The security identities that are held, and the selectors, whose sets are of their numbers (Cilium, Terminology,
+/// "Identity", and "Selector cache"). Contracts see the rows and the selectors.
+#[derive(Drop)]
+pub struct Numbers {
+    pub(crate) alloc: Global,
+    pub(crate) identities: Identities,
+    // The numbers of prefixes, for addresses.
+    pub(crate) prefixes: PrefixTable,
+    pub(crate) selectors: SelectorCache,
+}
+
+impl Model for Numbers {
+    ghost use Rattle.pol_facts.specs.Keeps.{KeepsRows};
+    ghost use Rattle.pol_numbers.specs.Held.{Held};
+    ghost use Rattle.pol_prefixes.specs.Tables.{IsTableOf};
+
+    ghost Value = { Held };
+
+    ghost view = { λ n. record { rows = n.identities; cache = n.selectors } };
+
+    ghost invariant = { λ n. KeepsRows n.identities × IsTableOf n.identities n.prefixes };
+}
+
+impl Numbers {
+    /// The reserved numbers alone, and no selector. The one error is want of memory.
+    pub fn new(alloc: Global) -> Result<Numbers, Memory>
+        ensures nothing { IfOk result (λ numbers. numbers ≡ nothing_held) }
+    {
+        Ok(Numbers {
+            alloc,
+            identities: Identities::new(alloc)?,
+            prefixes: table_of_start(alloc)?,
+            selectors: SelectorCache::new(alloc),
+        })
+    }
+
+    /// The identities that are held. It takes no memory.
+    pub fn identities(&self) -> &Identities
+        ensures rows { result.now ≡ self.now.rows }
+        ensures sound { KeepsRows self.now.rows }
+    {
+        &self.identities
+    }
+
+    /// The number of the longest held prefix that contains the address (Cilium, Terminology, "Identity"). It takes no
+    /// memory.
+    pub fn number_at(&self, address: Addr) -> Option<u32>
+        ensures longest { result ≡ option_map (λ found. found.1) (longest_at address self.now.rows) }
+    {
+        self.prefixes.find(address)
+    }
+
+    /// Makes the changes of the last plan, since which no selector came or went. It takes no memory.
+    pub fn carry_out(&mut self, plan: Plan)
+        requires fits { IsPlanFor plan self.old.cache }
+        ensures carried { self.new ≡ record self.old { cache = carried plan self.old.cache } }
+        ensures newest { newest self.new.cache.log ≤ plan.revision }
+        ensures sound { IsSound self.new.cache }
+    {
+        let _ = &self.identities;
+        self.selectors.carry_out(plan);
+    }
+}

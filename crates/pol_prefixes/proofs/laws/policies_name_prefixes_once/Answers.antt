@@ -1,0 +1,5 @@
+use Rattle.pol_facts.proofs.PolicyHolders.{policy_differ}
+use Rattle.pol_prefixes.proofs.laws.policies_name_prefixes_once.Goals as goal
+
+pub returns : goal.returns
+returns c = policy_differ

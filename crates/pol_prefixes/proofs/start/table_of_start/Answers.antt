@@ -1,0 +1,5 @@
+use Rattle.pol_prefixes.proofs.Tables.{table_at_start}
+use Rattle.pol_prefixes.proofs.start.table_of_start.Goals as goal
+
+pub returns : goal.returns
+returns c = rw (c.in_ok-insert.ensures.ok, c.new-table.ensures, c.world.ensures) table_at_start

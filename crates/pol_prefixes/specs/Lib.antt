@@ -1,0 +1,4 @@
+pub mod Tables
+pub mod Beyond
+pub mod Coming
+pub mod Going

@@ -1,0 +1,17 @@
+//! Which identities the prefixes of a policy hold, and the table in which an address finds the longest of them.
+//!
+//! `hold_prefixes` takes numbers for prefixes, and `release_prefixes` gives them back; both keep the table as the rows
+//! are. `gone_numbers` tells beforehand which numbers a release lets go.
+#![tactic(auto)]
+
+mod gone;
+mod hold;
+pub mod laws;
+mod release;
+mod start;
+
+pub use gone::gone_numbers;
+pub use hold::hold_prefixes;
+pub use pol_ident::IdentError;
+pub use release::release_prefixes;
+pub use start::table_of_start;

@@ -1,0 +1,9 @@
+use Rattle.std.proofs.Common.{take}
+use Rattle.std.specs.List.{AllByRecursion}
+use Rattle.pol_filing.specs.Tried.{AreKept}
+use Rattle.pol_selcache.specs.Filed.{HasAllAt}
+use Rattle.pol_selcache.proofs.tried.add_numbers.Given as goal
+
+abbrev pub invariant-loop-number : goal.invariant-loop-number
+invariant-loop-number l =
+    AllByRecursion (HasAllAt l.identities l.headings) (take l.number-index l.numbers) × AreKept l.initial.headings l.headings

@@ -1,0 +1,14 @@
+//! The tables of a repository: live endpoints, named identities and policies, each under its indexes.
+//!
+//! Each table is seen as the list that the model keeps. `reserve` takes the memory of one row more, so that `place` and
+//! `put` take none.
+#![tactic(auto)]
+
+mod endpoints;
+mod named;
+mod policies;
+mod slots;
+
+pub use endpoints::Endpoints;
+pub use named::Named;
+pub use policies::Policies;
