@@ -15,7 +15,6 @@ mod place;
 mod prefixes;
 mod release;
 mod select;
-mod tests;
 
 pub use error::IdentError;
 pub use identities::Identities;
