@@ -235,3 +235,16 @@ none line d op command is own all absent =
 pub some : (line : List ℕ) (d : Data) (op : Op) (other : List ℕ) → object_of line ≡ Ok d → IsTrue (is_unknown op d other)
     → (name : List ℕ) × IsLeastUnknown op d name
 some line d op other is there = one_told op d (known (names (rows op)) d) other (tells_line line d op is) there
+
+known_told : (op : Op) (d : Data) (r : Result ⊤ LineFault) (name : List ℕ) → Tells (names (rows op)) d r → r ≡ Err (UnknownField name) → IsLeastUnknown op d name
+known_told op d (Ok done) name tells is = absurd cc
+known_told op d (Err fault) name tells is =
+    let same : tells.0 ≡ name = named_once fault tells.0 name tells.1 (let f : fault ≡ UnknownField name = cc in f) in
+    subst (IsLeastUnknown op d) same (record { unknown = tells.2; least = tells.3 })
+  where
+    named_once : (f : LineFault) (a b : List ℕ) → f ≡ UnknownField a → f ≡ UnknownField b → a ≡ b
+    named_once f a b one two = let e : UnknownField a ≡ UnknownField b = sym one ∙ two in cc
+
+pub told_by_walk : (line : List ℕ) (d : Data) (op : Op) (name : List ℕ) → object_of line ≡ Ok d → known (names (rows op)) d ≡ Err (UnknownField name)
+    → IsLeastUnknown op d name
+told_by_walk line d op name is told = known_told op d (known (names (rows op)) d) name (tells_line line d op is) told

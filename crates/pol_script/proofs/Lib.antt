@@ -3,3 +3,4 @@ pub mod Json
 pub mod Cuts
 pub mod ScriptLaws
 pub mod LeastUnknown
+pub mod ToldUnknown

@@ -8,7 +8,7 @@ ghost use Rattle.pol_script.specs.Lines.{newline, lines_of, ended, is_one_line};
 ghost use Rattle.pol_script.specs.Members.{given};
 ghost use Rattle.pol_script.specs.Reading.{object_of, op_of, reading_of};
 ghost use Rattle.pol_script.specs.Table.{rows};
-ghost use Rattle.pol_script.specs.Unknown.{is_unknown, IsLeastUnknown};
+ghost use Rattle.pol_script.specs.Unknown.{is_unknown, HasLeastUnknown, IsLeastUnknown};
 ghost use Rattle.pol_script.specs.declared.command.Command.{Command};
 ghost use Rattle.pol_script.specs.declared.line_fault.LineFault.{LineFault};
 ghost use Rattle.pol_script.specs.declared.line_fault.LineFault.TheVariants.{UnknownField};
@@ -27,11 +27,13 @@ pub fn script_lines()
 
 /// Which member a line is refused for that its operation doesn't have: where each member of the operation is
 /// there and of its form, it is the least one by the bytes of its name, in whatever order the line has
-/// them. Where there is one there is a least one, and where there is none the line is read ('profile').
+/// them; and no line is refused for another one. Where there is one there is a least one, and where there is
+/// none the line is read ('profile').
 pub fn the_least_unknown_member_is_told()
     ensures least { (line : List ℕ) (d : Data) (op : Op) (command : Result Command LineFault) (name : List ℕ)
         → object_of line ≡ Ok d → op_of d ≡ Ok op → given (rows op) (make op) d ≡ Ok command
         → IsLeastUnknown op d name → reading_of line ≡ Err (UnknownField name) }
+    ensures told { (line name : List ℕ) → reading_of line ≡ Err (UnknownField name) → HasLeastUnknown line name }
     ensures none { (line : List ℕ) (d : Data) (op : Op) (command : Result Command LineFault)
         → object_of line ≡ Ok d → op_of d ≡ Ok op → given (rows op) (make op) d ≡ Ok command
         → ((name : List ℕ) → is_unknown op d name ≡ false) → reading_of line ≡ command }
