@@ -2,8 +2,8 @@
 //! go.
 //!
 //! What a request takes, it takes before it gives anything up, and each call that takes something takes all memory:
-//! `hold_labels`, `hold_prefixes`, `plan_release`, `plan_prefixes`. What then carries it out or takes it back takes none:
-//! `carry_out`, `release`, `release_prefixes`.
+//! `hold_labels`, `hold_prefixes`, `refer`, `plan_release`, `plan_prefixes`. What then carries it out or takes it back
+//! takes none: `carry_out`, `release`, `release_prefixes`, `unrefer`.
 #![tactic(auto)]
 
 mod hold;
