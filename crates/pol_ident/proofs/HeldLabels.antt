@@ -1,5 +1,5 @@
 -- A label set and the rows: what its number is, and what the rows are once it is held.
-use Rattle.std.proofs.Common.{◌≡◌, ℕ, ◌+◌, ◌<◌, ◌≤◌, ◌&&◌, Bool, true, false, not, List, [], ◌∷◌, ◌++◌, length, nat_lt, Option, None, Some, inl, inr, is_none, refl, sym, ap, subst, ◌∙◌, arith}
+use Rattle.std.proofs.Common.{◌≡◌, ℕ, ◌+◌, ◌<◌, ◌≤◌, ◌&&◌, Bool, true, false, not, List, [], ◌++◌, length, nat_lt, Option, None, Some, inl, inr, is_none, refl, sym, ap, subst, ◌∙◌, arith}
 use Rattle.std.specs.Prelude.{codes}
 use Rattle.std.proofs.lemmas.Bool.{and_parts, and_right, both_ways, le-leb, le-ltb, lt-leb, lt-ltb, not-true}
 use Rattle.pol_addr.specs.declared.network.Prefix.{Prefix}
@@ -13,7 +13,6 @@ use Rattle.pol_model.specs.declared.row.IdentityRow.{IdentityRow}
 use Rattle.pol_model.specs.Fault.{has_reserved, is_exhausted, is_init}
 use Rattle.pol_model.specs.Identities.{free_number, held_or_new, is_local, is_reserved, labels_held, number_for, number_of_labels, or_free, released, reserved_identities, reserved_row, with_holder}
 use Rattle.pol_model.specs.Numbers.{placed_by}
-use Rattle.pol_model.specs.Worlds.{reserved_label}
 use Rattle.pol_facts.specs.Keeps.{KeepsRows}
 use Rattle.pol_facts.proofs.FoundRows.{found-labels, found_with, labels_pass, reserved-there}
 use Rattle.pol_facts.proofs.Keyed.{placed_behind}

@@ -1,13 +1,12 @@
 -- Which numbers the sets of a peer over some rows have.
-use Rattle.std.proofs.Common.{◌≡◌, ℕ, ◌==◌, ◌<◌, ◌&&◌, ◌||◌, Bool, true, false, cond, not, List, [], ◌∷◌, map, filter, Option, Some, None, option_map, refl, sym, ap, ◌∙◌, subst, inl, inr, arith}
+use Rattle.std.proofs.Common.{◌≡◌, ℕ, ◌==◌, ◌<◌, ◌&&◌, ◌||◌, Bool, true, false, cond, not, List, [], ◌∷◌, map, filter, Some, refl, sym, ap, ◌∙◌, subst, inl, inr, arith}
 use Rattle.std.specs.List.{AllByRecursion, list_any}
 use Rattle.std.specs.List.Sorted.{IsStrictlySortedBy}
-use Rattle.std.specs.Option.{option_and_then, option_map_or}
-use Rattle.std.proofs.lemmas.Option.{same_Some}
+use Rattle.std.specs.Option.{option_map_or}
 use Rattle.std.specs.Ordering.{nat_cmp}
 use Rattle.std.proofs.lemmas.Bool.{cases_Bool, eqb-true, and_right, ne_eqb}
 use Rattle.std.proofs.lemmas.Map.Views.{any-filter_same}
-use Rattle.pol_facts.proofs.Membership.{In-filter, In-map, find-In, list_any-map, map-In}
+use Rattle.pol_facts.proofs.Membership.{In-filter, In-map, list_any-map, map-In}
 use Rattle.pol_facts.proofs.SelectedPeerSets.{set_ascends}
 use Rattle.pol_facts.specs.Holding.{row_of}
 use Rattle.pol_model.specs.declared.row.IdentityRow.{IdentityRow}
@@ -15,9 +14,6 @@ use Rattle.pol_model.specs.Selects.{selects_row, set_at}
 use Rattle.pol_model.proofs.AscendingStates.{RowsAscend}
 use Rattle.pol_model.proofs.Ascents.{filter_ascends}
 use Rattle.pol_rule.specs.declared.policy.Peer.{Peer}
-use Rattle.pol_addr.specs.declared.network.Prefix.{Prefix}
-use Rattle.pol_labels.specs.declared.label.Label.{Label}
-use Rattle.pol_ident.specs.Look.{labels_at, prefix_at}
 use Rattle.pol_ident.specs.Look.{selects_held}
 use Rattle.pol_changes.specs.Ids.{has}
 use Rattle.pol_selcache.specs.Live.{rows_without}

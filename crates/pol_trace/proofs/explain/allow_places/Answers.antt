@@ -1,4 +1,3 @@
-use Rattle.std.proofs.Common.{◌≡◌}
 use Rattle.pol_trace.proofs.explain.allow_places.Goals as goal
 
 pub returns : goal.returns

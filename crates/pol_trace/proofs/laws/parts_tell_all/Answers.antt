@@ -1,4 +1,4 @@
-use Rattle.std.proofs.Common.{◌≡◌, List}
+use Rattle.std.proofs.Common.{List}
 use Rattle.pol_mapkey.specs.declared.Word.{Word}
 use Rattle.pol_model.specs.declared.answer.Trace.{Trace}
 use Rattle.pol_model.specs.declared.options.Mode.{Mode}
