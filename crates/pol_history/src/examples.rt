@@ -3,7 +3,7 @@ ghost use Rattle.std.specs.Prelude.{◌≡◌, [], ◌∷◌};
 ghost use Rattle.pol_history.specs.ExampleEvents.{at_most};
 ghost use Rattle.pol_history.specs.Legal.{IsLegal};
 ghost use Rattle.pol_history.specs.Machine.{replies_to};
-ghost use Rattle.pol_history.specs.Meet.{HaveMet};
+ghost use Rattle.pol_history.specs.Meet.{HaveMet, Learns};
 ghost use Rattle.pol_history.specs.SmallHistories as history;
 ghost use Rattle.pol_history.specs.SmallMeetings as passes;
 ghost use Rattle.pol_history.specs.SmallRuns as runs;
@@ -46,10 +46,21 @@ pub fn replies()
     ensures taken_again { replies_to (at_most 2) runs.taken_again ≡ runs.taken_again_replies }
 {}
 
-/// Two passes that meet have both seen what either had. They haven't met where nothing was done, nor where a commit is of
-/// a pass that wasn't handed out ('profile').
+/// Two passes that meet have both seen what either had, and each has its own commits. They haven't met where nothing was
+/// done, where one took a commit of the other for its own, nor where a commit is of a pass that wasn't handed out
+/// ('profile').
 pub fn meetings()
-    ensures met { HaveMet (at_most 2) (0 ∷ 1 ∷ []) passes.before passes.after }
-    ensures nothing_done { HaveMet (at_most 2) (0 ∷ 1 ∷ []) passes.before passes.before → ⊥ }
-    ensures not_handed_out { HaveMet (at_most 2) (0 ∷ []) passes.before passes.after → ⊥ }
+    ensures met { HaveMet (at_most 2) (0 ∷ 1 ∷ []) (passes.first_has passes.first_after) }
+    ensures nothing_done { HaveMet (at_most 2) (0 ∷ 1 ∷ []) (passes.first_has passes.first_before) → ⊥ }
+    ensures took_anothers { HaveMet (at_most 2) (0 ∷ 1 ∷ []) (passes.first_has passes.first_with_both) → ⊥ }
+    ensures not_handed_out { HaveMet (at_most 2) (0 ∷ []) (passes.first_has passes.first_after) → ⊥ }
+{}
+
+/// A pass that learns of another has seen what either had. It hasn't learned where it has seen less afterwards, where it
+/// has seen no more, nor where it took a commit of the other for its own ('profile').
+pub fn lessons()
+    ensures learned { Learns (at_most 2) passes.first_before passes.both_commits passes.first_after }
+    ensures seen_less { Learns (at_most 2) passes.first_after passes.one_commit passes.first_before → ⊥ }
+    ensures seen_no_more { Learns (at_most 2) passes.first_before passes.both_commits passes.first_before → ⊥ }
+    ensures took_anothers { Learns (at_most 2) passes.first_before passes.both_commits passes.first_with_both → ⊥ }
 {}

@@ -41,7 +41,7 @@ pub record IsKnown (whole : Seen) (views : List Standing) : Type 0 where
   pub knows : by.seen ≡ whole
 
 -- **The rule of the queue.** What was put is what was taken and then what the queue holds. Each pass has seen a beginning
--- of both, and the last that put or took has seen all. The passes share the queue.
+-- of both, and some pass that has a share has seen all. The passes share the queue.
 pub record IsQueue (items : List ℕ) (views : List Standing) : Type 0 where
   pub whole : Seen
   pub holds : whole.put ≡ whole.taken ++ items

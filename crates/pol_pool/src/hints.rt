@@ -40,12 +40,14 @@ impl Hints {
         Ok((Hints { queue }, HintPass { pass }))
     }
 
-    /// A pass more, for another thread, which has seen what this one has. Each has half of the share that this one had.
+    /// A pass more, for another thread, which has seen what this one has. Each has half of the share that this one had. After
+    /// want of memory this one has the share that it had.
     pub fn split<R: Wait>(&self, _rt: &R, pass: &mut HintPass) -> Result<HintPass, Memory>
         requires pass { IsHintPassOf self.now pass.old }
         ensures pass { IsHintPassOf self.now pass.new }
         ensures seen { seen_by pass.new ≡ seen_by pass.old }
-        ensures share { share_of pass.new ≡ half (share_of pass.old) }
+        ensures share { OnOk result (share_of pass.new ≡ half (share_of pass.old)) }
+        ensures err { OnErr result (share_of pass.new ≡ share_of pass.old) }
         ensures other { IfOk result (λ other. IsHintPassOf self.now other) }
         ensures other_seen { IfOk result (λ other. seen_by other ≡ seen_by pass.old) }
         ensures other_share { IfOk result (λ other. share_of other ≡ half (share_of pass.old)) }

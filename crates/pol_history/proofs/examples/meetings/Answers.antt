@@ -1,6 +1,7 @@
 use Rattle.std.proofs.Common.{◌≡◌, ℕ, zero, suc, List, [], ◌∷◌, length, refl, sym, ap, ◌∙◌, subst, arith}
 use Rattle.std.specs.List.{AllByRecursion, Contains}
 use Rattle.pol_model.specs.declared.options.Mode.TheVariants.{Always}
+use Rattle.pol_model.specs.declared.request.Request.{Request}
 use Rattle.pol_model.specs.declared.request.Request.TheVariants.{SetMode}
 use Rattle.pol_history.specs.declared.event.HistoryEvent.{HistoryEvent}
 use Rattle.pol_history.specs.ExampleEvents.{at_most, commit}
@@ -23,13 +24,15 @@ returns c = record {
     history = passes.both_commits;
     shown =
         (
-          record { grows = record { goes_on = (commit 1 0 (SetMode Always) ∷ [], refl); legal = legal; mine = refl }; all = refl },
-          (record { grows = record { goes_on = ([], refl); legal = legal; mine = refl }; all = refl }, tt),
+          record { grows = record { grows = record { goes_on = (commit 1 0 (SetMode Always) ∷ [], refl); legal = legal; mine = refl }; commits = refl }; all = refl },
+          (record { grows = record { grows = record { goes_on = ([], refl); legal = legal; mine = refl }; commits = refl }; all = refl }, tt),
         );
     commits = ((0, omega arith, refl), ((1, omega arith, refl), tt));
   };
   nothing_done = λ it.
       let same : passes.one_commit ≡ passes.both_commits = it.shown.0.all ∙ sym it.shown.1.0.all in
       let many : 1 ≡ 2 = ap (λ (l : List HistoryEvent). length l) same in omega (arith, many);
+  took_anothers = λ it.
+      let many : 2 ≡ 1 = ap (λ (l : List Request). length l) it.shown.0.grows.grows.mine in omega (arith, many);
   not_handed_out = λ it. not_one (subst (AllByRecursion (IsOf (0 ∷ []))) (sym it.shown.1.0.all) it.commits).1.0;
 }
