@@ -1,11 +1,13 @@
 #!/usr/bin/env python3
 """How fast policyd reads policy documents, and whether time and memory grow with the document alone.
 
-    bench/reading.py        applies of about 400 bytes, one policy after another in place of each other; one policy of
-                            2,500, 5,000 and 10,000 entries; and one whose `status` has 2.5, 5 and 10 MiB
+    bench/reading.py        applies of about 400 bytes, one policy after another in place of each other; the same, read and
+                            then refused for the last port's protocol; one policy of 2,500, 5,000 and 10,000 entries; and
+                            one whose `status` has 2.5, 5 and 10 MiB
 
 Each row has the size of the script, the seconds, MB/s, the peak memory in MiB, and the ratio of its seconds to those of
-the row before. `no-spec` lines are refused once they are read, so they show the JSON reader and the walk alone.
+the row before. `applies` are committed too; what is refused is read alone. `no-spec` lines are refused where the document
+is, so they show the JSON reader and the walk.
 """
 import pathlib
 import sys
@@ -20,18 +22,22 @@ def apply(name, spec, **more):
     return lines.text({"op": "apply", "policy": policy})
 
 
-def entry(i):
-    ports = [{"port": str(1 + i % 65535), "protocol": "TCP"}]
+def entry(i, protocol="TCP"):
+    ports = [{"port": str(1 + i % 65535), "protocol": protocol}]
     return {"fromEndpoints": [{"matchLabels": {"app": f"a{i % 64}", "tier": "front"}}], "toPorts": [{"ports": ports}]}
 
 
-def small(i):
+def small(i, protocol="TCP"):
     selector = {"matchLabels": {"app": f"a{i % 64}", "io.kubernetes.pod.namespace": "default"}}
-    return apply("p", {"description": "one of many", "endpointSelector": selector, "ingress": [entry(i)], "egress": []})
+    return apply("p", {"description": "one of many", "endpointSelector": selector, "ingress": [entry(i, protocol)], "egress": []})
 
 
 def applies(count):
     return "".join(map(small, range(count)))
+
+
+def refused(count):
+    return "".join(small(i, "IP") for i in range(count))
 
 
 def of_entries(count):
@@ -50,17 +56,18 @@ def no_spec(count):
 def main():
     for name, script, counts in (
         ("applies", applies, (20_000, 40_000, 80_000)),
-        ("no-spec lines", no_spec, (40_000, 80_000, 160_000)),
+        ("refused applies", refused, (20_000, 40_000, 80_000)),
+        ("no-spec lines", no_spec, (20_000, 40_000, 75_000)),
         ("entries", of_entries, (2_500, 5_000, 10_000)),
         ("KiB of status", with_status, (2_560, 5_120, 10_240)),
     ):
         last = None
         for count in counts:
             made = script(count)
-            seconds, memory = lines.measured(made)
+            seconds, memory = lines.measured([], made)
             size = len(made) / 1e6
             ratio = "" if last is None else f"  x{seconds / last:.2f}"
-            print(f"{count:>9} {name:<14} {size:8.1f} MB {seconds:8.2f} s {size / seconds:8.1f} MB/s {memory:9.1f} MiB{ratio}", flush=True)
+            print(f"{count:>9} {name:<15} {size:8.1f} MB {seconds:8.2f} s {size / seconds:8.1f} MB/s {memory:9.1f} MiB{ratio}", flush=True)
             last = seconds
 
 

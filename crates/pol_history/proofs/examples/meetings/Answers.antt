@@ -22,11 +22,10 @@ pub returns : goal.returns
 returns c = record {
   met = record {
     history = passes.both_commits;
-    shown =
-        (
-          record { grows = record { grows = record { goes_on = (commit 1 0 (SetMode Always) ∷ [], refl); legal = legal; mine = refl }; commits = refl }; all = refl },
-          (record { grows = record { grows = record { goes_on = ([], refl); legal = legal; mine = refl }; commits = refl }; all = refl }, tt),
-        );
+    shown = (
+      record { grows = record { grows = record { goes_on = (commit 1 0 (SetMode Always) ∷ [], refl); legal = legal; mine = refl }; commits = refl }; all = refl },
+      (record { grows = record { grows = record { goes_on = ([], refl); legal = legal; mine = refl }; commits = refl }; all = refl }, tt),
+    );
     commits = ((0, omega arith, refl), ((1, omega arith, refl), tt));
   };
   nothing_done = λ it.
