@@ -1,4 +1,4 @@
-use Rattle.std.proofs.Common.{◌≡◌, ℕ, ◌+◌, List, [], ◌∷◌, length, refl, ap, arith}
+use Rattle.std.proofs.Common.{◌≡◌, suc, List, [], ◌∷◌, length, refl, ap, arith}
 use Rattle.pol_model.specs.declared.options.Mode.TheVariants.{Always}
 use Rattle.pol_model.specs.declared.request.Request.{Request}
 use Rattle.pol_model.specs.declared.request.Request.TheVariants.{SetMode}
@@ -13,7 +13,7 @@ legal : IsLegal (at_most 2) passes.both_commits
 legal = each_legal (at_most 2) passes.both_commits (record { no_fault = refl; next = refl }, (record { no_fault = refl; next = refl }, tt))
 
 -- two events and more are no beginning of one
-too_many : (rest : List HistoryEvent) → 2 + length rest ≡ 1 → ⊥
+too_many : (rest : List HistoryEvent) → suc (suc (length rest)) ≡ 1 → ⊥
 too_many rest is = omega (arith, is)
 
 pub returns : goal.returns
