@@ -1,3 +1,6 @@
 pub mod Beginnings
+pub mod Histories
 pub mod Shares
+pub mod Views
 pub mod Steps
+pub mod Owed

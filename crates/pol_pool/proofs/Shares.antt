@@ -3,8 +3,8 @@ use Rattle.std.proofs.Common.{◌≡◌, ℕ, zero, suc, ◌≤◌, ◌<◌, ◌
 use Rattle.std.proofs.Math.Nat.{eq_of_mul-eq-mul_right, le-mul_of_pos_right, le_of_mul-le-mul_right, mul-le-mul_right}
 use mathlib.Core.Option.{some, some-injective, some-ne-none}
 use lib.ListN.{get_elem?}
-use Rattle.pol_pool.specs.declared.share.Share.{Share}
-use Rattle.pol_pool.specs.declared.share.Standing.{Standing}
+use Rattle.pol_pool.specs.declared.standing.Share.{Share}
+use Rattle.pol_pool.specs.declared.standing.Standing.{Standing}
 use Rattle.pol_pool.specs.Shares.{ComeTo, IsAll, IsPart, IsSame, Measures, half, no_share, together}
 
 -- ---- one share

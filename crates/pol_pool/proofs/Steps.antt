@@ -1,240 +1,168 @@
 -- Each step keeps the rule of the queue.
-use Rattle.std.proofs.Common.{◌≡◌, ◌≢◌, ℕ, zero, suc, drop, length, List, [], ◌∷◌, ◌++◌, ◌+◌, ◌*◌, set, refl, sym, ap, ◌∙◌, subst, inl, inr, ⊎_elim, append_assoc, arith}
-use Rattle.std.proofs.Math.Decide.{ℕ_discrete}
-use Rattle.std.proofs.Math.Seq.{drop-append_seam}
-use mathlib.Core.Logic.{dite}
-use mathlib.Core.Option.{some, some-injective, some-ne-none}
+use Rattle.std.proofs.Common.{◌≡◌, ◌≢◌, ℕ, zero, suc, length, Bool, true, false, List, [], ◌∷◌, ◌++◌, set, refl, sym, ap, ◌∙◌, subst, inl, inr, ⊎_elim, ◌⊎◌, arith, length-append, true≢false}
+use Rattle.std.proofs.lemmas.Bool.{cases_Bool}
+use mathlib.Core.List.{IsPrefix}
+use mathlib.Core.Option.{Option, none, some, some-ne-none}
 use lib.ListN.{get_elem?}
-use Rattle.crossbeam_queue.specs.Fifo.{Pushes, Pops, Forks, Merges, Learns}
-use Rattle.crossbeam_queue.proofs.Lists.{at_longer, at_set, at_snoc, set_else}
-use Rattle.pol_pool.specs.declared.seen.Seen.{Seen}
-use Rattle.pol_pool.specs.declared.share.Standing.{Standing}
-use Rattle.pol_pool.specs.Queue.{GoesOn, HasSeen, IsHistory, IsKnown, IsQueue, IsSound, KnowsItems, TellsPut, TellsTaken, joined, newly_made, of_both, seen, spent, standing, waiting, with_half, with_put, with_taken}
-use Rattle.pol_pool.specs.Shares.{AreShares, IsAll, IsPart}
-use Rattle.pol_pool.proofs.Beginnings.{begins_itself, begins_longer, goes_further, joined_knows, joined_sound, joined_whole, sound_from}
-use Rattle.pol_pool.proofs.Shares.{all_units, both_part, both_units, doubled, finer, half_part, half_units, no_more, none_units, one_measure, one_more, one_of, some_units}
+use prog.Atomic.{either}
+use Rattle.std.specs.Prelude.{◌==◌, slice_index, slice_set}
+use Rattle.atomic_table.specs.Table.{Act, Allows, Joins, Me, Splits, State, Valid, carried_after, gives, keeps, opening, step, stepped, takes}
+use Rattle.atomic_table.proofs.Lists.{at_set, at_snoc, set_again}
+use Rattle.circular_buffer.specs.Buffer.{Buffer, buffer}
+use Rattle.pol_pool.specs.declared.standing.Standing.{Standing}
+use Rattle.pol_pool.specs.declared.turn.Turn.{Turn}
+use Rattle.pol_pool.specs.History.{IsHistory, MayCome, waiting, waiting_after}
+use Rattle.pol_pool.specs.Queue.{AreOf, HasFetched, IsHome, IsOut, IsQueue, TellsFetched, TellsShare, newly_made, of_both, other_half, out, spent, standing, with_half, with_turn}
+use Rattle.pol_pool.specs.Shares.{IsPart}
+use Rattle.pol_pool.proofs.Beginnings.{begins_itself}
+use Rattle.pol_pool.proofs.Histories.{history_more, waiting_more}
+use Rattle.pol_pool.proofs.Views.{Each, begins, each_more, each_set, joins, knows_all, no_more_than_all, splits, steps}
 
--- ---- what holds of each pass
+abbrev Table : Type 0
+Table = State (Buffer ℕ) Standing
 
-abbrev Each : (Seen → Type 0) → List Standing → Type 0
-Each F views = (port : ℕ) (v : Standing) → get_elem? views port ≡ some v → F v.seen
+abbrev table : List ℕ → List (Option (Buffer ℕ)) → List Standing → Table
+table ws hs vs = record { words = ws; homes = hs; views = vs }
 
-each_set : (F : Seen → Type 0) (views : List Standing) (port : ℕ) (w : Standing) → F w.seen → Each F views → Each F (set views port w)
-each_set F views port w mine others j u at =
-    ⊎_elim (λ (x : (j ≡ port) × (w ≡ u)). subst (λ (y : Standing). F y.seen) x.1 mine)
-    (λ (x : (j ≢ port) × (get_elem? views j ≡ some u)). others j u x.1) (at_set views port j w u at)
+not_both : {b : Bool} → b ≡ true → b ≡ false → ⊥
+not_both set unset = true≢false (sym set ∙ unset)
 
-each_more : (F : Seen → Type 0) (views : List Standing) (w : Standing) → F w.seen → Each F views → Each F (views ++ w ∷ [])
-each_more F views w mine others j u at =
-    ⊎_elim (λ x. others j u x) (λ (is : w ≡ u). subst (λ (y : Standing). F y.seen) is mine) (at_snoc views w u j at)
-
--- what a pass has seen stands as the whole history goes on
-seen_later : (v whole more : Seen) → GoesOn whole more → HasSeen v whole → HasSeen v more
-seen_later v whole more later it = record { sound = it.sound; goes_on = goes_further v whole more it.goes_on later }
-
-nothing_of : (whole : Seen) → HasSeen (seen [] []) whole
-nothing_of whole = record { sound = refl; goes_on = record { put = (whole.put, refl); taken = (whole.taken, refl) } }
-
-at_here : (views : List Standing) (port : ℕ) (v w : Standing) → get_elem? views port ≡ some v → get_elem? (set views port w) port ≡ some w
-at_here [] port v w at = absurd (some-ne-none v (sym at))
-at_here (x ∷ views) zero v w at = refl
-at_here (x ∷ views) (suc port) v w at = at_here views port v w at
-
-one_there : (views : List Standing) (port j : ℕ) (v u : Standing) → port ≡ j → get_elem? views port ≡ some v → get_elem? views j ≡ some u → u ≡ v
-one_there views port j v u same at there = some-injective u v (sym there ∙ ap (get_elem? views) (sym same) ∙ at)
-
--- ---- a pass with the whole share
-
--- no other pass has a share
-no_other : (views : List Standing) (port j : ℕ) (v u : Standing) → AreShares views → get_elem? views port ≡ some v → get_elem? views j ≡ some u → j ≢ port → IsAll v.share → IsPart u.share → ⊥
-no_other views port j v u it at there other all part =
-    let mine = one_of it.whole it.units port views v at it.come in
-    let without = mine.put spent 0 (none_units it.whole) in
-    let theirs = one_of it.whole (0 + mine.rest) j (set views port spent) u (set_else views port j spent other ∙ there) without in
-    let whole = all_units it.whole mine.mine v.share mine.is all in
-    let more = some_units it.whole theirs.mine u.share theirs.is it.least part in
-    let first = mine.sum in
-    let second = theirs.sum in
-    let few = it.few in
-    omega (arith, whole, more, first, second, few)
-
--- it has seen all
-pub knows_all : (items : List ℕ) (views : List Standing) (it : IsQueue items views) (port : ℕ) (v : Standing) → get_elem? views port ≡ some v → IsAll v.share → v.seen ≡ it.whole
-knows_all items views it port v at all =
-    let known = it.known in
-    dite (ℕ_discrete port known.port)
-    (λ same. ap (λ (y : Standing). y.seen) (sym (one_there views port known.port v known.by same at known.at)) ∙ known.knows)
-    (λ other. absurd (no_other views port known.port v known.by it.shares at known.at (λ is. other (sym is)) all known.part))
-
--- ---- the steps
-
-same_shares : (views : List Standing) (port : ℕ) (v : Standing) (now : Seen) → get_elem? views port ≡ some v → AreShares views → AreShares (set views port (standing now v.share))
-same_shares views port v now at it =
-    let mine = one_of it.whole it.units port views v at it.come in
-    let sum = mine.sum in
-    let few = it.few in
-    record { whole = it.whole; units = mine.mine + mine.rest; least = it.least; few = omega (arith, sum, few); come = mine.put (standing now v.share) mine.mine mine.is }
-
--- the queue goes on to this history by a step of the pass
-goes : (items more : List ℕ) (views : List Standing) (port : ℕ) (v : Standing) (it : IsQueue items views) (now : Seen) → get_elem? views port ≡ some v → IsPart v.share → GoesOn it.whole now → IsHistory now → now.put ≡ now.taken ++ more → IsQueue more (set views port (standing now v.share))
-goes items more views port v it now at part later sound holds = record {
-  whole = now;
-  holds = holds;
-  each =
-      each_set (λ u. HasSeen u now) views port (standing now v.share) (record { sound = sound; goes_on = record { put = begins_itself now.put; taken = begins_itself now.taken } })
-      (λ j u there. seen_later u.seen it.whole now later (it.each j u there));
-  known = record { port = port; by = standing now v.share; at = at_here views port v (standing now v.share) at; part = part; knows = refl };
-  shares = same_shares views port v now at it.shares;
+pub starts : (room : ℕ) → IsQueue room (opening (0 ∷ []) (buffer [] room ∷ []) (newly_made room))
+starts room = record {
+  history = [];
+  legal = tt;
+  passes = begins room;
+  list = inl (record { words = refl; list = refl; nobody = each_more (λ v. v.holds ≡ false) [] (newly_made room) refl (λ j u at. absurd (some-ne-none u (sym at))) });
 }
 
-pub starts : IsQueue [] (newly_made ∷ [])
-starts = record {
-  whole = seen [] [];
-  holds = refl;
-  each = each_more (λ v. HasSeen v (seen [] [])) [] newly_made (nothing_of (seen [] [])) (λ j u at. absurd (some-ne-none u (sym at)));
-  known = record { port = 0; by = newly_made; at = refl; part = record { part = omega arith; of = omega arith }; knows = refl };
-  shares = record { whole = 1; units = 1; least = omega arith; few = omega arith; come = (1, 0, record { of = omega arith; is = refl }, refl, refl) };
-}
+-- ---- the list goes out
 
-pub puts : (n port : ℕ) (v : Standing) (slot : ℕ) → IsPart v.share → Pushes IsQueue n port v slot (TellsPut v slot)
-puts n port v slot part items views room it at =
-    let now = with_put it.whole slot in
-    let mine = it.each port v at in
-    let later : GoesOn it.whole now = record { put = (slot ∷ [], refl); taken = begins_itself it.whole.taken } in
-    let sound : IsHistory now = sound_from now (begins_longer it.whole.taken it.whole.put slot (items, sym it.holds)) in
-    let holds : now.put ≡ now.taken ++ (items ++ slot ∷ []) = ap (λ l. l ++ slot ∷ []) it.holds ∙ append_assoc it.whole.taken items (slot ∷ []) in (
-      standing now v.share,
-      goes items (items ++ slot ∷ []) views port v it now at part later sound holds,
-      record {
-        adds = record { so_far = it.whole.put; past = mine.goes_on.put; put = refl; taken = mine.goes_on.taken; sound = sound };
-        share = refl;
-        only = λ all. ap (λ (u : Seen). with_put u slot) (sym (knows_all items views it port v at all));
-      },
-    )
+module _ (room slots id : ℕ) (v : Standing) (same : v.room ≡ room) (part : IsPart v.share) where
+  abbrev Fetching : Table → Type 0
+  Fetching s = (w : Standing) × (a : Act (Buffer ℕ)) × Valid s.homes [] a
+      × IsQueue room (stepped s 0 (either (slice_index s.words 0 == 0) 1 (slice_index s.words 0)) id [] w a)
+      × TellsFetched (step slots 0 0 1 none) (v, []) (slice_index s.words 0) (w, carried_after [] a)
 
-pub takes : (port : ℕ) (v : Standing) → IsPart v.share → Pops IsQueue port v (TellsTaken v)
-takes port v part slot items views it at =
-    let now = with_taken it.whole slot in
-    let mine = it.each port v at in
-    let later : GoesOn it.whole now = record { put = begins_itself it.whole.put; taken = (slot ∷ [], refl) } in
-    let holds : now.put ≡ now.taken ++ items = it.holds ∙ sym (append_assoc it.whole.taken (slot ∷ []) items) in
-    let sound : IsHistory now = sound_from now (items, sym holds) in (
-      standing now v.share,
-      goes (slot ∷ items) items views port v it now at part later sound holds,
-      record {
-        adds = record { so_far = it.whole.taken; past = mine.goes_on.taken; taken = refl; put = mine.goes_on.put; sound = sound };
-        share = refl;
-        only = λ all. ap (λ (u : Seen). with_taken u slot) (sym (knows_all (slot ∷ items) views it port v at all));
-      },
-    )
-
-half_shares : (views : List Standing) (port : ℕ) (v : Standing) → get_elem? views port ≡ some v → AreShares views → AreShares (set views port (with_half v) ++ with_half v ∷ [])
-half_shares views port v at it =
-    let mine = one_of (2 * it.whole) (2 * it.units) port views v at (finer it.whole it.units views it.come) in
-    let old = one_of it.whole it.units port views v at it.come in
-    let is = half_units it.whole old.mine v.share old.is in
-    let least = it.least in
-    let few = it.few in
-    let sum = mine.sum in
-    let were = old.sum in
-    let same = doubled it.whole mine.mine old.mine v.share mine.is old.is in
-    record {
-      whole = 2 * it.whole;
-      units = old.mine + mine.rest + old.mine;
-      least = omega (arith, least);
-      few = omega (arith, few, sum, were, same);
-      come = one_more (2 * it.whole) (old.mine + mine.rest) old.mine (set views port (with_half v)) (with_half v) (mine.put (with_half v) old.mine is) is;
-    }
-
-pub forks : (port : ℕ) (v : Standing) → IsPart v.share → Forks IsQueue port v (with_half v) (with_half v)
-forks port v part items views it at =
-    let left = with_half v in
-    let known = it.known in
-    record {
-      whole = it.whole;
-      holds = it.holds;
-      each = each_more (λ u. HasSeen u it.whole) (set views port left) left (it.each port v at) (each_set (λ u. HasSeen u it.whole) views port left (it.each port v at) it.each);
-      known =
-          dite (ℕ_discrete port known.port)
-          (λ same. let by = one_there views port known.port v known.by same at known.at in record {
-            port = port;
-            by = left;
-            at = at_longer (set views port left) (left ∷ []) port left (at_here views port v left at);
-            part = half_part v.share part;
-            knows = ap (λ (y : Standing). y.seen) (sym by) ∙ known.knows;
-          })
-          (λ other. record {
-            port = known.port;
-            by = known.by;
-            at = at_longer (set views port left) (left ∷ []) known.port known.by (set_else views port known.port left (λ is. other (sym is)) ∙ known.at);
-            part = known.part;
-            knows = known.knows;
+  goes_out : (views : List Standing) (history : List Turn) → get_elem? views id ≡ some v → IsHistory room history → AreOf room history views → Each (λ u. u.holds ≡ false) views → Fetching (table (0 ∷ []) (some (buffer (waiting history) room) ∷ []) views)
+  goes_out views history at legal passes nobody =
+      let w = standing v.room history v.own v.share true in (
+        w,
+        takes 0 (buffer (waiting history) room),
+        refl,
+        record {
+          history = history;
+          legal = legal;
+          passes = steps room history views passes id v at history w part (begins_itself history) refl refl refl refl;
+          list = inr (record {
+            words = refl;
+            list = refl;
+            holder = id;
+            one = λ j u there is. ⊎_elim (λ x. (x.0, ap (λ (y : Standing). y.seen) (sym x.1))) (λ x. absurd (not_both is (nobody j u x.1))) (at_set views id j w u there);
           });
-      shares = half_shares views port v at it.shares;
-    }
+        },
+        record {
+          seen = history;
+          past = (passes.each id v at).past;
+          legal = rw same legal;
+          only = λ all. sym (knows_all room history views passes id v at all);
+          is = ap (λ (n : ℕ). out w (buffer (waiting history) n)) (sym same);
+        },
+      )
 
-both_shares : (views : List Standing) (port other : ℕ) (v w : Standing) → get_elem? views port ≡ some v → get_elem? views other ≡ some w → other ≢ port → AreShares views → AreShares (set (set views port (of_both v w)) other spent)
-both_shares views port other v w at there apart it =
-    let mine = one_of it.whole it.units port views v at it.come in
-    let without = mine.put spent 0 (none_units it.whole) in
-    let theirs = one_of it.whole (0 + mine.rest) other (set views port spent) w (set_else views port other spent apart ∙ there) without in
-    let is = both_units it.whole mine.mine theirs.mine v.share w.share mine.is theirs.is in
-    let with_both = mine.put (of_both v w) (mine.mine + theirs.mine) is in
-    let last = one_of it.whole (mine.mine + theirs.mine + mine.rest) other (set views port (of_both v w)) w (set_else views port other (of_both v w) apart ∙ there) with_both in
-    let same = one_measure it.whole last.mine theirs.mine w.share last.is theirs.is in
-    let few = it.few in
-    let first = mine.sum in
-    let total = last.sum in
-    record {
-      whole = it.whole;
-      units = 0 + last.rest;
-      least = it.least;
-      few = omega (arith, few, first, total, same);
-      come = last.put spent 0 (none_units it.whole);
-    }
+  stays_out : (views : List Standing) (history : List Turn) → get_elem? views id ≡ some v → IsHistory room history → AreOf room history views → (holder : ℕ) → ((j : ℕ) (u : Standing) → get_elem? views j ≡ some u → u.holds ≡ true → (j ≡ holder) × (u.seen ≡ history))
+      → Fetching (table (1 ∷ []) (none ∷ []) views)
+  stays_out views history at legal passes holder one = (
+    v,
+    keeps,
+    tt,
+    subst (λ vs. IsQueue room (table (1 ∷ []) (none ∷ []) vs)) (sym (set_again views id v at)) (record { history = history; legal = legal; passes = passes; list = inr (record { words = refl; list = refl; holder = holder; one = one }) }),
+    refl,
+  )
 
-pub merges : (port : ℕ) (v : Standing) (other : ℕ) (w : Standing) → IsPart v.share → IsPart w.share → Merges IsQueue port v other w (of_both v w) spent
-merges port v other w part part' items views it at apart theirs =
-    let mine = it.each port v at in
-    let there : get_elem? views other ≡ some w = ⊎_elim (λ x. absurd (apart x.0)) (λ x. x.1) (at_set views port other (of_both v w) w theirs) in
-    let its = it.each other w there in
-    let both : HasSeen (joined v.seen w.seen) it.whole = record {
-      sound = joined_sound v.seen w.seen it.whole mine.goes_on its.goes_on mine.sound its.sound;
-      goes_on = joined_whole v.seen w.seen it.whole mine.goes_on its.goes_on;
-    } in
-    let here : get_elem? (set (set views port (of_both v w)) other spent) port ≡ some (of_both v w) = set_else (set views port (of_both v w)) other port spent (λ is. apart (sym is)) ∙ at_here views port v (of_both v w) at in
-    let known = it.known in
-    let by_both : (joined v.seen w.seen ≡ it.whole) → IsKnown it.whole (set (set views port (of_both v w)) other spent) = λ knows. record { port = port; by = of_both v w; at = here; part = both_part v.share w.share part part'; knows = knows } in
-    let seen_of : Standing → Seen = λ y. y.seen in
-    record {
-      whole = it.whole;
-      holds = it.holds;
-      each = each_set (λ u. HasSeen u it.whole) (set views port (of_both v w)) other spent (nothing_of it.whole)
-          (each_set (λ u. HasSeen u it.whole) views port (of_both v w) both it.each);
-      known =
-          dite (ℕ_discrete port known.port)
-          (λ same. by_both (joined_knows v.seen w.seen it.whole mine.goes_on its.goes_on (inl (ap seen_of (sym (one_there views port known.port v known.by same at known.at)) ∙ known.knows))))
-          (λ apart1. dite (ℕ_discrete other known.port)
-          (λ same. by_both (joined_knows v.seen w.seen it.whole mine.goes_on its.goes_on (inr (ap seen_of (sym (one_there views other known.port w known.by same there known.at)) ∙ known.knows))))
-          (λ apart2. record {
-            port = known.port;
-            by = known.by;
-            at = set_else (set views port (of_both v w)) other known.port spent (λ is. apart2 (sym is)) ∙ set_else views port known.port (of_both v w) (λ is. apart1 (sym is)) ∙ known.at;
-            part = known.part;
-            knows = known.knows;
-          }));
-      shares = both_shares views port other v w at there apart it.shares;
-    }
+  pub fetches : Allows (IsQueue room) slots id (v, []) 0 (λ n. either (n == 0) 1 n) (TellsFetched (step slots 0 0 1 none) (v, []))
+  fetches s it few at small =
+      ⊎_elim
+      (λ (home : IsHome room it.history s). subst (λ (x : List ℕ × List (Option (Buffer ℕ))). Fetching (table x.0 x.1 s.views)) (λ i. (sym home.words i, sym home.list i)) (goes_out s.views it.history at it.legal it.passes home.nobody))
+      (λ (away : IsOut it.history s). subst (λ (x : List ℕ × List (Option (Buffer ℕ))). Fetching (table x.0 x.1 s.views)) (λ i. (sym away.words i, sym away.list i)) (stays_out s.views it.history at it.legal it.passes away.holder away.one))
+      it.list
 
-pub holds : (port : ℕ) (v : Standing) → Learns IsQueue port v (KnowsItems v)
-holds port v items views it at all =
-    let is = knows_all items views it port v at all in
-    sym (drop-append_seam it.whole.taken items) ∙ ap (drop (length it.whole.taken)) (sym it.holds) ∙ ap waiting (sym is)
+-- ---- the list comes back
 
-pub sounds : (port : ℕ) (v : Standing) → Learns IsQueue port v (λ items. IsSound v)
-sounds port v items views it at =
-    let shares = it.shares in
-    let mine = one_of shares.whole shares.units port views v at shares.come in
-    let few = shares.few in
-    let sum = mine.sum in
-    record { history = (it.each port v at).sound; at_most = no_more shares.whole mine.mine v.share mine.is shares.least (omega (arith, few, sum)) }
+module _ (room slots id : ℕ) (v : Standing) (list : Buffer ℕ) (turn : Turn) (same : v.room ≡ room) (part : IsPart v.share) (holds : v.holds ≡ true) (may : MayCome v.room (waiting v.seen) turn) (is : list ≡ buffer (waiting_after (waiting v.seen) turn) v.room)
+    (Tells : Me (Buffer ℕ) Standing → Type 0) (told : Tells (with_turn v turn))
+  where
+    abbrev Returning : Table → Type 0
+    Returning s = (w : Standing) × (a : Act (Buffer ℕ)) × Valid s.homes ((0, list) ∷ []) a × IsQueue room (stepped s 0 0 id ((0, list) ∷ []) w a) × Tells (w, carried_after ((0, list) ∷ []) a)
+
+    comes_back : (views : List Standing) (history : List Turn) → get_elem? views id ≡ some v → IsHistory room history → AreOf room history views → (holder : ℕ) → ((j : ℕ) (u : Standing) → get_elem? views j ≡ some u → u.holds ≡ true → (j ≡ holder) × (u.seen ≡ history))
+        → Returning (table (1 ∷ []) (none ∷ []) views)
+    comes_back views history at legal passes holder one =
+        let w = (with_turn v turn).0 in
+        let mine = one id v at holds in
+        let now = history ++ turn ∷ [] in
+        let seen : w.seen ≡ now = ap (λ (l : List Turn). l ++ turn ∷ []) mine.1 in (
+          w,
+          gives,
+          tt,
+          record {
+            history = now;
+            legal = history_more room history turn legal (subst (λ (l : List Turn). MayCome room (waiting l) turn) mine.1 (rw (sym same) may));
+            passes = steps room history views passes id v at now w part (turn ∷ [], refl) seen refl refl (let more = length-append history (turn ∷ []) in omega (arith, more));
+            list = inl (record {
+              words = refl;
+              list = ap (λ (b : Buffer ℕ). some b ∷ []) (is ∙ (λ i. buffer (waiting_after (waiting (mine.1 i)) turn) (same i)) ∙ ap (λ l. buffer l room) (sym (waiting_more history turn)));
+              nobody = λ j u there.
+                  ⊎_elim (λ x. subst (λ (y : Standing). y.holds ≡ false) x.1 refl)
+                  (λ x. ⊎_elim (λ set_. absurd (x.0 ((one j u x.1 set_).0 ∙ sym mine.0))) (λ unset. unset) (cases_Bool u.holds)) (at_set views id j w u there);
+            });
+          },
+          told,
+        )
+
+    pub answers : Allows (IsQueue room) slots id (out v list) 0 (λ _. 0) (λ _ me. Tells me)
+    answers s it few at small =
+        ⊎_elim (λ (home : IsHome room it.history s). absurd (not_both holds (home.nobody id v at)))
+        (λ (away : IsOut it.history s). subst (λ (x : List ℕ × List (Option (Buffer ℕ))). Returning (table x.0 x.1 s.views)) (λ i. (sym away.words i, sym away.list i)) (comes_back s.views it.history at it.legal it.passes away.holder away.one))
+        it.list
+
+-- ---- passes are split and joined, and looked at
+
+module _ (room slots id : ℕ) (v : Standing) (idle : v.holds ≡ false) (part : IsPart v.share) where
+  list_stays : (s : Table) (history : List Turn) (views : List Standing) → ((j : ℕ) (u : Standing) → get_elem? views j ≡ some u → (u.holds ≡ false) ⊎ (get_elem? s.views j ≡ some u)) → IsHome room history s ⊎ IsOut history s
+      → IsHome room history (table s.words s.homes views) ⊎ IsOut history (table s.words s.homes views)
+  list_stays s history views old (inl home) = inl (record { words = home.words; list = home.list; nobody = λ j u at. ⊎_elim (λ unset. unset) (λ there. home.nobody j u there) (old j u at) })
+  list_stays s history views old (inr away) = inr (record { words = away.words; list = away.list; holder = away.holder; one = λ j u at set_. ⊎_elim (λ unset. absurd (not_both set_ unset)) (λ there. away.one j u there set_) (old j u at) })
+
+  pub forks : Splits (IsQueue room) id v (with_half v) (other_half v)
+  forks s it at = record {
+    history = it.history;
+    legal = it.legal;
+    passes = splits room it.history s.views it.passes id v at part;
+    list = list_stays s it.history (set s.views id (with_half v) ++ other_half v ∷ []) (λ j u there.
+        ⊎_elim (λ x. ⊎_elim (λ y. inl (subst (λ (z : Standing). z.holds ≡ false) y.1 idle)) (λ y. inr y.1) (at_set s.views id j (with_half v) u x))
+        (λ is. inl (subst (λ (z : Standing). z.holds ≡ false) is refl)) (at_snoc (set s.views id (with_half v)) (other_half v) u j there)) it.list;
+  }
+
+  pub merges : (other : ℕ) (w : Standing) → IsPart w.share → Joins (IsQueue room) id v other w (of_both v w) spent
+  merges other w part' s it at apart theirs =
+      let there : get_elem? s.views other ≡ some w = ⊎_elim (λ x. absurd (apart x.0)) (λ x. x.1) (at_set s.views id other (of_both v w) w theirs) in
+      record {
+        history = it.history;
+        legal = it.legal;
+        passes = joins room it.history s.views it.passes id v at other w there apart part part';
+        list = list_stays s it.history (set (set s.views id (of_both v w)) other spent) (λ j u here.
+            ⊎_elim (λ x. inl (subst (λ (z : Standing). z.holds ≡ false) x.1 refl))
+            (λ x. ⊎_elim (λ y. inl (subst (λ (z : Standing). z.holds ≡ false) y.1 idle)) (λ y. inr y.1) (at_set s.views id j (of_both v w) u x.1)) (at_set (set s.views id (of_both v w)) other j spent u here)) it.list;
+      }
+
+  set_same : (ns : List ℕ) (i : ℕ) → slice_set ns i (slice_index ns i) ≡ ns
+  set_same [] i = refl
+  set_same (n ∷ ns) zero = refl
+  set_same (n ∷ ns) (suc i) = λ j. n ∷ set_same ns i j
+
+  stays : (s : Table) → IsQueue room s → get_elem? s.views id ≡ some v → IsQueue room (table (slice_set s.words 0 (slice_index s.words 0)) s.homes (set s.views id v))
+  stays s it at = subst (λ (x : List ℕ × List Standing). IsQueue room (table x.0 s.homes x.1)) (λ i. (sym (set_same s.words 0) i, sym (set_again s.views id v at) i))
+      (record { history = it.history; legal = it.legal; passes = it.passes; list = list_stays s it.history s.views (λ j u at. inr at) it.list })
+
+  pub looks : Allows (IsQueue room) slots id (v, []) 0 (λ n. n) (TellsShare (step slots 0 0 0 none) (v, []))
+  looks s it few at small = (v, keeps, tt, stays s it at, (refl, no_more_than_all room it.history s.views it.passes id v at))

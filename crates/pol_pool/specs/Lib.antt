@@ -1,3 +1,4 @@
+pub mod History
 pub mod Shares
 pub mod Queue
 pub mod Passes

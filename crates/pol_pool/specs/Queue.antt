@@ -1,115 +1,121 @@
--- What is known of a queue of hints that threads share: a history of what was put and what was taken.
-use Rattle.std.specs.Prelude.{◌≡◌, ◌≤◌, ℕ, nat_le, List, [], ◌∷◌, ◌++◌, length, take, drop, if◌then◌else◌}
+-- The rule of a queue of hints that threads share, and what its steps tell.
+use Rattle.std.specs.Prelude.{◌≡◌, ◌≤◌, ◌⊎◌, ◌==◌, ℕ, ◌+◌, true, false, Bool, List, [], ◌∷◌, ◌++◌, length, MatchBool}
 use mathlib.Core.List.{IsPrefix}
-use mathlib.Core.Option.{some}
+use mathlib.Core.Option.{none, some}
 use lib.ListN.{get_elem?}
-use Rattle.pol_pool.specs.declared.seen.Seen.{Seen}
-use Rattle.pol_pool.specs.declared.share.Share.{Share}
-use Rattle.pol_pool.specs.declared.share.Standing.{Standing}
+use Rattle.atomic_table.specs.Table.{Me, State, Step}
+use Rattle.circular_buffer.specs.Buffer.{Buffer, buffer}
+use Rattle.pol_pool.specs.declared.standing.Share.{Share}
+use Rattle.pol_pool.specs.declared.standing.Standing.{Standing}
+use Rattle.pol_pool.specs.declared.turn.Turn.{Turn}
+use Rattle.pol_pool.specs.declared.turn.Turn.TheVariants.{Put, Full, Taken, Empty}
+use Rattle.pol_pool.specs.History.{IsHistory, MayCome, longer, waiting}
 use Rattle.pol_pool.specs.Shares.{AreShares, IsAll, IsPart, half, no_share, together, whole_share}
 
-abbrev pub seen : List ℕ → List ℕ → Seen
-seen put taken = record { put = put; taken = taken }
+abbrev pub standing : ℕ → List Turn → ℕ → Share → Bool → Standing
+standing room seen own share holds = record { room = room; seen = seen; own = own; share = share; holds = holds }
 
-abbrev pub standing : Seen → Share → Standing
-standing v s = record { seen = v; share = s }
-
--- what was taken was put before, in the same order: the first so many of what was put
-abbrev pub IsHistory : Seen → Type 0
-IsHistory v = take (length v.taken) v.put ≡ v.taken
-
--- the hints that were put and not taken, the oldest first
-abbrev pub waiting : Seen → List ℕ
-waiting v = drop (length v.taken) v.put
-
--- the first history is a beginning of the second
-pub record GoesOn (before after : Seen) : Type 0 where
-  pub put : IsPrefix before.put after.put
-  pub taken : IsPrefix before.taken after.taken
-
--- what a pass has seen is a history, and a beginning of the whole one
-pub record HasSeen (v whole : Seen) : Type 0 where
-  pub sound : IsHistory v
-  pub goes_on : GoesOn v whole
+-- what a pass knows: a beginning of the history, and the room where it has a share
+pub record HasSeen (room : ℕ) (history : List Turn) (v : Standing) : Type 0 where
+  pub fits : IsPart v.share → v.room ≡ room
+  pub past : IsPrefix v.seen history
 
 -- some pass that has a share has seen all
-pub record IsKnown (whole : Seen) (views : List Standing) : Type 0 where
+pub record IsKnown (history : List Turn) (views : List Standing) : Type 0 where
   pub port : ℕ
   pub by : Standing
   pub at : get_elem? views port ≡ some by
   pub part : IsPart by.share
-  pub knows : by.seen ≡ whole
+  pub knows : by.seen ≡ history
 
--- **The rule of the queue.** What was put is what was taken and then what the queue holds. Each pass has seen a beginning
--- of both, and some pass that has a share has seen all. The passes share the queue.
-pub record IsQueue (items : List ℕ) (views : List Standing) : Type 0 where
-  pub whole : Seen
-  pub holds : whole.put ≡ whole.taken ++ items
-  pub each : (port : ℕ) (v : Standing) → get_elem? views port ≡ some v → HasSeen v.seen whole
-  pub known : IsKnown whole views
+-- how many turns the passes have made
+abbrev pub all_own : List Standing → ℕ
+all_own [] = 0
+all_own (v ∷ views) = v.own + all_own views
+
+-- nobody has the list: it has the hints that wait
+pub record IsHome (room : ℕ) (history : List Turn) (s : State (Buffer ℕ) Standing) : Type 0 where
+  pub words : s.words ≡ 0 ∷ []
+  pub list : s.homes ≡ some (buffer (waiting history) room) ∷ []
+  pub nobody : (port : ℕ) (v : Standing) → get_elem? s.views port ≡ some v → v.holds ≡ false
+
+-- one pass has the list, and has seen all
+pub record IsOut (history : List Turn) (s : State (Buffer ℕ) Standing) : Type 0 where
+  pub words : s.words ≡ 1 ∷ []
+  pub list : s.homes ≡ none ∷ []
+  pub holder : ℕ
+  pub one : (port : ℕ) (v : Standing) → get_elem? s.views port ≡ some v → v.holds ≡ true → (port ≡ holder) × (v.seen ≡ history)
+
+-- Each pass has seen a beginning of the history, and some pass that has a share has seen all. Each turn is of one pass. The
+-- passes share the queue.
+pub record AreOf (room : ℕ) (history : List Turn) (views : List Standing) : Type 0 where
+  pub each : (port : ℕ) (v : Standing) → get_elem? views port ≡ some v → HasSeen room history v
+  pub known : IsKnown history views
+  pub own : all_own views ≡ length history
   pub shares : AreShares views
 
--- the hint was put behind all that the pass had seen put
-pub record AddsPut (before : Seen) (slot : ℕ) (after : Seen) : Type 0 where
-  pub so_far : List ℕ
-  pub past : IsPrefix before.put so_far
-  pub put : after.put ≡ so_far ++ slot ∷ []
-  pub taken : IsPrefix before.taken after.taken
-  pub sound : IsHistory after
+-- **The rule of the queue.** There is one history, each turn of which is what a queue answers there. The passes know it, and
+-- the list has the hints that wait at its end, or is out with one pass.
+pub record IsQueue (room : ℕ) (s : State (Buffer ℕ) Standing) : Type 0 where
+  pub history : List Turn
+  pub legal : IsHistory room history
+  pub passes : AreOf room history s.views
+  pub list : IsHome room history s ⊎ IsOut history s
 
--- the hint was taken behind all that the pass had seen taken
-pub record AddsTaken (before : Seen) (slot : ℕ) (after : Seen) : Type 0 where
-  pub so_far : List ℕ
-  pub past : IsPrefix before.taken so_far
-  pub taken : after.taken ≡ so_far ++ slot ∷ []
-  pub put : IsPrefix before.put after.put
-  pub sound : IsHistory after
+-- ---- what steps tell
 
--- the history with one hint more that was put; with one more that was taken
-abbrev pub with_put : Seen → ℕ → Seen
-with_put v slot = seen (v.put ++ slot ∷ []) v.taken
+-- the pass, with the list out with it
+abbrev pub out : Standing → Buffer ℕ → Me (Buffer ℕ) Standing
+out v list = (v, (0, list) ∷ [])
 
-abbrev pub with_taken : Seen → ℕ → Seen
-with_taken v slot = seen v.put (v.taken ++ slot ∷ [])
+-- the list that is out with a pass
+abbrev pub list_of : Me (Buffer ℕ) Standing → Buffer ℕ
+list_of (v, []) = buffer [] 0
+list_of (v, (x ∷ xs)) = x.1
 
--- what a put tells the pass; a pass with the whole share knows what was put before
-pub record TellsPut (before : Standing) (slot : ℕ) (after : Standing) : Type 0 where
-  pub adds : AddsPut before.seen slot after.seen
-  pub share : after.share ≡ before.share
-  pub only : IsAll before.share → after.seen ≡ with_put before.seen slot
+-- the list is out with the pass, which has seen all; one with the whole share had seen it before
+pub record HasFetched (v : Standing) (after : Me (Buffer ℕ) Standing) : Type 0 where
+  pub seen : List Turn
+  pub past : IsPrefix v.seen seen
+  pub legal : IsHistory v.room seen
+  pub only : IsAll v.share → seen ≡ v.seen
+  pub is : after ≡ out (standing v.room seen v.own v.share true) (buffer (waiting seen) v.room)
 
--- the same of a take
-pub record TellsTaken (before : Standing) (slot : ℕ) (after : Standing) : Type 0 where
-  pub adds : AddsTaken before.seen slot after.seen
-  pub share : after.share ≡ before.share
-  pub only : IsAll before.share → after.seen ≡ with_taken before.seen slot
+abbrev pub TellsFetched : Step (Buffer ℕ) → Me (Buffer ℕ) Standing → ℕ → Me (Buffer ℕ) Standing → Type 0
+TellsFetched s before found after = MatchBool (found == 0) (HasFetched before.0 after) (after ≡ before)
 
--- a pass with the whole share knows what the queue holds
-abbrev pub KnowsItems : Standing → List ℕ → Type 0
-KnowsItems v items = IsAll v.share → items ≡ waiting v.seen
+-- the turn is the last of the history, and the list has come back
+abbrev pub with_turn : Standing → Turn → Me (Buffer ℕ) Standing
+with_turn v turn = (standing v.room (v.seen ++ turn ∷ []) (v.own + 1) v.share false, [])
 
--- what a pass has seen is a history, and its share is no more than the whole
-pub record IsSound (v : Standing) : Type 0 where
-  pub history : IsHistory v.seen
-  pub at_most : v.share.part ≤ v.share.of
+abbrev pub TellsPut : Step (Buffer ℕ) → Me (Buffer ℕ) Standing → ℕ → Me (Buffer ℕ) Standing → Type 0
+TellsPut s before found after = (slot : ℕ) × ((list_of before).items ≡ waiting before.0.seen ++ slot ∷ []) × (after ≡ with_turn before.0 (Put slot))
 
-abbrev pub longer : List ℕ → List ℕ → List ℕ
-longer a b = if nat_le (length a) (length b) then b else a
+abbrev pub TellsFull : Step (Buffer ℕ) → Me (Buffer ℕ) Standing → ℕ → Me (Buffer ℕ) Standing → Type 0
+TellsFull s before found after = after ≡ with_turn before.0 Full
 
--- what either of two passes has seen
-abbrev pub joined : Seen → Seen → Seen
-joined v w = seen (longer v.put w.put) (longer v.taken w.taken)
+abbrev pub TellsTaken : Step (Buffer ℕ) → Me (Buffer ℕ) Standing → ℕ → Me (Buffer ℕ) Standing → Type 0
+TellsTaken s before found after = (slot : ℕ) × (waiting before.0.seen ≡ slot ∷ (list_of before).items) × (after ≡ with_turn before.0 (Taken slot))
+
+abbrev pub TellsEmpty : Step (Buffer ℕ) → Me (Buffer ℕ) Standing → ℕ → Me (Buffer ℕ) Standing → Type 0
+TellsEmpty s before found after = after ≡ with_turn before.0 Empty
+
+abbrev pub TellsShare : Step (Buffer ℕ) → Me (Buffer ℕ) Standing → ℕ → Me (Buffer ℕ) Standing → Type 0
+TellsShare s before found after = (after ≡ before) × (before.0.share.part ≤ before.0.share.of)
 
 -- ---- where passes stand
 
-abbrev pub newly_made : Standing
-newly_made = standing (seen [] []) whole_share
+abbrev pub newly_made : ℕ → Standing
+newly_made room = standing room [] 0 whole_share false
 
 abbrev pub with_half : Standing → Standing
-with_half v = standing v.seen (half v.share)
+with_half v = standing v.room v.seen v.own (half v.share) v.holds
+
+abbrev pub other_half : Standing → Standing
+other_half v = standing v.room v.seen 0 (half v.share) false
 
 abbrev pub of_both : Standing → Standing → Standing
-of_both v w = standing (joined v.seen w.seen) (together v.share w.share)
+of_both v w = standing v.room (longer v.seen w.seen) (v.own + w.own) (together v.share w.share) v.holds
 
 abbrev pub spent : Standing
-spent = standing (seen [] []) no_share
+spent = standing 0 [] 0 no_share false

@@ -1,7 +1,7 @@
 -- The share that each pass of a queue has. A pass that is split leaves half of its share to the other; one that is joined has both.
 use Rattle.std.specs.Prelude.{◌≡◌, ℕ, ◌≤◌, ◌+◌, ◌*◌, List, [], ◌∷◌}
-use Rattle.pol_pool.specs.declared.share.Share.{Share}
-use Rattle.pol_pool.specs.declared.share.Standing.{Standing}
+use Rattle.pol_pool.specs.declared.standing.Share.{Share}
+use Rattle.pol_pool.specs.declared.standing.Standing.{Standing}
 
 abbrev pub share : ℕ → ℕ → Share
 share part of = record { part = part; of = of }

@@ -1,15 +1,22 @@
 //! A queue of hints.
-ghost use Rattle.std.specs.Prelude.{◌≡◌, ◌≤◌, [], length, IfOk, IfSome, IfNone, OnOk, OnErr};
-ghost use Rattle.pol_pool.specs.Passes.{IsHintPassOf, IsOnly, room_of, seen_by, share_of};
-ghost use Rattle.pol_pool.specs.Queue.{AddsPut, AddsTaken, IsHistory, joined, seen, waiting, with_put, with_taken};
-ghost use Rattle.pol_pool.specs.Shares.{half, together};
+ghost use Rattle.std.specs.Prelude.{◌≡◌, ◌≤◌, ◌<◌, [], ◌∷◌, ◌++◌, ◌+◌, length, drop, slice_get, true, false, IfOk, IfSome, IfNone, OnOk, OnErr, IsTrue};
+ghost use Rattle.circular_buffer.specs.Buffer.{buffer};
+ghost use Rattle.pol_pool.specs.declared.turn.Turn.TheVariants.{Put, Full, Taken, Empty};
+ghost use Rattle.pol_pool.specs.History.{longer, waiting};
+ghost use Rattle.pol_pool.specs.Passes.{Adds, IsHintPassOf, IsOnly, own_of, room_of, seen_by, share_of};
+ghost use Rattle.pol_pool.specs.Queue.{HasFetched, list_of, out};
+ghost use Rattle.pol_pool.specs.Shares.{IsPart, half, together};
 
 use crate::pass::HintPass;
-use crate::rule::{InOrder, Puts, Sound, Takes, Together, Twice};
-use crate::share::Standing;
-use crossbeam_queue::RuledArrayQueue;
+use crate::rule::{
+    Fetches, FindsEmpty, FindsFull, InOrder, Looks, Puts, Takes, Together, Twice, Waiting,
+};
+use crate::standing::Standing;
+use atomic_table::{Refused, Seat, Table};
+use circular_buffer::HeapCircularBuffer;
 use std::alloc::{AllocError as Memory, Global};
 use std::sync::Wait;
+use std::thread;
 use thiserror::Error;
 
 /// Hints for workers: slots of endpoints whose maps may be old. Threads share the queue; it holds as many hints as its
@@ -18,7 +25,7 @@ use thiserror::Error;
 /// What a hint means is nobody's promise: whoever makes maps makes those that no hint named too.
 #[derive(Drop)]
 pub struct Hints {
-    queue: RuledArrayQueue<u32, Standing, InOrder>,
+    list: Table<Waiting, Standing, u32, InOrder, Global>,
 }
 
 /// The queue had no room.
@@ -34,77 +41,137 @@ impl Hints {
         ensures room { IfOk result (λ made. room_of made.0 ≡ room) }
         ensures pass { IfOk result (λ made. IsHintPassOf made.0 made.1) }
         ensures only { IfOk result (λ made. IsOnly made.1) }
-        ensures empty { IfOk result (λ made. seen_by made.1 ≡ seen [] []) }
+        ensures empty { IfOk result (λ made. (seen_by made.1 ≡ []) × (own_of made.1 ≡ 0)) }
     {
-        let (queue, pass) = RuledArrayQueue::<u32, Standing, InOrder>::ruled(alloc, room as usize)?;
-        Ok((Hints { queue }, HintPass { pass }))
+        let mut slots = Vec::with_capacity(alloc, 1)?;
+        slots.push(HeapCircularBuffer::with_capacity(alloc, room as usize)?)?;
+        match Table::new(alloc, &[0], slots, &room) {
+            Ok((list, seat)) => Ok((Hints { list }, HintPass { seat })),
+            Err(Refused { slots: _ }) => Err(Memory),
+        }
     }
 
-    /// A pass more, for another thread, which has seen what this one has. Each has half of the share that this one had. After
-    /// want of memory this one has the share that it had.
+    /// A pass more, for another thread, which has seen what this one has, and no turn of which is its own. Each has half of
+    /// the share that this one had. After want of memory this one has the share that it had.
     pub fn split<R: Wait>(&self, _rt: &R, pass: &mut HintPass) -> Result<HintPass, Memory>
         requires pass { IsHintPassOf self.now pass.old }
         ensures pass { IsHintPassOf self.now pass.new }
-        ensures seen { seen_by pass.new ≡ seen_by pass.old }
+        ensures seen { (seen_by pass.new ≡ seen_by pass.old) × (own_of pass.new ≡ own_of pass.old) }
         ensures share { OnOk result (share_of pass.new ≡ half (share_of pass.old)) }
         ensures err { OnErr result (share_of pass.new ≡ share_of pass.old) }
         ensures other { IfOk result (λ other. IsHintPassOf self.now other) }
-        ensures other_seen { IfOk result (λ other. seen_by other ≡ seen_by pass.old) }
+        ensures other_seen { IfOk result (λ other. (seen_by other ≡ seen_by pass.old) × (own_of other ≡ 0)) }
         ensures other_share { IfOk result (λ other. share_of other ≡ half (share_of pass.old)) }
     {
-        let other = self.queue.another::<Twice>(&mut pass.pass);
-        Ok(HintPass { pass: other })
+        let seat = self.list.shared.split_seat::<Twice>(&mut pass.seat);
+        Ok(HintPass { seat })
     }
 
-    /// Puts two passes together: this one has then seen what either has, and has the shares of both. Neither was the only
-    /// one.
+    /// Puts two passes together: this one has then seen what either has, and has the turns and the shares of both. Neither
+    /// was the only one.
     pub fn join<R: Wait>(&self, _rt: &R, pass: &mut HintPass, other: HintPass)
         requires pass { IsHintPassOf self.now pass.old }
         requires other { IsHintPassOf self.now other }
         ensures pass { IsHintPassOf self.now pass.new }
-        ensures seen { seen_by pass.new ≡ joined (seen_by pass.old) (seen_by other) }
+        ensures seen { seen_by pass.new ≡ longer (seen_by pass.old) (seen_by other) }
+        ensures own { own_of pass.new ≡ own_of pass.old + own_of other }
         ensures share { share_of pass.new ≡ together (share_of pass.old) (share_of other) }
         ensures not_only { IsOnly pass.old → ⊥ }
         ensures other_not_only { IsOnly other → ⊥ }
     {
-        let HintPass { pass: theirs } = other;
-        self.queue.absorb::<Together>(&mut pass.pass, theirs);
-        self.queue.learn_as::<Sound>(&mut pass.pass);
+        let HintPass { seat: theirs } = other;
+        self.list
+            .shared
+            .join_seat::<Together>(&mut pass.seat, theirs);
+        self.list.shared.load::<Looks>(&mut pass.seat, 0);
     }
 
-    /// Puts a hint behind those that the queue holds. At `HintsFull` the pass has seen nothing more. For the only pass of the
-    /// queue it comes only where as many hints wait as there is room; for a pass beside others, whose view fits a full queue
-    /// and another, it hands on the answer of the kit's queue that it was full at some moment of the call. It may wait for a
-    /// thread that has stalled in a put or a take.
+    /// Puts a hint behind those that wait. `HintsFull` comes only where, at this turn of the queue's history, as many hints
+    /// wait as there is room. It waits while another call has the list.
     pub fn put<R: Wait>(&self, rt: &R, pass: &mut HintPass, slot: u32) -> Result<(), HintsFull>
         requires pass { IsHintPassOf self.now pass.old }
         ensures pass { IsHintPassOf self.now pass.new }
         ensures share { share_of pass.new ≡ share_of pass.old }
-        ensures put { OnOk result (AddsPut (seen_by pass.old) slot (seen_by pass.new)) }
-        ensures only { OnOk result (IsOnly pass.old → seen_by pass.new ≡ with_put (seen_by pass.old) slot) }
-        ensures full { OnErr result (IsOnly pass.old → length (waiting (seen_by pass.old)) ≡ room_of self.now) }
-        ensures same { OnErr result (seen_by pass.new ≡ seen_by pass.old) }
-        ensures sound { IsHistory (seen_by pass.new) }
+        ensures put { OnOk result (Adds (Put slot) pass.old pass.new) }
+        ensures full { OnErr result (Adds Full pass.old pass.new) }
+        ensures no_room { OnErr result (length (waiting (seen_by pass.new)) ≡ room_of self.now) }
     {
-        match self.queue.push_as::<Puts, R>(rt, &mut pass.pass, slot) {
-            Ok(()) => Ok(()),
-            Err(_) => Err(HintsFull),
+        self.fetch(rt, pass);
+        if self.push(pass, slot) {
+            self.list.shared.store::<Puts>(&mut pass.seat, 0, 0);
+            Ok(())
+        } else {
+            self.list.shared.store::<FindsFull>(&mut pass.seat, 0, 0);
+            Err(HintsFull)
         }
     }
 
-    /// Takes the oldest hint. At None the pass has seen nothing more. For the only pass of the queue it comes only where no
-    /// hint waits; for a pass beside others it hands on the answer of the kit's queue that it was empty at some moment of the
-    /// call. It may wait for a thread that has stalled in a put or a take.
+    /// Takes the oldest hint. None comes only where, at this turn of the queue's history, no hint waits. It waits while
+    /// another call has the list.
     pub fn take<R: Wait>(&self, rt: &R, pass: &mut HintPass) -> Option<u32>
         requires pass { IsHintPassOf self.now pass.old }
         ensures pass { IsHintPassOf self.now pass.new }
         ensures share { share_of pass.new ≡ share_of pass.old }
-        ensures taken { IfSome result (λ slot. AddsTaken (seen_by pass.old) slot (seen_by pass.new)) }
-        ensures only { IfSome result (λ slot. IsOnly pass.old → seen_by pass.new ≡ with_taken (seen_by pass.old) slot) }
-        ensures empty { IfNone result (IsOnly pass.old → waiting (seen_by pass.old) ≡ []) }
-        ensures same { IfNone result (seen_by pass.new ≡ seen_by pass.old) }
-        ensures sound { IsHistory (seen_by pass.new) }
+        ensures taken { IfSome result (λ slot. Adds (Taken slot) pass.old pass.new) }
+        ensures empty { IfNone result (Adds Empty pass.old pass.new) }
+        ensures none_waits { IfNone result (waiting (seen_by pass.new) ≡ []) }
     {
-        self.queue.pop_as::<Takes, R>(rt, &mut pass.pass)
+        self.fetch(rt, pass);
+        match self.pop(pass) {
+            Some(slot) => {
+                self.list.shared.store::<Takes>(&mut pass.seat, 0, 0);
+                Some(slot)
+            }
+            None => {
+                self.list.shared.store::<FindsEmpty>(&mut pass.seat, 0, 0);
+                None
+            }
+        }
+    }
+
+    // Waits while another call has the list, and takes it out.
+    fn fetch<R: Wait>(&self, rt: &R, pass: &mut HintPass)
+        requires pass { IsHintPassOf self.now pass.old }
+        ensures table { pass.new.seat.table_id ≡ pass.old.seat.table_id }
+        ensures fetched { HasFetched pass.old.seat.me.0 pass.new.seat.me }
+    {
+        for _ in rt.forever() {
+            if self
+                .list
+                .shared
+                .compare_exchange::<Fetches>(&mut pass.seat, 0, 0, 1)
+                == 0
+            {
+                return;
+            }
+            thread::yield_now();
+        }
+        unreachable!()
+    }
+
+    // Puts a hint into the list that is out with the pass, and says whether there was room.
+    fn push(&self, pass: &mut HintPass, slot: u32) -> bool
+        requires table { pass.old.seat.table_id ≡ self.now.list.shared.table_id }
+        requires list { pass.old.seat.me ≡ out pass.old.seat.me.0 (list_of pass.old.seat.me) }
+        ensures table { (pass.new.seat.table_id ≡ pass.old.seat.table_id) × (pass.new.seat.id ≡ pass.old.seat.id) }
+        ensures pushed { IsTrue result → pass.new.seat.me ≡ out pass.old.seat.me.0 (buffer ((list_of pass.old.seat.me).items ++ slot ∷ []) (list_of pass.old.seat.me).capacity) }
+        ensures room { IsTrue result → length (list_of pass.old.seat.me).items < (list_of pass.old.seat.me).capacity }
+        ensures full { result ≡ false → (pass.new.seat.me ≡ pass.old.seat.me) × ((list_of pass.old.seat.me).capacity ≤ length (list_of pass.old.seat.me).items) }
+    {
+        pass.seat
+            .slot_mut(&self.list.shared, 0)
+            .try_push_back(slot)
+            .is_ok()
+    }
+
+    // Takes the oldest hint of the list that is out with the pass.
+    fn pop(&self, pass: &mut HintPass) -> Option<u32>
+        requires table { pass.old.seat.table_id ≡ self.now.list.shared.table_id }
+        requires list { pass.old.seat.me ≡ out pass.old.seat.me.0 (list_of pass.old.seat.me) }
+        ensures table { (pass.new.seat.table_id ≡ pass.old.seat.table_id) × (pass.new.seat.id ≡ pass.old.seat.id) }
+        ensures oldest { result ≡ slice_get (list_of pass.old.seat.me).items 0 }
+        ensures rest { pass.new.seat.me ≡ out pass.old.seat.me.0 (buffer (drop 1 (list_of pass.old.seat.me).items) (list_of pass.old.seat.me).capacity) }
+    {
+        pass.seat.slot_mut(&self.list.shared, 0).pop_front()
     }
 }

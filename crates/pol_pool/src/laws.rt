@@ -1,20 +1,30 @@
 //! Laws of histories of hints.
-ghost use Rattle.std.specs.Prelude.{◌≡◌, ℕ, [], ◌∷◌, ◌++◌};
-ghost use Rattle.pol_pool.specs.Queue.{AddsPut, AddsTaken, GoesOn, IsHistory, joined};
+ghost use Rattle.std.specs.Prelude.{◌≡◌, ◌≤◌, ℕ, List, [], ◌∷◌, ◌++◌, length};
+ghost use mathlib.Core.List.{IsPrefix};
+ghost use Rattle.pol_pool.specs.History.{IsHistory, hints_put, hints_taken, longer, waiting};
 ghost use Rattle.pol_pool.specs.Shares.{IsAll, IsPart, IsSame, half, together};
-ghost use Rattle.pol_pool.specs.declared.seen.Seen.{Seen as OneSeen};
-ghost use Rattle.pol_pool.specs.declared.share.Share.{Share as OneShare};
+ghost use Rattle.pol_pool.specs.declared.turn.Turn.{Turn as OneTurn};
+ghost use Rattle.pol_pool.specs.declared.turn.Turn.TheVariants.{Put, Full, Taken, Empty};
+ghost use Rattle.pol_pool.specs.declared.standing.Share.{Share as OneShare};
 
-/// A history goes on with each put and take. Of two that begin one history, the joined one goes on from both, and begins
-/// it too.
+/// Hints are a queue: in a history the hints taken are the first of the hints put, the others wait in their order, and never
+/// more than there is room. A put adds its hint to those put, a take its hint to those taken; a put that found no room and a
+/// take that found no hint add nothing.
+pub fn hints_are_a_queue()
+    ensures in_order { (room : ℕ) (history : List OneTurn) → IsHistory room history → hints_taken history ++ waiting history ≡ hints_put history }
+    ensures room { (room : ℕ) (history : List OneTurn) → IsHistory room history → length (waiting history) ≤ room }
+    ensures put { (history : List OneTurn) (slot : ℕ) → (hints_put (history ++ Put slot ∷ []) ≡ hints_put history ++ slot ∷ []) × (hints_taken (history ++ Put slot ∷ []) ≡ hints_taken history) }
+    ensures taken { (history : List OneTurn) (slot : ℕ) → (hints_taken (history ++ Taken slot ∷ []) ≡ hints_taken history ++ slot ∷ []) × (hints_put (history ++ Taken slot ∷ []) ≡ hints_put history) }
+    ensures full { (history : List OneTurn) → (hints_put (history ++ Full ∷ []) ≡ hints_put history) × (hints_taken (history ++ Full ∷ []) ≡ hints_taken history) }
+    ensures empty { (history : List OneTurn) → (hints_put (history ++ Empty ∷ []) ≡ hints_put history) × (hints_taken (history ++ Empty ∷ []) ≡ hints_taken history) }
+{}
+
+/// Of two that begin one history, the longer one goes on from both, and begins it too.
 pub fn histories_go_on()
-    ensures put { (before after : OneSeen) (slot : ℕ) → AddsPut before slot after → GoesOn before after }
-    ensures taken { (before after : OneSeen) (slot : ℕ) → AddsTaken before slot after → GoesOn before after }
-    ensures first { (v w whole : OneSeen) → GoesOn v whole → GoesOn w whole → GoesOn v (joined v w) }
-    ensures second { (v w whole : OneSeen) → GoesOn v whole → GoesOn w whole → GoesOn w (joined v w) }
-    ensures whole { (v w whole : OneSeen) → GoesOn v whole → GoesOn w whole → GoesOn (joined v w) whole }
-    ensures sound { (v w whole : OneSeen) → GoesOn v whole → GoesOn w whole → IsHistory v → IsHistory w → IsHistory (joined v w) }
-    ensures further { (v w more : OneSeen) → GoesOn v w → GoesOn w more → GoesOn v more }
+    ensures first { (v w whole : List OneTurn) → IsPrefix v whole → IsPrefix w whole → IsPrefix v (longer v w) }
+    ensures second { (v w whole : List OneTurn) → IsPrefix v whole → IsPrefix w whole → IsPrefix w (longer v w) }
+    ensures whole { (v w whole : List OneTurn) → IsPrefix v whole → IsPrefix w whole → IsPrefix (longer v w) whole }
+    ensures begun { (room : ℕ) (v whole : List OneTurn) → IsPrefix v whole → IsHistory room whole → IsHistory room v }
 {}
 
 /// Shares that were split off and are joined again, in any order, are what they were: so the pass that all others were

@@ -1,7 +1,8 @@
 //! Workers and what they are told to look at: a queue of hints that threads share, and the loop of a worker.
 //!
-//! `Hints` is the queue, under a rule that says what a `HintPass` has seen of it: the hints that were put and those that
-//! were taken (`specs/Queue`). `work` takes hints and hands each to a job, between the two calls of a gate.
+//! `Hints` is the queue. Its calls have one history, in which each is one turn and answers as a queue does there; a
+//! `HintPass` has seen a beginning of it (`specs/History`, `specs/Queue`). `work` takes hints and hands each to a job, between
+//! the two calls of a gate.
 #![tactic(auto)]
 
 mod calls;
@@ -10,16 +11,16 @@ mod job;
 pub mod laws;
 mod pass;
 mod rule;
-mod seen;
-mod share;
+mod standing;
+mod turn;
 mod worker;
 
 pub use calls::{Calls, Over};
 pub use hints::{Hints, HintsFull};
 pub use job::{Gate, Job, OpenGate};
 pub use pass::HintPass;
-pub use seen::Seen;
-pub use share::{Share, Standing};
+pub use standing::{Share, Standing};
+pub use turn::Turn;
 pub use worker::work;
 
 #[cfg(test)]

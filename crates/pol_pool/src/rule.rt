@@ -1,12 +1,15 @@
 //! The rule of the queue, and what each kind of step tells.
-use crate::share::Standing;
-use crossbeam_queue::protocol::{Join, Lesson, Outcome, Protocol, Split};
+use crate::standing::Standing;
+use atomic_table::{Join, Play, Split, TableRule};
+use circular_buffer::HeapCircularBuffer;
 
-/// What was put is what was taken and then what the queue holds, each pass has seen a beginning of both, and the passes
-/// share the queue.
+/// The hints that wait, the oldest first.
+pub(crate) type Waiting = HeapCircularBuffer<u32>;
+
+/// There is one history, which is that of a queue. The list has the hints that wait at its end, or is out with one pass.
 pub(crate) struct InOrder;
 
-impl Protocol<u32, Standing> for InOrder {
+impl TableRule<Waiting, Standing, u32> for InOrder {
     ghost use Rattle.pol_pool.specs.Queue.{IsQueue, newly_made};
 
     ghost holds = { IsQueue };
@@ -18,11 +21,11 @@ impl Protocol<u32, Standing> for InOrder {
 pub(crate) struct Twice;
 
 impl Split<Standing> for Twice {
-    ghost use Rattle.pol_pool.specs.Queue.{with_half};
+    ghost use Rattle.pol_pool.specs.Queue.{with_half, other_half};
 
     ghost left = { with_half };
 
-    ghost right = { with_half };
+    ghost right = { other_half };
 }
 
 /// A pass that has seen what either has, and both shares.
@@ -36,41 +39,56 @@ impl Join<Standing> for Together {
     ghost spent = { spent };
 }
 
-/// A hint is put; what a queue without room held.
+/// The list goes out with the pass, unless another has it.
+pub(crate) struct Fetches;
+
+impl Play<Waiting, Standing> for Fetches {
+    ghost use Rattle.pol_pool.specs.Queue.{TellsFetched};
+
+    ghost then = { TellsFetched };
+}
+
+/// The list comes back with a hint more at its end.
 pub(crate) struct Puts;
 
-impl Outcome<u32, Standing> for Puts {
+impl Play<Waiting, Standing> for Puts {
     ghost use Rattle.pol_pool.specs.Queue.{TellsPut};
 
     ghost then = { TellsPut };
 }
 
-impl Lesson<u32, Standing> for Puts {
-    ghost use Rattle.pol_pool.specs.Queue.{KnowsItems};
+/// The list comes back, and has no room.
+pub(crate) struct FindsFull;
 
-    ghost fact = { KnowsItems };
+impl Play<Waiting, Standing> for FindsFull {
+    ghost use Rattle.pol_pool.specs.Queue.{TellsFull};
+
+    ghost then = { TellsFull };
 }
 
-/// A hint is taken; what a queue without a hint held.
+/// The list comes back without its oldest hint.
 pub(crate) struct Takes;
 
-impl Outcome<u32, Standing> for Takes {
+impl Play<Waiting, Standing> for Takes {
     ghost use Rattle.pol_pool.specs.Queue.{TellsTaken};
 
     ghost then = { TellsTaken };
 }
 
-impl Lesson<u32, Standing> for Takes {
-    ghost use Rattle.pol_pool.specs.Queue.{KnowsItems};
+/// The list comes back, and has no hint.
+pub(crate) struct FindsEmpty;
 
-    ghost fact = { KnowsItems };
+impl Play<Waiting, Standing> for FindsEmpty {
+    ghost use Rattle.pol_pool.specs.Queue.{TellsEmpty};
+
+    ghost then = { TellsEmpty };
 }
 
-/// What was taken was put before, and no share is more than the whole.
-pub(crate) struct Sound;
+/// No share is more than the whole.
+pub(crate) struct Looks;
 
-impl Lesson<u32, Standing> for Sound {
-    ghost use Rattle.pol_pool.specs.Queue.{IsSound};
+impl Play<Waiting, Standing> for Looks {
+    ghost use Rattle.pol_pool.specs.Queue.{TellsShare};
 
-    ghost fact = { λ v items. IsSound v };
+    ghost then = { TellsShare };
 }

@@ -1,8 +1,9 @@
-//! What no clause says: that memory is there, that each hint is worked on once, and that workers run at the same time.
-ghost use Rattle.std.specs.Prelude.{◌≡◌, ◌≤◌, true, Some, None, IfOk};
+//! What no clause says: that memory is there, that calls return, that each hint is worked on once, and that workers run at
+//! the same time.
+ghost use Rattle.std.specs.Prelude.{◌≡◌, true, Some, None, IfOk};
 ghost use Rattle.pol_pool.specs.Passes.{IsHintPassOf};
 
-use crate::{Calls, Gate, HintPass, Hints, HintsFull, Job, OpenGate, Over, work};
+use crate::{Calls, Gate, HintPass, Hints, HintsFull, Job, Over, work};
 use std::alloc::{AllocError as Memory, Global};
 use std::sync::Wait;
 use std::sync::atomic::{AtomicBool, AtomicU32, Ordering};
@@ -10,38 +11,32 @@ use std::test::Fail;
 use std::thread;
 use std::thread::Threads;
 
-#[test]
-fn hints_come_in_order_and_fit_the_room(rt: HostRuntime) -> Result<(), Fail> {
-    let (hints, mut pass) = Hints::new(rt.alloc(), 1)?;
-    assert!(rt; hints.put(&rt, &mut pass, 5).is_ok());
-    assert!(rt; hints.put(&rt, &mut pass, 6) == Err(HintsFull));
-    let mut other = hints.split(&rt, &mut pass)?;
-    assert!(rt; hints.take(&rt, &mut other) == Some(5));
-    hints.join(&rt, &mut pass, other);
-    assert!(rt; hints.take(&rt, &mut pass).is_none());
-    Ok(())
-}
-
-// What the only pass of a queue is answered: a hint that is put first is taken first, and then there is none.
-fn one_hint<R: Wait>(
+// What the only pass of a queue with room for one is answered: a hint is put, the next finds no room, the first is taken, and
+// then there is none.
+fn full_and_empty<R: Wait>(
     rt: &R,
     alloc: Global,
-    room: u32,
     slot: u32,
-) -> Result<(bool, Option<u32>, Option<u32>), Memory>
-    requires { 1 ≤ room }
-    ensures { IfOk result (λ r. r ≡ (true, Some slot, None)) }
+) -> Result<(bool, bool, Option<u32>, Option<u32>), Memory>
+    ensures { IfOk result (λ r. r ≡ (true, true, Some slot, None)) }
 {
-    let (hints, mut pass) = Hints::new(alloc, room)?;
+    let (hints, mut pass) = Hints::new(alloc, 1)?;
     let put = hints.put(rt, &mut pass, slot).is_ok();
+    let full = hints.put(rt, &mut pass, slot).is_err();
     let first = hints.take(rt, &mut pass);
     let second = hints.take(rt, &mut pass);
-    Ok((put, first, second))
+    Ok((put, full, first, second))
 }
 
 #[test]
-fn one_hint_comes_back(rt: HostRuntime) -> Result<(), Fail> {
-    assert!(rt; one_hint(&rt, rt.alloc(), 3, 7)? == (true, Some(7), None));
+fn a_queue_fills_and_empties(rt: HostRuntime) -> Result<(), Fail> {
+    assert!(rt; full_and_empty(&rt, rt.alloc(), 7)? == (true, true, Some(7), None));
+    let (hints, mut pass) = Hints::new(rt.alloc(), 2)?;
+    let mut other = hints.split(&rt, &mut pass)?;
+    assert!(rt; hints.put(&rt, &mut pass, 5).is_ok() && hints.put(&rt, &mut pass, 6).is_ok());
+    assert!(rt; hints.take(&rt, &mut other) == Some(5));
+    hints.join(&rt, &mut pass, other);
+    assert!(rt; hints.take(&rt, &mut pass) == Some(6));
     Ok(())
 }
 
@@ -58,141 +53,6 @@ impl Job for Counts {
         }
         Ok(())
     }
-}
-
-impl Counts {
-    fn new(alloc: Global, slots: usize) -> Result<Counts, Memory> {
-        let mut counts = Vec::with_capacity(alloc, slots)?;
-        for _ in 0..slots {
-            counts.push(AtomicU32::new(0))?;
-        }
-        Ok(Counts { counts })
-    }
-
-    fn are_all_one(&self) -> bool {
-        self.counts
-            .as_slice()
-            .iter()
-            .all(|count| count.load(Ordering::SeqCst) == 1)
-    }
-}
-
-// Puts the hints from the first up to the last, and waits where the queue is full.
-fn put_all<R: Wait>(rt: &R, hints: &Hints, mut pass: HintPass, first: u32, last: u32) -> HintPass
-    requires { IsHintPassOf hints.now pass }
-    ensures { IsHintPassOf hints.now result }
-{
-    let mut slot = first;
-    for _ in rt.forever() {
-        if slot >= last {
-            break;
-        }
-        match hints.put(rt, &mut pass, slot) {
-            Ok(()) => slot += 1,
-            Err(HintsFull) => thread::yield_now(),
-        }
-    }
-    pass
-}
-
-// A worker of its own.
-fn work_alone<R: Wait, J: Job, G: Gate>(
-    rt: &R,
-    alloc: Global,
-    hints: &Hints,
-    mut pass: HintPass,
-    job: &J,
-    gate: &G,
-    calls: &Calls,
-    over: &Over,
-) -> bool
-    requires { IsHintPassOf hints.now pass }
-{
-    work(rt, alloc, hints, &mut pass, job, gate, calls, over).is_ok()
-}
-
-// Two workers.
-fn two_workers<R: Threads + Wait + Sync, J: Job + Sync, G: Gate + Sync>(
-    rt: &R,
-    alloc: Global,
-    hints: &Hints,
-    one: HintPass,
-    two: HintPass,
-    job: &J,
-    gate: &G,
-    calls: &Calls,
-    over: &Over,
-) -> bool
-    requires one { IsHintPassOf hints.now one }
-    requires two { IsHintPassOf hints.now two }
-{
-    let (first, second) = thread::join(
-        rt,
-        move ||
-            requires { IsHintPassOf hints.now one }
-        { work_alone(rt, alloc, hints, one, job, gate, calls, over) },
-        move ||
-            requires { IsHintPassOf hints.now two }
-        { work_alone(rt, alloc, hints, two, job, gate, calls, over) },
-    );
-    first && second
-}
-
-// Two threads that put, and then the end.
-fn two_putters<R: Threads + Wait + Sync>(
-    rt: &R,
-    hints: &Hints,
-    one: HintPass,
-    two: HintPass,
-    half: u32,
-    over: &Over,
-)
-    requires one { IsHintPassOf hints.now one }
-    requires two { IsHintPassOf hints.now two }
-{
-    thread::join(
-        rt,
-        move ||
-            requires { IsHintPassOf hints.now one }
-        { put_all(rt, hints, one, 0, half) },
-        move ||
-            requires { IsHintPassOf hints.now two }
-        { put_all(rt, hints, two, half, half.saturating_mul(2)) },
-    );
-    over.set();
-}
-
-// Twice so many hints, put by two threads and worked on by two workers behind the gate: each is worked on once.
-fn each_is_worked_on_once<R: Threads + Wait + Sync, G: Gate + Sync>(
-    rt: &R,
-    alloc: Global,
-    half: u32,
-    room: u32,
-    gate: &G,
-) -> Result<bool, Memory> {
-    let (hints, mut pass) = Hints::new(alloc, room.max(1))?;
-    let counts = Counts::new(alloc, half as usize * 2)?;
-    let (calls, over) = (Calls::new(), Over::new());
-    let (hints, counts, calls, over) = (&hints, &counts, &calls, &over);
-    let one = hints.split(rt, &mut pass)?;
-    let two = hints.split(rt, &mut pass)?;
-    let three = hints.split(rt, &mut pass)?;
-    let ((), done) = thread::join(
-        rt,
-        move ||
-            requires { IsHintPassOf hints.now pass × IsHintPassOf hints.now one }
-        { two_putters(rt, hints, pass, one, half, over) },
-        move ||
-            requires { IsHintPassOf hints.now two × IsHintPassOf hints.now three }
-        { two_workers(rt, alloc, hints, two, three, counts, gate, calls, over) },
-    );
-    Ok(done && counts.are_all_one())
-}
-
-#[test]
-fn each_hint_is_worked_on_once(rt: HostRuntime) -> Result<(), Fail> {
-    assert!(rt; each_is_worked_on_once(&rt, rt.alloc(), 50_000, 64, &OpenGate)?);
-    Ok(())
 }
 
 // Holds the first call until the second has ended, for so many turns at most.
@@ -225,13 +85,129 @@ impl Gate for FirstWaits {
     }
 }
 
-#[test]
-fn a_worker_goes_on_where_another_is_held(rt: HostRuntime) -> Result<(), Fail> {
-    let gate = FirstWaits {
-        second_ended: AtomicBool::new(false),
-        saw: AtomicBool::new(false),
+// What two threads that put and two that take share.
+#[derive(Drop)]
+struct Yard {
+    hints: Hints,
+    half: u32,
+    counts: Counts,
+    gate: FirstWaits,
+    calls: Calls,
+    over: Over,
+}
+
+impl Yard {
+    // The threads 0 and 1 put half of the hints each, and the others take them.
+    fn play<R: Wait>(&self, rt: &R, alloc: Global, mut pass: HintPass, thread: u32) -> bool
+        requires { IsHintPassOf self.now.hints pass }
+    {
+        if thread < 2 {
+            self.put_half(rt, pass, thread);
+            return true;
+        }
+        let Yard {
+            hints,
+            counts,
+            gate,
+            calls,
+            over,
+            ..
+        } = self;
+        work(rt, alloc, hints, &mut pass, counts, gate, calls, over).is_ok()
+    }
+
+    // Waits where the queue is full.
+    fn put_half<R: Wait>(&self, rt: &R, mut pass: HintPass, thread: u32)
+        requires { IsHintPassOf self.now.hints pass }
+    {
+        let mut left = self.half;
+        for _ in rt.forever() {
+            if left == 0 {
+                return;
+            }
+            let slot = self.half.wrapping_mul(thread).wrapping_add(left - 1);
+            match self.hints.put(rt, &mut pass, slot) {
+                Ok(()) => left -= 1,
+                Err(HintsFull) => thread::yield_now(),
+            }
+        }
+    }
+
+    // Two threads next to each other. Behind those that put, the end is told.
+    fn two<R: Threads + Wait + Sync>(
+        &self,
+        rt: &R,
+        alloc: Global,
+        one: HintPass,
+        two: HintPass,
+        thread: u32,
+    ) -> bool
+        requires one { IsHintPassOf self.now.hints one }
+        requires two { IsHintPassOf self.now.hints two }
+    {
+        let (first, second) = thread::join(
+            rt,
+            move ||
+                requires { IsHintPassOf self.now.hints one }
+            { self.play(rt, alloc, one, thread) },
+            move ||
+                requires { IsHintPassOf self.now.hints two }
+            { self.play(rt, alloc, two, thread.saturating_add(1)) },
+        );
+        if thread == 0 {
+            self.over.set();
+        }
+        first && second
+    }
+}
+
+// Twice so many hints, put by two threads and worked on by two workers, the first of which is held in its gate until the
+// other has gone on.
+fn is_each_worked_on_once<R: Threads + Wait + Sync>(
+    rt: &R,
+    alloc: Global,
+    half: u32,
+) -> Result<bool, Memory> {
+    let mut counts = Vec::new(alloc);
+    for _ in 0..half as u64 * 2 {
+        counts.push(AtomicU32::new(0))?;
+    }
+    let (hints, mut pass) = Hints::new(alloc, 64)?;
+    let one = hints.split(rt, &mut pass)?;
+    let two = hints.split(rt, &mut pass)?;
+    let three = hints.split(rt, &mut pass)?;
+    let yard = Yard {
+        hints,
+        half,
+        counts: Counts { counts },
+        gate: FirstWaits {
+            second_ended: AtomicBool::new(false),
+            saw: AtomicBool::new(false),
+        },
+        calls: Calls::new(),
+        over: Over::new(),
     };
-    assert!(rt; each_is_worked_on_once(&rt, rt.alloc(), 8, 4, &gate)?);
-    assert!(rt; gate.saw.load(Ordering::SeqCst));
+    let shared = &yard;
+    let (put, taken) = thread::join(
+        rt,
+        move ||
+            requires { IsHintPassOf shared.now.hints pass × IsHintPassOf shared.now.hints one }
+        { shared.two(rt, alloc, pass, one, 0) },
+        move ||
+            requires { IsHintPassOf shared.now.hints two × IsHintPassOf shared.now.hints three }
+        { shared.two(rt, alloc, two, three, 2) },
+    );
+    let once = yard
+        .counts
+        .counts
+        .as_slice()
+        .iter()
+        .all(|count| count.load(Ordering::SeqCst) == 1);
+    Ok(put && taken && once && yard.gate.saw.load(Ordering::SeqCst))
+}
+
+#[test]
+fn each_hint_is_worked_on_once(rt: HostRuntime) -> Result<(), Fail> {
+    assert!(rt; is_each_worked_on_once(&rt, rt.alloc(), 50_000)?);
     Ok(())
 }

@@ -1,7 +1,8 @@
 //! The loop of a worker.
 ghost use Rattle.std.specs.Prelude.{◌≡◌, [], OnOk};
-ghost use Rattle.pol_pool.specs.Passes.{IsHintPassOf, IsOnly, seen_by, share_of};
-ghost use Rattle.pol_pool.specs.Queue.{GoesOn, waiting};
+ghost use mathlib.Core.List.{IsPrefix};
+ghost use Rattle.pol_pool.specs.History.{waiting};
+ghost use Rattle.pol_pool.specs.Passes.{IsHintPassOf, seen_by, share_of};
 
 use crate::calls::{Calls, Over};
 use crate::hints::Hints;
@@ -28,9 +29,9 @@ pub fn work<J: Job, G: Gate, R: Wait>(
 ) -> Result<(), Memory>
     requires pass { IsHintPassOf hints.now pass.old }
     ensures pass { IsHintPassOf hints.now pass.new }
-    ensures seen { GoesOn (seen_by pass.old) (seen_by pass.new) }
+    ensures seen { IsPrefix (seen_by pass.old) (seen_by pass.new) }
     ensures share { share_of pass.new ≡ share_of pass.old }
-    ensures empty { OnOk result (IsOnly pass.old → waiting (seen_by pass.new) ≡ []) }
+    ensures empty { OnOk result (waiting (seen_by pass.new) ≡ []) }
 {
     for _ in rt.forever() {
         let is_over = over.is_set();

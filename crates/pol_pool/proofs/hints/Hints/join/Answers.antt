@@ -1,19 +1,26 @@
-use Rattle.std.proofs.Common.{◌≤◌, subst}
-use Rattle.pol_pool.specs.declared.share.Standing.{Standing}
-use Rattle.pol_pool.proofs.Shares.{not_all, not_all_either}
-use Rattle.pol_pool.proofs.Steps.{merges, sounds}
+use Rattle.std.proofs.Common.{ℕ, ap, subst, sym, ◌∙◌, arith}
+use Rattle.atomic_table.specs.Table.{Me}
+use Rattle.circular_buffer.specs.Buffer.{Buffer}
+use Rattle.pol_pool.specs.declared.standing.Standing.{Standing}
+use Rattle.pol_pool.specs.Shares.{IsPart}
+use Rattle.pol_pool.proofs.Owed.{looks_at}
+use Rattle.pol_pool.proofs.Shares.{both_part}
+use Rattle.pol_pool.proofs.Steps.{merges}
 use Rattle.pol_pool.proofs.hints.Hints.join.Goals as goal
 
-pub absorb-requires-clause-rule : goal.absorb-requires-clause-rule
-absorb-requires-clause-rule g c = merges _ _ _ _ c.requires.pass.1 c.requires.other.1
+pub join_seat-requires : goal.join_seat-requires
+join_seat-requires g c =
+    let pass = c.requires.pass in
+    let other = c.requires.other in
+    let word = pass.word in (pass.table, other.table, other.idle.1, omega (arith, word), merges _ 0 _ _ pass.idle.0 pass.part _ _ other.part)
 
-pub learn_as-requires-clause-rule : goal.learn_as-requires-clause-rule
-learn_as-requires-clause-rule g c = sounds _ _
-
-pub returns-clause-not_only : goal.returns-clause-not_only
-returns-clause-not_only g c =
-    not_all _ _ c.requires.pass.1 c.requires.other.1 (subst (λ (y : Standing). y.share.part ≤ y.share.of) c.absorb.ensures.rule c.learn_as.ensures.rule.1.at_most)
-
-pub returns-clause-other_not_only : goal.returns-clause-other_not_only
-returns-clause-other_not_only g c =
-    not_all_either _ _ c.requires.pass.1 c.requires.other.1 (subst (λ (y : Standing). y.share.part ≤ y.share.of) c.absorb.ensures.rule c.learn_as.ensures.rule.1.at_most)
+pub load-requires : goal.load-requires
+load-requires g c =
+    let pass = c.requires.pass in
+    let other = c.requires.other in
+    let both = c.join_seat.ensures.2 in
+    let word = pass.word in (
+      c.join_seat.ensures.0 ∙ pass.table,
+      omega (arith, word),
+      looks_at _ _ _ _ (ap (λ (m : Me (Buffer ℕ) Standing). m.1) both ∙ pass.idle.1) (subst (λ (m : Me (Buffer ℕ) Standing). IsPart m.0.share) (sym both) (both_part _ _ pass.part other.part)) (ap (λ (m : Me (Buffer ℕ) Standing). m.0.holds) both ∙ pass.idle.0),
+    )

@@ -1,0 +1,25 @@
+//! What a pass of a queue is to its rule.
+use crate::turn::Turn;
+use std::collections::LinkedList;
+
+/// A part of a whole, as a fraction. No value of it is made: contracts speak of it.
+pub struct Share {
+    /// The numerator.
+    pub part: u32,
+    /// The denominator.
+    pub of: u32,
+}
+
+/// What a pass has seen of its queue, and what it has in it. No value of it is made.
+pub struct Standing {
+    /// How many hints the queue has room for.
+    pub room: u32,
+    /// The history that the pass has seen, the oldest turn first.
+    pub seen: LinkedList<Turn>,
+    /// How many turns of the history are its own, or of passes that were joined to it.
+    pub own: u32,
+    /// The passes of a queue have no more than the whole together, so one that has it all is the only one.
+    pub share: Share,
+    /// Whether the list of waiting hints is out with the pass. It is so within a call alone.
+    pub holds: bool,
+}
