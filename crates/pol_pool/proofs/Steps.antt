@@ -1,7 +1,6 @@
 -- Each step keeps the rule of the queue.
-use Rattle.std.proofs.Common.{◌≡◌, ◌≢◌, ℕ, zero, suc, length, Bool, true, false, List, [], ◌∷◌, ◌++◌, set, refl, sym, ap, ◌∙◌, subst, inl, inr, ⊎_elim, ◌⊎◌, arith, length-append, true≢false}
+use Rattle.std.proofs.Common.{◌≡◌, ℕ, zero, suc, Bool, true, false, List, [], ◌∷◌, ◌++◌, set, refl, sym, ap, ◌∙◌, subst, inl, inr, ⊎_elim, ◌⊎◌, arith, length-append, true≢false}
 use Rattle.std.proofs.lemmas.Bool.{cases_Bool}
-use mathlib.Core.List.{IsPrefix}
 use mathlib.Core.Option.{Option, none, some, some-ne-none}
 use lib.ListN.{get_elem?}
 use prog.Atomic.{either}
@@ -12,11 +11,11 @@ use Rattle.circular_buffer.specs.Buffer.{Buffer, buffer}
 use Rattle.pol_pool.specs.declared.standing.Standing.{Standing}
 use Rattle.pol_pool.specs.declared.turn.Turn.{Turn}
 use Rattle.pol_pool.specs.History.{IsHistory, MayCome, waiting, waiting_after}
-use Rattle.pol_pool.specs.Queue.{AreOf, HasFetched, IsHome, IsOut, IsQueue, TellsFetched, TellsShare, newly_made, of_both, other_half, out, spent, standing, with_half, with_turn}
+use Rattle.pol_pool.specs.Queue.{AreOf, IsHome, IsOut, IsQueue, TellsFetched, TellsShare, newly_made, of_both, other_half, out, spent, standing, with_half, with_turn}
 use Rattle.pol_pool.specs.Shares.{IsPart}
 use Rattle.pol_pool.proofs.Beginnings.{begins_itself}
 use Rattle.pol_pool.proofs.Histories.{history_more, waiting_more}
-use Rattle.pol_pool.proofs.Views.{Each, begins, each_more, each_set, joins, knows_all, no_more_than_all, splits, steps}
+use Rattle.pol_pool.proofs.Views.{Each, begins, each_more, joins, knows_all, no_more_than_all, splits, steps}
 
 abbrev Table : Type 0
 Table = State (Buffer ℕ) Standing

@@ -1,5 +1,5 @@
 -- The history of a queue of hints: its turns, in the order in which they took effect.
-use Rattle.std.specs.Prelude.{◌≡◌, ◌<◌, ◌≤◌, ℕ, nat_le, List, [], ◌∷◌, ◌++◌, length, drop, if◌then◌else◌}
+use Rattle.std.specs.Prelude.{◌≡◌, ◌<◌, ℕ, nat_le, List, [], ◌∷◌, ◌++◌, length, drop, if◌then◌else◌}
 use Rattle.pol_pool.specs.declared.turn.Turn.{Turn}
 use Rattle.pol_pool.specs.declared.turn.Turn.TheVariants.{Put, Full, Taken, Empty}
 

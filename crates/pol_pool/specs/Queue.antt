@@ -1,5 +1,5 @@
 -- The rule of a queue of hints that threads share, and what its steps tell.
-use Rattle.std.specs.Prelude.{◌≡◌, ◌≤◌, ◌⊎◌, ◌==◌, ℕ, ◌+◌, true, false, Bool, List, [], ◌∷◌, ◌++◌, length, MatchBool}
+use Rattle.std.specs.Prelude.{◌≡◌, ◌≤◌, ◌⊎◌, ◌==◌, ℕ, ◌+◌, true, false, Bool, List, [], ◌∷◌, ◌++◌, length, drop, MatchBool}
 use mathlib.Core.List.{IsPrefix}
 use mathlib.Core.Option.{none, some}
 use lib.ListN.{get_elem?}
@@ -9,7 +9,7 @@ use Rattle.pol_pool.specs.declared.standing.Share.{Share}
 use Rattle.pol_pool.specs.declared.standing.Standing.{Standing}
 use Rattle.pol_pool.specs.declared.turn.Turn.{Turn}
 use Rattle.pol_pool.specs.declared.turn.Turn.TheVariants.{Put, Full, Taken, Empty}
-use Rattle.pol_pool.specs.History.{IsHistory, MayCome, longer, waiting}
+use Rattle.pol_pool.specs.History.{IsHistory, longer, waiting}
 use Rattle.pol_pool.specs.Shares.{AreShares, IsAll, IsPart, half, no_share, together, whole_share}
 
 abbrev pub standing : ℕ → List Turn → ℕ → Share → Bool → Standing
@@ -72,6 +72,16 @@ out v list = (v, (0, list) ∷ [])
 abbrev pub list_of : Me (Buffer ℕ) Standing → Buffer ℕ
 list_of (v, []) = buffer [] 0
 list_of (v, (x ∷ xs)) = x.1
+
+abbrev pub IsOutWith : Me (Buffer ℕ) Standing → Type 0
+IsOutWith me = me ≡ out me.0 (list_of me)
+
+-- the same, with a hint more at the end of the list; without the oldest hint
+abbrev pub with_hint : Me (Buffer ℕ) Standing → ℕ → Me (Buffer ℕ) Standing
+with_hint me slot = out me.0 (buffer ((list_of me).items ++ slot ∷ []) (list_of me).capacity)
+
+abbrev pub without_oldest : Me (Buffer ℕ) Standing → Me (Buffer ℕ) Standing
+without_oldest me = out me.0 (buffer (drop 1 (list_of me).items) (list_of me).capacity)
 
 -- the list is out with the pass, which has seen all; one with the whole share had seen it before
 pub record HasFetched (v : Standing) (after : Me (Buffer ℕ) Standing) : Type 0 where

@@ -1,18 +1,17 @@
 //! A queue of hints.
-ghost use Rattle.std.specs.Prelude.{◌≡◌, ◌≤◌, ◌<◌, [], ◌∷◌, ◌++◌, ◌+◌, length, drop, slice_get, true, false, IfOk, IfSome, IfNone, OnOk, OnErr, IsTrue};
-ghost use Rattle.circular_buffer.specs.Buffer.{buffer};
+ghost use Rattle.std.specs.Prelude.{◌≡◌, ◌≤◌, ◌<◌, [], ◌+◌, length, slice_get, false, IfOk, IfSome, IfNone, OnOk, OnErr, IsTrue};
 ghost use Rattle.pol_pool.specs.declared.turn.Turn.TheVariants.{Put, Full, Taken, Empty};
 ghost use Rattle.pol_pool.specs.History.{longer, waiting};
 ghost use Rattle.pol_pool.specs.Passes.{Adds, IsHintPassOf, IsOnly, own_of, room_of, seen_by, share_of};
-ghost use Rattle.pol_pool.specs.Queue.{HasFetched, list_of, out};
-ghost use Rattle.pol_pool.specs.Shares.{IsPart, half, together};
+ghost use Rattle.pol_pool.specs.Queue.{HasFetched, IsOutWith, list_of, with_hint, without_oldest};
+ghost use Rattle.pol_pool.specs.Shares.{half, together};
 
 use crate::pass::HintPass;
 use crate::rule::{
     Fetches, FindsEmpty, FindsFull, InOrder, Looks, Puts, Takes, Together, Twice, Waiting,
 };
 use crate::standing::Standing;
-use atomic_table::{Refused, Seat, Table};
+use atomic_table::{Refused, Table};
 use circular_buffer::HeapCircularBuffer;
 use std::alloc::{AllocError as Memory, Global};
 use std::sync::Wait;
@@ -152,9 +151,9 @@ impl Hints {
     // Puts a hint into the list that is out with the pass, and says whether there was room.
     fn push(&self, pass: &mut HintPass, slot: u32) -> bool
         requires table { pass.old.seat.table_id ≡ self.now.list.shared.table_id }
-        requires list { pass.old.seat.me ≡ out pass.old.seat.me.0 (list_of pass.old.seat.me) }
+        requires list { IsOutWith pass.old.seat.me }
         ensures table { (pass.new.seat.table_id ≡ pass.old.seat.table_id) × (pass.new.seat.id ≡ pass.old.seat.id) }
-        ensures pushed { IsTrue result → pass.new.seat.me ≡ out pass.old.seat.me.0 (buffer ((list_of pass.old.seat.me).items ++ slot ∷ []) (list_of pass.old.seat.me).capacity) }
+        ensures pushed { IsTrue result → pass.new.seat.me ≡ with_hint pass.old.seat.me slot }
         ensures room { IsTrue result → length (list_of pass.old.seat.me).items < (list_of pass.old.seat.me).capacity }
         ensures full { result ≡ false → (pass.new.seat.me ≡ pass.old.seat.me) × ((list_of pass.old.seat.me).capacity ≤ length (list_of pass.old.seat.me).items) }
     {
@@ -167,10 +166,10 @@ impl Hints {
     // Takes the oldest hint of the list that is out with the pass.
     fn pop(&self, pass: &mut HintPass) -> Option<u32>
         requires table { pass.old.seat.table_id ≡ self.now.list.shared.table_id }
-        requires list { pass.old.seat.me ≡ out pass.old.seat.me.0 (list_of pass.old.seat.me) }
+        requires list { IsOutWith pass.old.seat.me }
         ensures table { (pass.new.seat.table_id ≡ pass.old.seat.table_id) × (pass.new.seat.id ≡ pass.old.seat.id) }
         ensures oldest { result ≡ slice_get (list_of pass.old.seat.me).items 0 }
-        ensures rest { pass.new.seat.me ≡ out pass.old.seat.me.0 (buffer (drop 1 (list_of pass.old.seat.me).items) (list_of pass.old.seat.me).capacity) }
+        ensures rest { pass.new.seat.me ≡ without_oldest pass.old.seat.me }
     {
         pass.seat.slot_mut(&self.list.shared, 0).pop_front()
     }

@@ -1,4 +1,4 @@
-use Rattle.std.proofs.Common.{ℕ, List, ap, sym, ◌∙◌, arith}
+use Rattle.std.proofs.Common.{ℕ, ap, sym, ◌∙◌, arith}
 use Rattle.atomic_table.specs.Table.{Me}
 use Rattle.circular_buffer.specs.Buffer.{Buffer}
 use Rattle.pol_pool.specs.declared.standing.Standing.{Standing}
