@@ -36,7 +36,7 @@ impl Store {
         let (identity, slots) = match &readied.change {
             Change::Endpoint(endpoint, _) => (
                 Some(endpoint.identity),
-                max(slots, endpoint.slot + 1),
+                max(slots, endpoint.slot.saturating_add(1)),
             ),
             Change::NoEndpoint(name, _) => (None, self.slots_without(name.as_str())),
             Change::Named(_, number) => (Some(*number), slots),
