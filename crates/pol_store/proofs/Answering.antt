@@ -3,6 +3,7 @@ use Rattle.std.proofs.Common.{zero, suc, ◌≡◌, ℕ, ◌+◌, ◌<◌, ◌�
 use Rattle.std.specs.List.{AllByRecursion, insert}
 use Rattle.std.specs.Str.{bytes_eq}
 use Rattle.std.proofs.lemmas.Bool.{cases_Bool}
+use native.Mathlib.Numerals.{unary_clauses}
 use Rattle.pol_data.proofs.Members.{In, In-get_or, every-in}
 use Rattle.pol_data.proofs.Every.{every-weaker}
 use Rattle.pol_model.specs.declared.limits.TheConstants.{ENDPOINTS_MAX}
@@ -58,8 +59,9 @@ module _ (name : List ℕ) where
   last_kept (endpoint ∷ others) zero d ascends within other none = rw other (ap (λ (rest : List Endpoint). slots_of (endpoint ∷ rest)) none ∙ omega arith)
   last_kept (endpoint ∷ others) (suc i) d ascends within other none =
       let there = In-get_or others i d (omega arith) in
+      let next : i + 1 ≡ suc i = omega arith in
       let less = above-In (λ (e : Endpoint). e.slot) endpoint.slot (get_or others i d) others ascends.0 there in
-      kept_slots (not (bytes_eq endpoint.name name)) endpoint (get_or others i d).slot (without_endpoint name others) less (last_kept others i d ascends.1 (omega arith) other none)
+      kept_slots (not (bytes_eq endpoint.name name)) endpoint (get_or others i d).slot (without_endpoint name others) less (last_kept others i d ascends.1 (omega arith) other (ap (λ n. without_endpoint name (drop n others)) next ∙ (simp unary_clauses at none)))
 
 -- ---- the answer
 slots_after : (s : State) (request : Request) → slots_with (change_for s request) s.endpoints ≡ slots_of (after s request).endpoints

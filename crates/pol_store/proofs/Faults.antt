@@ -77,8 +77,8 @@ none_passes {X} p xs none = by (find p xs) refl
 -- what it means that a new endpoint has no fault
 pub record MayBeAdded (s : State) (name : List ℕ) (labels : List Label) (address : Addr) : Type 0 where
   pub allowed : (has_reserved labels && not (is_init labels)) ≡ false
-  pub name : endpoint_of name s.endpoints ≡ None
-  pub address : endpoint_at address s.endpoints ≡ None
+  pub new_name : endpoint_of name s.endpoints ≡ None
+  pub new_address : endpoint_at address s.endpoints ≡ None
   pub room : is_exhausted labels s.identities ≡ false
 
 pub may_be_added : (s : State) (name : List ℕ) (labels : List Label) (address : Addr) → fault_of s (AddEndpoint name labels address) ≡ None → MayBeAdded s name labels address
@@ -90,15 +90,15 @@ may_be_added s name labels address none =
     let fifth = no_fault_if (is_exhausted labels s.identities) fault.IdentitiesExhausted None fourth.1 in
     record {
       allowed = first.0;
-      name = not_some (endpoint_of name s.endpoints) second.0;
-      address = none_passes _ s.endpoints fourth.0;
+      new_name = not_some (endpoint_of name s.endpoints) second.0;
+      new_address = none_passes _ s.endpoints fourth.0;
       room = fifth.0;
     }
 
 -- and a new named identity
 pub record MayBeNamed (s : State) (name : List ℕ) (labels : List Label) : Type 0 where
   pub allowed : has_reserved labels ≡ false
-  pub name : named_of name s.named ≡ None
+  pub new_name : named_of name s.named ≡ None
   pub room : is_exhausted labels s.identities ≡ false
 
 pub may_be_named : (s : State) (name : List ℕ) (labels : List Label) → fault_of s (AddIdentity name labels) ≡ None → MayBeNamed s name labels
@@ -106,7 +106,7 @@ may_be_named s name labels none =
     let first = no_fault_if (has_reserved labels) fault.ReservedLabel _ none in
     let second = no_fault_if (is_some (named_of name s.named)) fault.DuplicateIdentityName _ first.1 in
     let third = no_fault_if (is_exhausted labels s.identities) fault.IdentitiesExhausted None second.1 in
-    record { allowed = first.0; name = not_some (named_of name s.named) second.0; room = third.0 }
+    record { allowed = first.0; new_name = not_some (named_of name s.named) second.0; room = third.0 }
 
 -- what goes is there
 pub endpoint_there : (s : State) (name : List ℕ) → fault_of s (RemoveEndpoint name) ≡ None → (endpoint : Endpoint) × (endpoint_of name s.endpoints ≡ Some endpoint)

@@ -26,7 +26,7 @@ use Rattle.pol_store.specs.declared.readied.Change.{Change}
 use Rattle.pol_store.specs.declared.readied.Change.TheVariants as change
 use Rattle.pol_store.specs.declared.readied.Readied.{Readied}
 use Rattle.pol_store.specs.Parts.{endpoint_fault, numbers_of, with_numbers}
-use Rattle.pol_store.specs.Store.{Stored, Rooms, with_rooms}
+use Rattle.pol_store.specs.Store.{Rooms, Stored, peers_of, with_rooms}
 use Rattle.pol_store.specs.Readied.{change_for, or_none}
 use Rattle.pol_store.proofs.Faults.{endpoint_last}
 use Rattle.pol_store.proofs.Readying.{IsReadiedHere}
@@ -77,7 +77,7 @@ module _ (labels : List Label) (rooms : Rooms) (old mid new : Stored) (mid_is : 
     no_fault = endpoint_last old.state name labels address none ∙ ap (λ b. fault_if b fault.IdentitiesExhausted None) room;
     short = tt;
     state = held_state;
-    refs = held_refs _;
+    refs = held_refs (peers_of old.state.policies);
     exact = held_exact old.state.identities;
     plan = held_plan;
     change = its ∙ ap (λ n. change.Endpoint (record (new_endpoint old.state name labels address) { identity = n }) name) held_number;
@@ -93,7 +93,7 @@ module _ (labels : List Label) (rooms : Rooms) (old mid new : Stored) (mid_is : 
     no_fault = by (named_of name old.state.named) fresh;
     short = tt;
     state = held_state;
-    refs = held_refs _;
+    refs = held_refs (peers_of old.state.policies);
     exact = held_exact old.state.identities;
     plan = held_plan;
     change = its ∙ ap (λ n. change.Named name n) held_number;
@@ -128,7 +128,7 @@ module _ (old new : Stored) (plan : Plan) (new_is : new ≡ with_numbers (with_l
     no_fault = by (endpoint_of name old.state.endpoints) found;
     short = tt;
     state = planned_state;
-    refs = planned_refs _;
+    refs = planned_refs (peers_of old.state.policies);
     exact = planned_exact old.state.identities;
     plan = subst (λ (o : Option ℕ). Readies (old.state.revision + 1) (number_released o old.state.identities) new.cache plan) found readies;
     change = its ∙ ap (λ (o : Option ℕ). change.NoEndpoint name (or_none o)) found;
@@ -148,7 +148,7 @@ module _ (old new : Stored) (plan : Plan) (new_is : new ≡ with_numbers (with_l
     no_fault = by (named_of name old.state.named) found;
     short = tt;
     state = planned_state;
-    refs = planned_refs _;
+    refs = planned_refs (peers_of old.state.policies);
     exact = planned_exact old.state.identities;
     plan = subst (λ (o : Option ℕ). Readies (old.state.revision + 1) (number_released o old.state.identities) new.cache plan) found readies;
     change = its ∙ ap (λ (o : Option ℕ). change.NotNamed name (or_none o)) found;
@@ -167,7 +167,7 @@ module _ (old new : Stored) (plan : Plan) (new_is : new ≡ with_numbers (with_l
     no_fault = refl;
     short = tt;
     state = planned_state;
-    refs = planned_refs _;
+    refs = planned_refs (peers_of old.state.policies);
     exact = planned_exact old.state.identities;
     plan = readies;
     change = its;

@@ -1,3 +1,4 @@
+pub mod ChangeParts
 pub mod Likeness
 pub mod Readying
 pub mod Faults
@@ -8,3 +9,4 @@ pub mod DoingNames
 pub mod UnderWay
 pub mod TakenBack
 pub mod Answering
+pub mod Starting

@@ -77,7 +77,7 @@ readied_in request old new readied here s stands =
     }
 
 pub all_readied : (request : Request) (old new : Stored) (readied : Readied) → IsReadiedHere request old new readied → ReadiesOrNot request old new (Ok readied)
-all_readied request old new readied here s keeps stands = (readied_in request old new readied here s stands, (tt, tt))
+all_readied request old new readied here s keeps stands = (readied_in request old new readied here s stands, tt, tt)
 
 -- The store stands for what it stood for.
 pub record IsAsBefore (old new : Stored) : Type 0 where
@@ -105,10 +105,10 @@ stands_as_before s old new same stands = record {
 -- it isn't readied for its fault, and for want of memory
 pub refused : (request : Request) (old new : Stored) (fault : OneFault) → IsAsBefore old new → fault_of old.state request ≡ Some fault → ReadiesOrNot request old new (Err (Fault fault))
 refused request old new fault same is s keeps stands =
-    (tt, (stands_as_before s old new same stands, sym (like_fault s old.state stands.like request) ∙ is))
+    (tt, stands_as_before s old new same stands, sym (like_fault s old.state stands.like request) ∙ is)
 
 pub without_memory : (request : Request) (old new : Stored) → IsAsBefore old new → ReadiesOrNot request old new (Err Memory)
-without_memory request old new same s keeps stands = (tt, (stands_as_before s old new same stands, tt))
+without_memory request old new same s keeps stands = (tt, stands_as_before s old new same stands, tt)
 
 -- what a store that is settled has of its rows
 pub settled_numbers : (stored : Stored) → IsSettled stored → AreSettled (stored.state.revision + 1) (numbers_of stored)
