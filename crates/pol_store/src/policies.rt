@@ -26,7 +26,7 @@ use std::sync::ledger::Ledger;
 /// What a policy's request does to the tables.
 #[derive(Drop)]
 struct NewPolicy {
-    /// The policy, with its stamp.
+    /// The policy with its stamp.
     stamped: Stamped,
     /// Its key, for the index.
     key: PolicyKey,
@@ -36,12 +36,11 @@ struct NewPolicy {
     given_up: Prefixes,
 }
 
-/// What the removal of a policy does to the tables.
+/// The key of a policy, and the prefixes that it holds.
 #[derive(Drop)]
-struct OldPolicy {
+struct KeyAndPrefixes {
     key: PolicyKey,
-    /// The prefixes that it holds.
-    given_up: Prefixes,
+    prefixes: Prefixes,
 }
 
 /// Why a policy isn't readied, where its prefixes aren't held.
@@ -76,14 +75,15 @@ impl Store {
         })
     }
 
-    /// The key, and the prefixes that the policy holds.
-    fn key_and_prefixes(&self, policy: &Policy) -> Result<OldPolicy, Memory>
-        ensures key { IfOk result (λ parts. parts.key ≡ policy.now.key) }
-        ensures prefixes { IfOk result (λ parts. parts.given_up ≡ policy_prefixes policy.now) }
+    /// The key of the policy, and the prefixes that it holds.
+    fn key_and_prefixes(&self, policy: &Policy) -> Result<KeyAndPrefixes, Memory>
+        ensures key { IfOk result (λ own. own.key ≡ policy.now.key) }
+        ensures prefixes { IfOk result (λ own. own.prefixes ≡ policy_prefixes policy.now) }
     {
-        let key = policy.key.copy(self.alloc)?;
-        let given_up = policy.prefixes(self.alloc)?;
-        Ok(OldPolicy { key, given_up })
+        Ok(KeyAndPrefixes {
+            key: policy.key.copy(self.alloc)?,
+            prefixes: policy.prefixes(self.alloc)?,
+        })
     }
 
     /// What the policy's request does to the tables.
@@ -100,22 +100,22 @@ impl Store {
         Ok(NewPolicy {
             stamped,
             key: own.key,
-            taken: own.given_up,
+            taken: own.prefixes,
             given_up,
         })
     }
 
-    /// What the removal of the policy of that key does to the tables, or that there is none.
-    fn old_policy(&self, key: &PolicyKey) -> Result<OldPolicy, ReadyError>
+    /// The key and the prefixes of the policy of that key. `Fault` says that there is none.
+    fn old_policy(&self, key: &PolicyKey) -> Result<KeyAndPrefixes, ReadyError>
         ensures key { IfOk result (λ old. old.key ≡ key.now) }
-        ensures given_up { IfOk result (λ old. old.given_up ≡ prefixes_of (policy_at key.now self.now.state.policies)) }
+        ensures prefixes { IfOk result (λ old. old.prefixes ≡ prefixes_of (policy_at key.now self.now.state.policies)) }
         ensures no_fault { IfOk result (λ old. fault_of self.now.state (Remove key.now) ≡ None) }
         ensures cause { IfErr result (IsCause self.now.state (Remove key.now)) }
     {
         match self.policies.find(key) {
-            Some(stamped) => Ok(OldPolicy {
+            Some(stamped) => Ok(KeyAndPrefixes {
                 key: key.copy(self.alloc)?,
-                given_up: stamped.policy.prefixes(self.alloc)?,
+                prefixes: stamped.policy.prefixes(self.alloc)?,
             }),
             None => Err(ReadyError::Fault(Fault::UnknownPolicy)),
         }
@@ -158,10 +158,10 @@ impl Store {
         ensures readied { ReadiesOrNot (Remove key.now) self.old self.new result }
     {
         let old = self.old_policy(key)?;
-        let plan = self.plan_prefixes(old.given_up.as_slice(), steps)?;
+        let plan = self.plan_prefixes(old.prefixes.as_slice(), steps)?;
         Ok(Readied {
             plan,
-            change: Change::NoPolicy(old.key, old.given_up),
+            change: Change::NoPolicy(old.key, old.prefixes),
         })
     }
 

@@ -7,4 +7,4 @@ use Rattle.pol_store.proofs.store.Store.ready_no_policy.Goals as goal
 
 pub plan_prefixes-requires-clause-once : goal.plan_prefixes-requires-clause-once
 plan_prefixes-requires-clause-once g c =
-    subst (IsDistinct same_prefix) (sym (c.as_slice.ensures ∙ c.in_ok-old.ensures.given_up)) (once_each (policy_at c.args.key.now c.args.self.now.state.policies))
+    subst (IsDistinct same_prefix) (sym (c.as_slice.ensures ∙ c.in_ok-old.ensures.prefixes)) (once_each (policy_at c.args.key.now c.args.self.now.state.policies))
