@@ -1,5 +1,5 @@
 -- A policy's request is done, or taken back.
-use Rattle.std.proofs.Common.{◌≡◌, ℕ, ◌+◌, ◌<◌, ◌≤◌, List, [], ◌∷◌, ◌++◌, Option, None, Some, is_none, refl, sym, ap, subst, ◌∙◌, arith}
+use Rattle.std.proofs.Common.{◌≡◌, ℕ, ◌+◌, ◌<◌, ◌≤◌, List, ◌++◌, Option, None, sym, ap, subst, ◌∙◌, arith}
 use Rattle.pol_addr.specs.declared.network.Prefix.{Prefix}
 use Rattle.pol_rule.specs.declared.policy.Policy.{Policy}
 use Rattle.pol_rule.specs.declared.policy.PolicyKey.{PolicyKey}
@@ -12,7 +12,7 @@ use Rattle.pol_model.specs.State.{State}
 use Rattle.pol_model.specs.After.{after}
 use Rattle.pol_model.specs.Fault.{fault_of}
 use Rattle.pol_model.specs.Policies.{applied, policy_at, prefixes_of, removed}
-use Rattle.pol_model.specs.Prefixes.{prefixes_held, prefixes_released}
+use Rattle.pol_model.specs.Prefixes.{prefixes_released}
 use Rattle.pol_model.specs.Sizes.{IsShortPolicy}
 use Rattle.pol_facts.specs.Keeps.{Keeps}
 use Rattle.pol_facts.proofs.NoFault.{apply, remove}
@@ -27,8 +27,8 @@ use Rattle.pol_peers.proofs.Counts.{refs_dropped, refs_may_drop}
 use Rattle.pol_store.specs.declared.readied.Change.TheVariants as change
 use Rattle.pol_store.specs.declared.readied.Readied.{Readied}
 use Rattle.pol_store.specs.PolicyParts.{listed_of, with_cache, with_policies, with_rows}
-use Rattle.pol_store.specs.Readied.{Changes, IsReadied, IsUnderWay, MayChange, change_for, or_none}
-use Rattle.pol_store.specs.Store.{IsLike, Stored, StandsFor, peers_of, with_rooms}
+use Rattle.pol_store.specs.Readied.{Changes, IsReadied, IsUnderWay, MayChange, change_for}
+use Rattle.pol_store.specs.Store.{Stored, StandsFor, peers_of, with_rooms}
 use Rattle.pol_store.proofs.PolicyRefs.{refs_applied, refs_removed}
 
 -- ---- the rows of policies change, and what one of them held and referred to is given up

@@ -1,5 +1,5 @@
 -- A policy's request, step by step: what is readied, and what is given back where it isn't.
-use Rattle.std.proofs.Common.{◌≡◌, ℕ, ◌+◌, ◌<◌, ◌≤◌, Bool, true, false, List, [], ◌∷◌, ◌++◌, nat_lt, Option, None, Some, Result, Err, refl, sym, ap, subst, ◌∙◌, arith}
+use Rattle.std.proofs.Common.{◌≡◌, ℕ, ◌+◌, ◌<◌, ◌≤◌, Bool, true, false, List, [], ◌++◌, nat_lt, Option, None, Some, Result, Err, refl, sym, ap, subst, ◌∙◌, arith}
 use Rattle.std.specs.List.{AllByRecursion, IsDistinct}
 use Rattle.std.proofs.lemmas.Bool.{lt-ltb, ltb-true}
 use Rattle.pol_addr.specs.Cidr.{IsPrefix}
@@ -38,7 +38,6 @@ use Rattle.pol_peers.proofs.Counts.{has_more, refs_held, undone}
 use Rattle.pol_numbers.specs.Held.{AreApart, IsSettled as AreSettled, Readies, RefersTo}
 use Rattle.pol_numbers.proofs.Apart.{apart_where_held}
 use Rattle.pol_store.specs.declared.readied.Change.TheVariants as change
-use Rattle.pol_store.specs.declared.readied.Readied.{Readied}
 use Rattle.pol_store.specs.declared.error.ReadyError.TheVariants.{Fault, Memory}
 use Rattle.pol_store.specs.Parts.{numbers_of}
 use Rattle.pol_store.specs.PolicyParts.{policy_error, with_cache, with_rows}

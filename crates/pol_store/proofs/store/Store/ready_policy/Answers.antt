@@ -5,7 +5,7 @@ use Rattle.pol_model.specs.declared.request.Request.TheVariants.{Apply}
 use Rattle.pol_model.specs.Policies.{policy_at}
 use Rattle.pol_store.specs.declared.error.ReadyError.{ReadyError}
 use Rattle.pol_store.specs.Readied.{ReadiesOrNot}
-use Rattle.pol_store.proofs.PolicySteps.{HoldsHere, given_back, holds_here, may_give_up, once_each, parts_here, policy_readied, policy_refused, refers_here}
+use Rattle.pol_store.proofs.PolicySteps.{given_back, holds_here, may_give_up, once_each, parts_here, policy_readied, policy_refused, refers_here}
 use Rattle.pol_store.proofs.Readying.{all_readied}
 use Rattle.pol_store.proofs.store.Store.ready_policy.Goals as goal
 
