@@ -74,7 +74,7 @@ module _ (labels : List Label) (rooms : Rooms) (old mid new : Stored) (mid_is : 
   -- for a new endpoint
   pub endpoint_readied : (name : List ℕ) (address : Addr) (asked : Change) → IsLabelSet labels → IsAddr address
       → endpoint_fault name labels address old.state.endpoints ≡ None → is_exhausted labels old.state.identities ≡ false → 0 < rooms.endpoints
-      → asked ≡ change.Endpoint (record (new_endpoint old.state name labels address) { identity = number }) name
+      → asked ≡ change.Endpoint (with_identity number (new_endpoint mid.state name labels address)) name
       → IsReadiedHere (AddEndpoint name labels address) old new (record { plan = plan; change = asked })
   endpoint_readied name address asked set within none room place its = record {
     valid = (set, within);
@@ -84,7 +84,9 @@ module _ (labels : List Label) (rooms : Rooms) (old mid new : Stored) (mid_is : 
     refs = held_refs (peers_of old.state.policies);
     exact = held_exact old.state.identities;
     plan = held_plan;
-    change = its ∙ ap (λ n. change.Endpoint (record (new_endpoint old.state name labels address) { identity = n }) name) held_number;
+    change = its
+        ∙ ap (λ (s : State). change.Endpoint (with_identity number (new_endpoint s name labels address)) name) state_at
+        ∙ ap (λ n. change.Endpoint (with_identity n (new_endpoint old.state name labels address)) name) held_number;
     room = subst (λ (r : Rooms). 0 < r.endpoints) (sym held_rooms) place;
   }
 
