@@ -1,10 +1,9 @@
 -- The answer to a request, told before it is done.
-use Rattle.std.proofs.Common.{zero, suc, ◌≡◌, ℕ, ◌+◌, ◌<◌, ◌≤◌, max, not, Bool, true, false, nat_lt, cond, List, [], ◌∷◌, map, length, drop, get_or, count_by, Option, None, Some, option_map, inl, inr, refl, sym, ap, subst, ◌∙◌, arith}
+use Rattle.std.proofs.Common.{zero, suc, ◌≡◌, ℕ, ◌+◌, ◌<◌, ◌≤◌, max, not, Bool, true, false, nat_lt, cond, List, [], ◌∷◌, map, length, drop, get_or, count_by, Option, option_map, refl, sym, ap, subst, ◌∙◌, arith}
 use Rattle.std.specs.List.{AllByRecursion, insert}
 use Rattle.std.specs.Str.{bytes_eq}
-use Rattle.std.proofs.lemmas.Bool.{cases_Bool}
 use native.Mathlib.Numerals.{unary_clauses}
-use Rattle.pol_data.proofs.Members.{In, In-get_or, every-in}
+use Rattle.pol_data.proofs.Members.{In-get_or, every-in}
 use Rattle.pol_data.proofs.Every.{every-weaker}
 use Rattle.pol_model.specs.declared.limits.TheConstants.{ENDPOINTS_MAX}
 use Rattle.pol_model.specs.declared.request.Request.{Request}

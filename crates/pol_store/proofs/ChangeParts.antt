@@ -1,5 +1,5 @@
 -- The parts of a change, and that changes of two forms are never one.
-use Rattle.std.proofs.Common.{◌≡◌, ℕ, ◌==◌, false, true, List, sym, ap, ◌∙◌}
+use Rattle.std.proofs.Common.{◌≡◌, ℕ, ◌==◌, false, List, ap}
 use Rattle.std.proofs.lemmas.Bool.{both_ways, eq-eqb}
 use Rattle.pol_addr.specs.declared.network.Prefix.{Prefix}
 use Rattle.pol_rule.specs.declared.policy.PolicyKey.{PolicyKey}

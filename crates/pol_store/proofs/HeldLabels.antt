@@ -1,5 +1,5 @@
 -- A label set is held for an endpoint or a named identity, or one of these goes: what is readied so.
-use Rattle.std.proofs.Common.{◌≡◌, ℕ, ◌+◌, ◌<◌, ◌&&◌, Bool, true, false, not, List, Option, None, Some, option_map, is_some, is_none, refl, sym, ap, subst, ◌∙◌}
+use Rattle.std.proofs.Common.{◌≡◌, ℕ, ◌+◌, ◌<◌, false, List, Option, None, Some, option_map, is_some, is_none, refl, sym, ap, subst, ◌∙◌}
 use Rattle.pol_addr.specs.declared.address.Addr.{Addr}
 use Rattle.pol_addr.specs.Address.{IsAddr}
 use Rattle.pol_labels.specs.declared.label.Label.{Label}
@@ -13,21 +13,20 @@ use Rattle.pol_model.specs.declared.row.NamedIdentity.{NamedIdentity}
 use Rattle.pol_model.specs.declared.row.IdentityRow.{IdentityRow}
 use Rattle.pol_model.specs.State.{State}
 use Rattle.pol_model.specs.After.{new_endpoint}
-use Rattle.pol_model.specs.Endpoints.{endpoint_of, free_slot, named_of}
-use Rattle.pol_model.specs.Fault.{fault_if, fault_of, has_reserved, is_exhausted}
+use Rattle.pol_model.specs.Endpoints.{endpoint_of, named_of}
+use Rattle.pol_model.specs.Fault.{fault_if, has_reserved, is_exhausted}
 use Rattle.pol_model.specs.Identities.{labels_held, number_for, number_released, released}
-use Rattle.pol_selcache.specs.Cache.{Cache, with_room}
+use Rattle.pol_selcache.specs.Cache.{Cache}
 use Rattle.pol_selcache.specs.Live.{AreExact, Live}
 use Rattle.pol_selcache.specs.Plan.{Plan}
 use Rattle.pol_tables.specs.Tables.{number_named}
-use Rattle.pol_numbers.specs.Held.{Held, HoldsLabels, Readies, with_log_room}
+use Rattle.pol_numbers.specs.Held.{HoldsLabels, Readies, with_log_room}
 use Rattle.pol_peers.specs.References.{RefsOf}
 use Rattle.pol_store.specs.declared.readied.Change.{Change}
 use Rattle.pol_store.specs.declared.readied.Change.TheVariants as change
-use Rattle.pol_store.specs.declared.readied.Readied.{Readied}
 use Rattle.pol_store.specs.Parts.{endpoint_fault, numbers_of, with_numbers}
 use Rattle.pol_store.specs.Store.{Rooms, Stored, peers_of, with_rooms}
-use Rattle.pol_store.specs.Readied.{change_for, or_none}
+use Rattle.pol_store.specs.Readied.{or_none}
 use Rattle.pol_store.proofs.Faults.{endpoint_last}
 use Rattle.pol_store.proofs.Readying.{IsReadiedHere}
 

@@ -1,5 +1,5 @@
 -- What is shown of one set of rows holds for each state that they are like: a request is readied, or it isn't.
-use Rattle.std.proofs.Common.{◌≡◌, ℕ, ◌+◌, ◌<◌, ◌≤◌, List, [], ◌∷◌, ◌++◌, Option, None, Some, Result, Ok, Err, refl, sym, ap, subst, ◌∙◌, arith}
+use Rattle.std.proofs.Common.{◌≡◌, ℕ, ◌+◌, ◌≤◌, List, ◌++◌, None, Some, Ok, Err, sym, ap, subst, ◌∙◌, arith}
 use Rattle.pol_rule.specs.declared.policy.Peer.{Peer}
 use Rattle.pol_model.specs.declared.answer.Fault.{Fault as OneFault}
 use Rattle.pol_model.specs.declared.request.Request.{Request}
@@ -11,11 +11,9 @@ use Rattle.pol_model.specs.After.{after}
 use Rattle.pol_model.specs.Fault.{fault_of}
 use Rattle.pol_model.specs.Sizes.{IsShort}
 use Rattle.pol_facts.specs.Holding.{rows_taken}
-use Rattle.pol_facts.specs.Keeps.{Keeps}
 use Rattle.pol_facts.specs.Valid.{IsValid}
 use Rattle.pol_changes.specs.Log.{newest}
 use Rattle.pol_selcache.specs.Live.{AreExact}
-use Rattle.pol_selcache.specs.Cache.{Cache, with_room}
 use Rattle.pol_tables.specs.Tables.{number_named}
 use Rattle.pol_numbers.specs.Held.{IsSettled as AreSettled, Readies}
 use Rattle.pol_peers.specs.Listed.{listed_peers}

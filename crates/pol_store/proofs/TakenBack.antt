@@ -1,9 +1,8 @@
 -- What was readied is taken back, change by change.
-use Rattle.std.proofs.Common.{◌≡◌, ℕ, ◌+◌, ◌≤◌, ◌&&◌, not, Bool, true, false, List, [], ◌∷◌, ◌++◌, refl, sym, ap, subst, ◌∙◌, arith}
+use Rattle.std.proofs.Common.{◌≡◌, ℕ, ◌+◌, ◌≤◌, ◌&&◌, not, Bool, true, false, List, refl, sym, ap, subst, ◌∙◌, arith}
 use Rattle.std.proofs.lemmas.Bool.{both_ways}
 use Rattle.pol_addr.specs.declared.network.Prefix.{Prefix}
 use Rattle.pol_labels.specs.declared.label.Label.{Label}
-use Rattle.pol_rule.specs.declared.policy.Policy.{Policy}
 use Rattle.pol_rule.specs.declared.policy.PolicyKey.{PolicyKey}
 use Rattle.pol_rule.specs.Prefixes.{policy_prefixes}
 use Rattle.pol_model.specs.declared.request.Request.{Request}
@@ -17,14 +16,14 @@ use Rattle.pol_model.specs.Identities.{is_local, number_for, released}
 use Rattle.pol_facts.specs.Holding.{has_row}
 use Rattle.pol_facts.specs.Keeps.{Keeps}
 use Rattle.pol_peers.specs.Listed.{listed_peers}
-use Rattle.pol_peers.specs.References.{HasRefs, RefsOf, references_of, times_in}
+use Rattle.pol_peers.specs.References.{HasRefs, references_of, times_in}
 use Rattle.pol_peers.proofs.Counts.{times_append}
 use Rattle.pol_store.specs.declared.readied.Change.{Change}
 use Rattle.pol_store.specs.declared.readied.Change.TheVariants as change
 use Rattle.pol_store.specs.declared.readied.Readied.{Readied}
 use Rattle.pol_store.specs.Parts.{numbers_of, with_numbers}
 use Rattle.pol_store.specs.Store.{StandsFor, Stored, peers_of}
-use Rattle.pol_store.specs.Readied.{CanBeDone, IsReadied, TakesBack, change_for}
+use Rattle.pol_store.specs.Readied.{CanBeDone, IsReadied, TakesBack}
 use Rattle.pol_store.proofs.ChangeParts.{differ, endpoint_of_change, number_of_change, policy_of_change, taken_of_change}
 use Rattle.pol_store.proofs.Faults.{may_be_added, may_be_named}
 use Rattle.pol_store.proofs.UnderWay.{back_with, like_before, may_give_back}
