@@ -19,7 +19,6 @@ use Rattle.pol_numbers.specs.Held.{IsSettled as AreSettled, Readies}
 use Rattle.pol_peers.specs.Listed.{listed_peers}
 use Rattle.pol_peers.specs.References.{RefsOf}
 use Rattle.pol_store.specs.declared.readied.Readied.{Readied}
-use Rattle.pol_store.specs.declared.error.ReadyError.{ReadyError}
 use Rattle.pol_store.specs.declared.error.ReadyError.TheVariants.{Fault, Memory}
 use Rattle.pol_store.specs.Parts.{numbers_of}
 use Rattle.pol_store.specs.Store.{IsLike, IsSettled, Rooms, StandsFor, Stored, peers_of, with_rooms}
@@ -107,10 +106,6 @@ refused request old new fault same is s keeps stands =
 
 pub without_memory : (request : Request) (old new : Stored) → IsAsBefore old new → ReadiesOrNot request old new (Err Memory)
 without_memory request old new same s keeps stands = (tt, stands_as_before s old new same stands, tt)
-
-pub without_memory_as : (request : Request) (old new : Stored) (error : ReadyError) → error ≡ Memory → IsAsBefore old new → ReadiesOrNot request old new (Err error)
-without_memory_as request old new error is same =
-    subst (λ (e : ReadyError). ReadiesOrNot request old new (Err e)) (sym is) (without_memory request old new same)
 
 -- a call that failed left it so
 pub same_before : (old new : Stored) → new ≡ old → IsAsBefore old new
