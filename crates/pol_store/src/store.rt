@@ -2,6 +2,7 @@
 ghost use Rattle.std.specs.Prelude.{◌≡◌, [], IfOk};
 ghost use Rattle.pol_model.specs.After.{start};
 ghost use Rattle.pol_model.specs.State.{State};
+ghost use Rattle.pol_selcache.specs.Live.{AreLive};
 ghost use Rattle.pol_store.specs.Store.{StandsFor};
 
 use pol_data::Memory;
@@ -92,6 +93,14 @@ impl Store {
         ensures short { AllByRecursion (λ stamped. IsShortPolicy stamped.policy) self.now.state.policies }
     {
         self.policies.as_slice()
+    }
+
+    /// The revision of the newest change of a set that was dropped, 0 if none was.
+    pub fn horizon(&self) -> u64
+        ensures horizon { result ≡ self.now.cache.log.horizon }
+        ensures live { AreLive self.now.cache.live }
+    {
+        self.numbers.horizon()
     }
 
     /// The identities that are held.

@@ -12,7 +12,7 @@ use crate::line::{Reading, answer_line, next_phase};
 use pol_answer::Answer;
 use pol_data::Memory;
 use pol_model::Options;
-use pol_plain::Plain;
+use pol_repo::Repo;
 use std::alloc::Global;
 
 /// Plays lines whose maps have no limit: one answer each, and the lines with their answers are a run of the policy
@@ -37,14 +37,15 @@ fn answers_in_order(
     options: Options,
     readings: Vec<Reading>,
 ) -> Result<Vec<Answer>, Memory>
+    requires { options.map_max ≡ None }
     ensures { IfOk result (λ answers. answers.items ≡ serial_answers options readings.items) }
 {
-    let mut plain = Plain::new(alloc, options)?;
+    let mut repo = Repo::new(alloc, options.mode, options.localhost)?;
     let mut phase = 1u64;
     let mut answers = Vec::with_capacity(alloc, readings.len())?;
     for reading in readings {
         let next = next_phase(phase, &reading);
-        answers.push(answer_line(alloc, &mut plain, phase, reading)?)?;
+        answers.push(answer_line(alloc, &mut repo, phase, reading)?)?;
         phase = next;
     }
     Ok(answers)

@@ -1,11 +1,13 @@
-use Rattle.std.proofs.Common.{◌≡◌}
+use Rattle.std.proofs.Common.{◌≡◌, None}
 use Rattle.pol_model.specs.After.{start}
+use Rattle.pol_repo.specs.Repository.{state_in}
 use Rattle.pol_run.proofs.SerialRuns.{IsPlayed}
 use Rattle.policyd.proofs.serial.answers_in_order.Given as goal
 
 -- the lines so far are answered, one after another
 abbrev pub invariant-loop-reading : goal.invariant-loop-reading
 invariant-loop-reading l = record {
-  options : l.plain.options ≡ l.fn.options;
-  played : IsPlayed l.fn.options (start l.fn.options) l.yielded l.plain.state l.phase l.answers.items;
+  options : l.repo.options ≡ l.fn.options;
+  idle : l.repo.readied ≡ None;
+  played : IsPlayed l.fn.options (start l.fn.options) l.yielded (state_in l.repo) l.phase l.answers.items;
 }
