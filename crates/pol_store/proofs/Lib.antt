@@ -1,0 +1,12 @@
+pub mod ChangeParts
+pub mod Likeness
+pub mod Readying
+pub mod Faults
+pub mod LiveNumbers
+pub mod HeldLabels
+pub mod Doing
+pub mod DoingNames
+pub mod UnderWay
+pub mod TakenBack
+pub mod Answering
+pub mod Starting

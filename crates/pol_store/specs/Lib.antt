@@ -1,2 +1,4 @@
 pub mod Store
+pub mod Parts
+pub mod Answer
 pub mod Readied

@@ -9,6 +9,7 @@ use Rattle.pol_model.specs.declared.row.Stamped.{Stamped}
 use Rattle.pol_model.specs.State.{State}
 use Rattle.pol_model.specs.After.{after, new_endpoint}
 use Rattle.pol_model.specs.Fault.{fault_of}
+use Rattle.pol_model.specs.Sizes.{IsShort}
 use Rattle.pol_model.specs.Endpoints.{endpoint_of, named_of}
 use Rattle.pol_model.specs.Identities.{number_for}
 use Rattle.pol_model.specs.Policies.{policy_at, prefixes_of}
@@ -58,6 +59,7 @@ HasRoom _ rooms = Unit {0}
 -- sets are as before, and the plan makes them exact for the state after it.
 pub record IsReadied (s : State) (request : Request) (stored : Stored) (readied : Readied) : Type 0 where
   pub may : MayCommit s request
+  pub short : IsShort request
   pub like : IsLike (record s { identities = rows_taken s request }) stored.state
   pub refs : RefsOf (peers_with s request) stored.cache.live
   pub exact : AreExact s.identities stored.cache.live
@@ -94,6 +96,7 @@ is_of_policy _ = false
 -- the holders are as they were when it was readied.
 pub record IsUnderWay (s : State) (request : Request) (stored : Stored) : Type 0 where
   pub may : MayCommit s request
+  pub short : IsShort request
   pub like : IsLike (record s { identities = rows_taken s request; revision = s.revision + 1 }) stored.state
   pub refs : RefsOf (peers_with s request) stored.cache.live
   pub exact : AreExact (after s request).identities stored.cache.live

@@ -14,10 +14,17 @@ use pol_model::Mode;
 impl Store {
     /// The mode from now on.
     fn set_mode(&mut self, mode: Mode)
+        ensures mode { self.new ≡ record self.old { state = record self.old.state { mode = mode } } }
+    {
+        self.mode = mode;
+    }
+
+    /// Changes the mode.
+    fn change_mode(&mut self, mode: Mode)
         requires may { MayChange self.old (Change.Mode mode) }
         ensures done { Changes self.old (Change.Mode mode) self.new }
     {
-        self.mode = mode;
+        self.set_mode(mode);
     }
 
     /// Changes the tables, and gives up what goes.
@@ -32,7 +39,7 @@ impl Store {
             Change::NotNamed(name, number) => self.take_out_identity(name, number),
             Change::Policy(new, key, taken, given_up) => self.put_policy(new, key, taken, given_up),
             Change::NoPolicy(key, given_up) => self.take_out_policy(key, given_up),
-            Change::Mode(mode) => self.set_mode(mode),
+            Change::Mode(mode) => self.change_mode(mode),
         }
     }
 
@@ -43,8 +50,7 @@ impl Store {
         ensures done { (s : State) (request : OneRequest) → Keeps s → IsReadied s request self.old readied → StandsFor (after s request) self.new }
     {
         let Readied { plan, change } = readied;
-        self.numbers.carry_out(plan);
-        self.revision += 1;
+        self.begin(plan);
         self.change(change);
     }
 
@@ -53,11 +59,18 @@ impl Store {
         requires ready { CanBeDone self.old readied }
         ensures back { TakesBack self.old readied self.new }
     {
-        match readied.change {
-            Change::Endpoint(endpoint, _) => self.numbers.release(endpoint.identity),
-            Change::Named(_, number) => self.numbers.release(number),
+        let Readied {
+            plan: _plan,
+            change,
+        } = readied;
+        match change {
+            Change::Endpoint(endpoint, _) => self.release(endpoint.identity),
+            Change::Named(_, number) => self.release(number),
             Change::Policy(new, _, taken, _) => self.take_back_policy(&new.policy, &taken),
-            _ => (),
+            Change::NoEndpoint(_, _)
+            | Change::NotNamed(_, _)
+            | Change::NoPolicy(_, _)
+            | Change::Mode(_) => (),
         }
     }
 }

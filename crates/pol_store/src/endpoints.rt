@@ -1,7 +1,9 @@
 //! Endpoints that come and go.
-ghost use Rattle.std.specs.Prelude.{◌≡◌, ◌<◌, ◌+◌, ◌-◌, ◌^◌, ◌≤◌};
+ghost use Rattle.std.specs.Prelude.{◌≡◌, ◌<◌, ◌+◌, ◌-◌, ◌^◌, ◌≤◌, IfOk, option_map};
 ghost use Rattle.pol_model.specs.declared.request.Request.TheVariants.{AddEndpoint, RemoveEndpoint};
+ghost use Rattle.pol_model.specs.Endpoints.{endpoint_of, free_slot};
 ghost use Rattle.pol_selcache.specs.Live.{label_selectors};
+ghost use Rattle.pol_store.specs.Parts.{endpoint_fault};
 ghost use Rattle.pol_store.specs.Readied.{Changes, MayChange, ReadiesOrNot};
 ghost use Rattle.pol_store.specs.Store.{IsSettled};
 
@@ -18,7 +20,9 @@ use std::sync::ledger::Ledger;
 
 impl Store {
     /// The fault of a new endpoint, but for numbers that ran out.
-    fn endpoint_fault(&self, name: &str, labels: &LabelSet, address: Addr) -> Option<Fault> {
+    fn endpoint_fault(&self, name: &str, labels: &LabelSet, address: Addr) -> Option<Fault>
+        ensures fault { result ≡ endpoint_fault name.now labels.now address self.now.state.endpoints }
+    {
         if has_reserved(labels) && !is_init(labels) {
             Some(Fault::ReservedLabel)
         } else if self.endpoints.find(name).is_some() {
@@ -38,7 +42,17 @@ impl Store {
         name: &Text,
         labels: &LabelSet,
         address: Addr,
-    ) -> Result<Endpoint, Memory> {
+    ) -> Result<Endpoint, Memory>
+        requires room { self.now.state.revision < 2 ^ 64 - 1 }
+        ensures endpoint { IfOk result (λ endpoint. endpoint ≡ record {
+          name = name.now;
+          slot = free_slot self.now.state.endpoints;
+          added = self.now.state.revision + 1;
+          labels = labels.now;
+          identity = 0;
+          address = address;
+        }) }
+    {
         Ok(Endpoint {
             name: name.copy(self.alloc)?,
             slot: self.endpoints.free_slot(),
@@ -47,6 +61,16 @@ impl Store {
             identity: 0,
             address,
         })
+    }
+
+    /// The number of the live endpoint of that name.
+    fn endpoint_number(&self, name: &str) -> Option<u32>
+        ensures number { result ≡ option_map (λ endpoint. endpoint.identity) (endpoint_of name.now self.now.state.endpoints) }
+    {
+        match self.endpoints.find(name) {
+            Some(endpoint) => Some(endpoint.identity),
+            None => None,
+        }
     }
 
     /// Readies a new endpoint: it holds the number of its labels.
@@ -65,10 +89,10 @@ impl Store {
         if let Some(fault) = self.endpoint_fault(name.as_str(), labels, address) {
             return Err(ReadyError::Fault(fault));
         }
-        self.endpoints.reserve()?;
-        let own = name.copy(self.alloc)?;
+        self.reserve_endpoint()?;
+        let own = name.copy(self.allocator())?;
         let mut endpoint = self.endpoint_without_number(name, labels, address)?;
-        match self.numbers.hold_labels(self.revision + 1, labels, steps) {
+        match self.hold_labels(labels, steps) {
             Ok(LabelsHeld { number, plan }) => {
                 endpoint.identity = number;
                 Ok(Readied {
@@ -92,12 +116,12 @@ impl Store {
         ensures readied { ReadiesOrNot (RemoveEndpoint name.now) self.old self.new result }
         ensures cost { steps.new ≤ steps.old }
     {
-        let number = match self.endpoints.find(name.as_str()) {
-            Some(endpoint) => endpoint.identity,
+        let number = match self.endpoint_number(name.as_str()) {
+            Some(number) => number,
             None => return Err(ReadyError::Fault(Fault::UnknownEndpoint)),
         };
-        let own = name.copy(self.alloc)?;
-        let plan = self.numbers.plan_release(self.revision + 1, number, steps)?;
+        let own = name.copy(self.allocator())?;
+        let plan = self.plan_release(number, steps)?;
         Ok(Readied {
             plan,
             change: Change::NoEndpoint(own, number),
@@ -109,7 +133,7 @@ impl Store {
         requires may { MayChange self.old (Change.Endpoint endpoint name) }
         ensures done { Changes self.old (Change.Endpoint endpoint name) self.new }
     {
-        self.endpoints.place(endpoint, name);
+        self.put_endpoint(endpoint, name);
     }
 
     /// Takes the endpoint out, and gives its number back.
@@ -117,7 +141,7 @@ impl Store {
         requires may { MayChange self.old (Change.NoEndpoint name number) }
         ensures done { Changes self.old (Change.NoEndpoint name number) self.new }
     {
-        self.endpoints.remove(name.as_str());
-        self.numbers.release(number);
+        self.drop_endpoint(name.as_str());
+        self.release(number);
     }
 }

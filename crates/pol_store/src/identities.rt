@@ -2,6 +2,7 @@
 ghost use Rattle.std.specs.Prelude.{◌≡◌, ◌<◌, ◌+◌, ◌-◌, ◌^◌, ◌≤◌};
 ghost use Rattle.pol_model.specs.declared.request.Request.TheVariants.{AddIdentity, RemoveIdentity};
 ghost use Rattle.pol_selcache.specs.Live.{label_selectors};
+ghost use Rattle.pol_tables.specs.Tables.{number_named};
 ghost use Rattle.pol_store.specs.Readied.{Changes, MayChange, ReadiesOrNot};
 ghost use Rattle.pol_store.specs.Store.{IsSettled};
 
@@ -16,6 +17,13 @@ use pol_numbers::LabelsHeld;
 use std::sync::ledger::Ledger;
 
 impl Store {
+    /// The number that the name holds.
+    fn named_number(&self, name: &str) -> Option<u32>
+        ensures number { result ≡ number_named name.now self.now.state.named }
+    {
+        self.named.find(name)
+    }
+
     /// Readies a new named identity: it holds the number of its labels.
     pub(crate) fn ready_identity<L: Ledger>(
         &mut self,
@@ -31,12 +39,12 @@ impl Store {
         if has_reserved(labels) {
             return Err(ReadyError::Fault(Fault::ReservedLabel));
         }
-        if self.named.find(name.as_str()).is_some() {
+        if self.named_number(name.as_str()).is_some() {
             return Err(ReadyError::Fault(Fault::DuplicateIdentityName));
         }
-        self.named.reserve()?;
-        let own = name.copy(self.alloc)?;
-        match self.numbers.hold_labels(self.revision + 1, labels, steps) {
+        self.reserve_name()?;
+        let own = name.copy(self.allocator())?;
+        match self.hold_labels(labels, steps) {
             Ok(LabelsHeld { number, plan }) => Ok(Readied {
                 plan,
                 change: Change::Named(own, number),
@@ -57,12 +65,12 @@ impl Store {
         ensures readied { ReadiesOrNot (RemoveIdentity name.now) self.old self.new result }
         ensures cost { steps.new ≤ steps.old }
     {
-        let number = match self.named.find(name.as_str()) {
+        let number = match self.named_number(name.as_str()) {
             Some(number) => number,
             None => return Err(ReadyError::Fault(Fault::UnknownIdentityName)),
         };
-        let own = name.copy(self.alloc)?;
-        let plan = self.numbers.plan_release(self.revision + 1, number, steps)?;
+        let own = name.copy(self.allocator())?;
+        let plan = self.plan_release(number, steps)?;
         Ok(Readied {
             plan,
             change: Change::NotNamed(own, number),
@@ -74,7 +82,7 @@ impl Store {
         requires may { MayChange self.old (Change.Named name number) }
         ensures done { Changes self.old (Change.Named name number) self.new }
     {
-        self.named.place(name, number);
+        self.put_name(name, number);
     }
 
     /// Takes the name out, and gives its number back.
@@ -82,7 +90,7 @@ impl Store {
         requires may { MayChange self.old (Change.NotNamed name number) }
         ensures done { Changes self.old (Change.NotNamed name number) self.new }
     {
-        self.named.remove(name.as_str());
-        self.numbers.release(number);
+        self.drop_name(name.as_str());
+        self.release(number);
     }
 }

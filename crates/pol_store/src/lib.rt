@@ -10,6 +10,7 @@ mod endpoints;
 mod error;
 mod identities;
 mod look;
+mod parts;
 mod policies;
 mod readied;
 mod ready;

@@ -2,8 +2,14 @@
 ghost use Rattle.std.specs.Prelude.{◌≡◌, ◌<◌, ◌+◌, ◌-◌, ◌^◌};
 ghost use Rattle.pol_model.specs.declared.request.Request.TheVariants.{Apply, Remove};
 ghost use Rattle.pol_model.specs.Sizes.{IsShortPolicy};
-ghost use Rattle.pol_store.specs.Readied.{Changes, MayChange, ReadiesOrNot};
-ghost use Rattle.pol_store.specs.Store.{IsSettled};
+ghost use Rattle.pol_model.specs.State.{State};
+ghost use Rattle.pol_rule.specs.Prefixes.{policy_prefixes};
+ghost use Rattle.pol_facts.specs.Keeps.{Keeps};
+ghost use Rattle.pol_peers.specs.Listed.{listed_peers};
+ghost use Rattle.pol_peers.specs.References.{HasRefs};
+ghost use Rattle.pol_store.specs.Readied.{Changes, IsReadied, MayChange, ReadiesOrNot};
+ghost use Rattle.pol_store.specs.Store.{IsSettled, StandsFor};
+ghost use Rattle.pol_store.specs.declared.readied.Readied.{Readied as OneReadied};
 
 use crate::error::ReadyError;
 use crate::readied::{Change, Readied};
@@ -116,7 +122,10 @@ impl Store {
     }
 
     /// Gives back what a readied policy holds and refers to.
-    pub(crate) fn take_back_policy(&mut self, policy: &Policy, taken: &Prefixes) {
+    pub(crate) fn take_back_policy(&mut self, policy: &Policy, taken: &Prefixes)
+        requires referred { HasRefs (listed_peers policy.now) self.old.cache.live }
+        ensures back { (s : State) (readied : OneReadied) → Keeps s → IsReadied s (Apply policy.now) self.old readied → taken.now ≡ policy_prefixes policy.now → StandsFor s self.new }
+    {
         self.numbers.release_prefixes(taken.as_slice());
         self.numbers.unrefer(policy);
     }

@@ -25,7 +25,7 @@ impl Store {
         ensures readied { ReadiesOrNot (SetMode mode) self.old self.new result }
         ensures cost { steps.new ≤ steps.old }
     {
-        let plan = self.numbers.plan_nothing(self.revision + 1, steps)?;
+        let plan = self.plan_nothing(steps)?;
         Ok(Readied {
             plan,
             change: Change::Mode(mode),

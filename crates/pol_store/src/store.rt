@@ -1,7 +1,7 @@
 //! The rows of the state under their indexes.
 ghost use Rattle.std.specs.Prelude.{◌≡◌, [], IfOk};
+ghost use Rattle.pol_model.specs.declared.options.Options.{Options as AllOptions};
 ghost use Rattle.pol_model.specs.After.{start};
-ghost use Rattle.pol_model.specs.State.{State};
 ghost use Rattle.pol_selcache.specs.Live.{AreLive};
 ghost use Rattle.pol_store.specs.Store.{StandsFor};
 
