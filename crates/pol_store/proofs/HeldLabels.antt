@@ -35,6 +35,10 @@ use Rattle.pol_store.proofs.Readying.{IsReadiedHere}
 abbrev pub with_rows : List IdentityRow → State → State
 with_rows rows s = record s { identities = rows }
 
+-- the endpoint with this number
+abbrev pub with_identity : ℕ → Endpoint → Endpoint
+with_identity number endpoint = record endpoint { identity = number }
+
 -- a label set was held
 module _ (labels : List Label) (rooms : Rooms) (old mid new : Stored) (mid_is : mid ≡ with_rooms rooms old) (number : ℕ) (plan : Plan)
     (held : HoldsLabels (mid.state.revision + 1) labels (numbers_of mid) (numbers_of new) number plan) (new_is : new ≡ with_numbers (numbers_of new) mid) where

@@ -10,3 +10,7 @@ pub mod UnderWay
 pub mod TakenBack
 pub mod Answering
 pub mod Starting
+pub mod PolicyRows
+pub mod PolicyRefs
+pub mod PolicySteps
+pub mod PolicyMoves

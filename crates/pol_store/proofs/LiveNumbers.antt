@@ -1,5 +1,5 @@
 -- The numbers of live endpoints and of named identities have rows, and aren't prefixes'.
-use Rattle.std.proofs.Common.{◌≡◌, ℕ, ◌==◌, ◌<◌, ◌≤◌, true, false, Some, ◌⊎◌, inl, inr, sym, ap, subst, ◌∙◌, arith}
+use Rattle.std.proofs.Common.{◌≡◌, ℕ, ◌==◌, ◌<◌, ◌≤◌, true, false, List, Option, None, Some, option_map, ◌⊎◌, inl, inr, refl, sym, ap, subst, ◌∙◌, arith}
 use Rattle.std.specs.Str.{bytes_eq}
 use Rattle.std.proofs.lemmas.Bool.{eqb-true, lt-leb}
 use Rattle.pol_data.proofs.Members.{every-in}
@@ -12,7 +12,8 @@ use Rattle.pol_model.specs.Identities.{is_local}
 use Rattle.pol_facts.specs.Holding.{has_row}
 use Rattle.pol_facts.specs.Keeps.{IsLiveIn, IsNamedIn, Keeps}
 use Rattle.pol_facts.proofs.Membership.{find-In, list_any-In}
-use Rattle.std.proofs.Common.{List}
+use Rattle.pol_tables.specs.Tables.{number_named}
+use Rattle.pol_store.specs.Store.{IsSettled, Stored}
 
 -- the number may be released
 pub record MayGo (number : ℕ) (s : State) : Type 0 where
@@ -43,3 +44,25 @@ held_name s keeps name identity is =
       held = list_any-In (λ row. row.number == identity.number) it.row s.identities at.0 at.1;
       not_local = lt-leb LOCAL_FIRST identity.number (omega (arith, same, upto));
     }
+
+-- the same of the rows that a settled store has
+module _ (stored : Stored) (settled : IsSettled stored) where
+  pub endpoint_held : (name : List ℕ) (number : ℕ) → Some number ≡ option_map (λ (endpoint : Endpoint). endpoint.identity) (endpoint_of name stored.state.endpoints) → has_row number stored.state.identities ≡ true
+  endpoint_held name number is = by (endpoint_of name stored.state.endpoints) refl is
+    where
+      by : (o : Option Endpoint) → endpoint_of name stored.state.endpoints ≡ o → Some number ≡ option_map (λ (endpoint : Endpoint). endpoint.identity) o → has_row number stored.state.identities ≡ true
+      by None found same = absurd cc
+      by (Some endpoint) found same =
+          let like = settled.stands.like in
+          let own : number ≡ endpoint.identity = cc in
+          (λ i. has_row (own i) (like.identities i))
+          ∙ (live_number settled.state settled.keeps name endpoint (sym (ap (endpoint_of name) like.endpoints) ∙ found)).held
+
+  pub name_held : (name : List ℕ) (number : ℕ) → Some number ≡ number_named name stored.state.named → has_row number stored.state.identities ≡ true
+  name_held name number is = by (named_of name settled.state.named) refl (is ∙ settled.stands.like.named name)
+    where
+      by : (o : Option NamedIdentity) → named_of name settled.state.named ≡ o → Some number ≡ option_map (λ (identity : NamedIdentity). identity.number) o → has_row number stored.state.identities ≡ true
+      by None found same = absurd cc
+      by (Some identity) found same =
+          let own : number ≡ identity.number = cc in
+          (λ i. has_row (own i) (settled.stands.like.identities i)) ∙ (held_name settled.state settled.keeps name identity found).held

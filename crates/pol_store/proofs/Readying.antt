@@ -110,6 +110,23 @@ refused request old new fault same is s keeps stands =
 pub without_memory : (request : Request) (old new : Stored) → IsAsBefore old new → ReadiesOrNot request old new (Err Memory)
 without_memory request old new same s keeps stands = (tt, stands_as_before s old new same stands, tt)
 
+pub without_memory_as : (request : Request) (old new : Stored) (error : ReadyError) → error ≡ Memory → IsAsBefore old new → ReadiesOrNot request old new (Err error)
+without_memory_as request old new error is same =
+    subst (λ (e : ReadyError). ReadiesOrNot request old new (Err e)) (sym is) (without_memory request old new same)
+
+-- a call that failed left it so
+pub same_before : (old new : Stored) → new ≡ old → IsAsBefore old new
+same_before old new is = as_before old.rooms old new is
+
+-- two calls in a row
+pub before_both : (old mid new : Stored) → IsAsBefore old mid → IsAsBefore mid new → IsAsBefore old new
+before_both old mid new first second = record {
+  state = second.state ∙ first.state;
+  refs = λ peers refs. second.refs peers (first.refs peers refs);
+  exact = λ rows exact. second.exact rows (first.exact rows exact);
+  newest = let one = first.newest in let other = second.newest in omega (arith, one, other);
+}
+
 -- what a store that is settled has of its rows
 pub settled_numbers : (stored : Stored) → IsSettled stored → AreSettled (stored.state.revision + 1) (numbers_of stored)
 settled_numbers stored settled =

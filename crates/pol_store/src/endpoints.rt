@@ -1,7 +1,9 @@
 //! Endpoints that come and go.
 ghost use Rattle.std.specs.Prelude.{◌≡◌, ◌<◌, ◌+◌, ◌-◌, ◌^◌, ◌≤◌, IfOk, option_map};
+ghost use Rattle.pol_addr.specs.Address.{IsAddr};
 ghost use Rattle.pol_model.specs.declared.request.Request.TheVariants.{AddEndpoint, RemoveEndpoint};
 ghost use Rattle.pol_model.specs.Endpoints.{endpoint_of, free_slot};
+ghost use Rattle.pol_model.specs.Fault.{is_taken};
 ghost use Rattle.pol_selcache.specs.Live.{label_selectors};
 ghost use Rattle.pol_store.specs.Parts.{endpoint_fault};
 ghost use Rattle.pol_store.specs.Readied.{Changes, MayChange, ReadiesOrNot};
@@ -19,6 +21,16 @@ use pol_numbers::LabelsHeld;
 use std::sync::ledger::Ledger;
 
 impl Store {
+    /// Whether a live endpoint has the address.
+    fn is_taken(&self, address: Addr) -> bool
+        ensures taken { result ≡ is_taken self.now.state.endpoints address }
+    {
+        match self.endpoints.at_address(address) {
+            Some(_) => true,
+            None => false,
+        }
+    }
+
     /// The fault of a new endpoint, but for numbers that ran out.
     fn endpoint_fault(&self, name: &str, labels: &LabelSet, address: Addr) -> Option<Fault>
         ensures fault { result ≡ endpoint_fault name.now labels.now address self.now.state.endpoints }
@@ -29,7 +41,7 @@ impl Store {
             Some(Fault::DuplicateEndpoint)
         } else if ENDPOINTS_MAX as usize <= self.endpoints.len() {
             Some(Fault::EndpointsFull)
-        } else if self.endpoints.at_address(address).is_some() {
+        } else if self.is_taken(address) {
             Some(Fault::AddressTaken)
         } else {
             None
@@ -52,7 +64,9 @@ impl Store {
           identity = 0;
           address = address;
         }) }
+        ensures within { IsAddr address }
     {
+        let _bits = address.bits();
         Ok(Endpoint {
             name: name.copy(self.alloc)?,
             slot: self.endpoints.free_slot(),

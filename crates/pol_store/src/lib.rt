@@ -12,6 +12,7 @@ mod identities;
 mod look;
 mod parts;
 mod policies;
+mod policy_parts;
 mod readied;
 mod ready;
 mod store;

@@ -1,13 +1,16 @@
 //! Policies that come and go.
-ghost use Rattle.std.specs.Prelude.{◌≡◌, ◌<◌, ◌+◌, ◌-◌, ◌^◌};
+ghost use Rattle.std.specs.Prelude.{◌≡◌, ◌<◌, ◌+◌, ◌-◌, ◌^◌, IfOk, IfErr, None};
+ghost use Rattle.pol_rule.specs.Prefixes.{policy_prefixes};
 ghost use Rattle.pol_model.specs.declared.request.Request.TheVariants.{Apply, Remove};
+ghost use Rattle.pol_model.specs.Fault.{fault_of};
+ghost use Rattle.pol_model.specs.Policies.{policy_at, prefixes_of};
 ghost use Rattle.pol_model.specs.Sizes.{IsShortPolicy};
 ghost use Rattle.pol_model.specs.State.{State};
-ghost use Rattle.pol_rule.specs.Prefixes.{policy_prefixes};
 ghost use Rattle.pol_facts.specs.Keeps.{Keeps};
 ghost use Rattle.pol_peers.specs.Listed.{listed_peers};
 ghost use Rattle.pol_peers.specs.References.{HasRefs};
-ghost use Rattle.pol_store.specs.Readied.{Changes, IsReadied, MayChange, ReadiesOrNot};
+ghost use Rattle.pol_store.specs.PolicyParts.{policy_error};
+ghost use Rattle.pol_store.specs.Readied.{Changes, IsCause, IsReadied, MayChange, ReadiesOrNot};
 ghost use Rattle.pol_store.specs.Store.{IsSettled, StandsFor};
 ghost use Rattle.pol_store.specs.declared.readied.Readied.{Readied as OneReadied};
 
@@ -20,12 +23,101 @@ use pol_model::{Fault, Stamped};
 use pol_rule::{Policy, PolicyKey, Prefixes};
 use std::sync::ledger::Ledger;
 
+/// What a policy's request does to the tables.
+#[derive(Drop)]
+struct NewPolicy {
+    /// The policy with its stamp.
+    stamped: Stamped,
+    /// Its key, for the index.
+    key: PolicyKey,
+    /// The prefixes that it holds.
+    taken: Prefixes,
+    /// Those of the policy that it replaces.
+    given_up: Prefixes,
+}
+
+/// The key of a policy, and the prefixes that it holds.
+#[derive(Drop)]
+struct KeyAndPrefixes {
+    key: PolicyKey,
+    prefixes: Prefixes,
+}
+
+/// Why a policy isn't readied, where its prefixes aren't held.
+fn policy_error(error: IdentError) -> ReadyError
+    ensures { result ≡ policy_error error }
+{
+    match error {
+        IdentError::Exhausted => ReadyError::Fault(Fault::LocalExhausted),
+        IdentError::Memory => ReadyError::Memory,
+    }
+}
+
 impl Store {
     /// The prefixes of the policy of that key, if it is there.
-    fn prefixes_at(&self, key: &PolicyKey) -> Result<Prefixes, Memory> {
+    fn prefixes_at(&self, key: &PolicyKey) -> Result<Prefixes, Memory>
+        ensures { IfOk result (λ prefixes. prefixes ≡ prefixes_of (policy_at key.now self.now.state.policies)) }
+    {
         match self.policies.find(key) {
             Some(stamped) => stamped.policy.prefixes(self.alloc),
             None => Ok(Prefixes::empty(self.alloc)),
+        }
+    }
+
+    /// The policy with its stamp.
+    fn stamped(&self, policy: &Policy) -> Result<Stamped, Memory>
+        requires room { self.now.state.revision < 2 ^ 64 - 1 }
+        ensures { IfOk result (λ stamped. stamped ≡ record { policy = policy.now; stamp = self.now.state.revision + 1 }) }
+    {
+        Ok(Stamped {
+            policy: policy.copy(self.alloc)?,
+            stamp: self.revision + 1,
+        })
+    }
+
+    /// The key of the policy, and the prefixes that it holds.
+    fn key_and_prefixes(&self, policy: &Policy) -> Result<KeyAndPrefixes, Memory>
+        ensures key { IfOk result (λ own. own.key ≡ policy.now.key) }
+        ensures prefixes { IfOk result (λ own. own.prefixes ≡ policy_prefixes policy.now) }
+    {
+        Ok(KeyAndPrefixes {
+            key: policy.key.copy(self.alloc)?,
+            prefixes: policy.prefixes(self.alloc)?,
+        })
+    }
+
+    /// What the policy's request does to the tables.
+    fn new_policy(&self, policy: &Policy) -> Result<NewPolicy, Memory>
+        requires room { self.now.state.revision < 2 ^ 64 - 1 }
+        ensures stamped { IfOk result (λ new. new.stamped ≡ record { policy = policy.now; stamp = self.now.state.revision + 1 }) }
+        ensures key { IfOk result (λ new. new.key ≡ policy.now.key) }
+        ensures taken { IfOk result (λ new. new.taken ≡ policy_prefixes policy.now) }
+        ensures given_up { IfOk result (λ new. new.given_up ≡ prefixes_of (policy_at policy.now.key self.now.state.policies)) }
+    {
+        let stamped = self.stamped(policy)?;
+        let given_up = self.prefixes_at(&policy.key)?;
+        let own = self.key_and_prefixes(policy)?;
+        Ok(NewPolicy {
+            stamped,
+            key: own.key,
+            taken: own.prefixes,
+            given_up,
+        })
+    }
+
+    /// The key and the prefixes of the policy of that key. `Fault` says that there is none.
+    fn old_policy(&self, key: &PolicyKey) -> Result<KeyAndPrefixes, ReadyError>
+        ensures key { IfOk result (λ old. old.key ≡ key.now) }
+        ensures prefixes { IfOk result (λ old. old.prefixes ≡ prefixes_of (policy_at key.now self.now.state.policies)) }
+        ensures no_fault { IfOk result (λ old. fault_of self.now.state (Remove key.now) ≡ None) }
+        ensures cause { IfErr result (IsCause self.now.state (Remove key.now)) }
+    {
+        match self.policies.find(key) {
+            Some(stamped) => Ok(KeyAndPrefixes {
+                key: key.copy(self.alloc)?,
+                prefixes: stamped.policy.prefixes(self.alloc)?,
+            }),
+            None => Err(ReadyError::Fault(Fault::UnknownPolicy)),
         }
     }
 
@@ -40,31 +132,17 @@ impl Store {
         requires short { IsShortPolicy policy.now }
         ensures readied { ReadiesOrNot (Apply policy.now) self.old self.new result }
     {
-        self.policies.reserve()?;
-        let taken = policy.prefixes(self.alloc)?;
-        let given_up = self.prefixes_at(&policy.key)?;
-        let key = policy.key.copy(self.alloc)?;
-        let stamped = Stamped {
-            policy: policy.copy(self.alloc)?,
-            stamp: self.revision + 1,
-        };
-        self.numbers.refer(policy, steps)?;
-        match self.numbers.hold_prefixes(
-            self.revision + 1,
-            taken.as_slice(),
-            given_up.as_slice(),
-            steps,
-        ) {
+        self.reserve_policy()?;
+        let new = self.new_policy(policy)?;
+        self.refer(policy, steps)?;
+        match self.hold_prefixes(new.taken.as_slice(), new.given_up.as_slice(), steps) {
             Ok(plan) => Ok(Readied {
                 plan,
-                change: Change::Policy(stamped, key, taken, given_up),
+                change: Change::Policy(new.stamped, new.key, new.taken, new.given_up),
             }),
             Err(error) => {
-                self.numbers.unrefer(policy);
-                Err(match error {
-                    IdentError::Exhausted => ReadyError::Fault(Fault::LocalExhausted),
-                    IdentError::Memory => ReadyError::Memory,
-                })
+                self.unrefer(policy);
+                Err(policy_error(error))
             }
         }
     }
@@ -79,17 +157,11 @@ impl Store {
         requires room { self.old.state.revision < 2 ^ 64 - 1 }
         ensures readied { ReadiesOrNot (Remove key.now) self.old self.new result }
     {
-        if self.policies.find(key).is_none() {
-            return Err(ReadyError::Fault(Fault::UnknownPolicy));
-        }
-        let given_up = self.prefixes_at(key)?;
-        let own = key.copy(self.alloc)?;
-        let plan = self
-            .numbers
-            .plan_prefixes(self.revision + 1, given_up.as_slice(), steps)?;
+        let old = self.old_policy(key)?;
+        let plan = self.plan_prefixes(old.prefixes.as_slice(), steps)?;
         Ok(Readied {
             plan,
-            change: Change::NoPolicy(own, given_up),
+            change: Change::NoPolicy(old.key, old.prefixes),
         })
     }
 
@@ -104,10 +176,9 @@ impl Store {
         requires may { MayChange self.old (Change.Policy new key taken given_up) }
         ensures done { Changes self.old (Change.Policy new key taken given_up) self.new }
     {
-        if let Some(old) = self.policies.put(new, key) {
-            self.numbers.unrefer(&old.policy);
-        }
-        self.numbers.release_prefixes(given_up.as_slice());
+        let old = self.put(new, key);
+        self.unrefer_old(old);
+        self.release_prefixes(given_up.as_slice());
     }
 
     /// Takes the policy out, and gives up what it held and referred to.
@@ -115,10 +186,9 @@ impl Store {
         requires may { MayChange self.old (Change.NoPolicy key given_up) }
         ensures done { Changes self.old (Change.NoPolicy key given_up) self.new }
     {
-        if let Some(old) = self.policies.remove(&key) {
-            self.numbers.unrefer(&old.policy);
-        }
-        self.numbers.release_prefixes(given_up.as_slice());
+        let old = self.take_out(&key);
+        self.unrefer_old(old);
+        self.release_prefixes(given_up.as_slice());
     }
 
     /// Gives back what a readied policy holds and refers to.
@@ -126,7 +196,7 @@ impl Store {
         requires referred { HasRefs (listed_peers policy.now) self.old.cache.live }
         ensures back { (s : State) (readied : OneReadied) → Keeps s → IsReadied s (Apply policy.now) self.old readied → taken.now ≡ policy_prefixes policy.now → StandsFor s self.new }
     {
-        self.numbers.release_prefixes(taken.as_slice());
-        self.numbers.unrefer(policy);
+        self.release_prefixes(taken.as_slice());
+        self.unrefer(policy);
     }
 }

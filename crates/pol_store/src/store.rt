@@ -1,8 +1,10 @@
 //! The rows of the state under their indexes.
-ghost use Rattle.std.specs.Prelude.{◌≡◌, [], IfOk};
+ghost use Rattle.std.specs.Prelude.{◌≡◌, IfOk};
+ghost use Rattle.std.specs.List.{AllByRecursion};
 ghost use Rattle.pol_model.specs.declared.options.Options.{Options as AllOptions};
 ghost use Rattle.pol_model.specs.After.{start};
 ghost use Rattle.pol_selcache.specs.Live.{AreLive};
+ghost use Rattle.pol_model.specs.Sizes.{IsShortPolicy};
 ghost use Rattle.pol_store.specs.Store.{StandsFor};
 
 use pol_data::Memory;
