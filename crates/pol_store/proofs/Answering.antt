@@ -1,12 +1,9 @@
 -- The answer to a request, told before it is done.
-use Rattle.std.proofs.Common.{zero, suc, ◌≡◌, ℕ, ◌+◌, ◌<◌, ◌≤◌, max, not, Bool, true, false, nat_lt, cond, List, [], ◌∷◌, map, length, drop, get_or, count_by, Option, None, Some, option_map, inl, inr, refl, sym, ap, subst, ◌∙◌, arith}
-use Rattle.std.specs.List.{AllByRecursion, insert}
+use Rattle.std.proofs.Common.{zero, suc, ◌≡◌, ℕ, ◌+◌, ◌<◌, max, not, Bool, true, false, nat_lt, cond, List, [], ◌∷◌, map, length, drop, get_or, count_by, Option, option_map, refl, sym, ap, subst, ◌∙◌, arith}
+use Rattle.std.specs.List.{insert}
 use Rattle.std.specs.Str.{bytes_eq}
-use Rattle.std.proofs.lemmas.Bool.{cases_Bool}
 use native.Mathlib.Numerals.{unary_clauses}
-use Rattle.pol_data.proofs.Members.{In, In-get_or, every-in}
-use Rattle.pol_data.proofs.Every.{every-weaker}
-use Rattle.pol_model.specs.declared.limits.TheConstants.{ENDPOINTS_MAX}
+use Rattle.pol_data.proofs.Members.{In-get_or, every-in}
 use Rattle.pol_model.specs.declared.request.Request.{Request}
 use Rattle.pol_model.specs.declared.request.Request.TheVariants.{AddEndpoint, RemoveEndpoint, AddIdentity, RemoveIdentity, Apply, Remove, SetMode}
 use Rattle.pol_model.specs.declared.row.Endpoint.{Endpoint}
@@ -34,18 +31,6 @@ pub slots-inserted : (i : ℕ) (endpoint : Endpoint) (endpoints : List Endpoint)
 slots-inserted zero endpoint endpoints = omega arith
 slots-inserted (suc i) endpoint [] = omega arith
 slots-inserted (suc i) endpoint (other ∷ others) = let rest = slots-inserted i endpoint others in omega (arith, rest)
-
--- all slots are less than the bound
-pub slots_few : (s : State) → Keeps s → AllByRecursion (λ (endpoint : Endpoint). endpoint.slot < ENDPOINTS_MAX) s.endpoints
-slots_few s keeps = every-weaker (IsLiveIn s) (λ (endpoint : Endpoint). endpoint.slot < ENDPOINTS_MAX) (λ endpoint live. live.slot) s.endpoints keeps.endpoints
-
-pub slots_bound : (endpoints : List Endpoint) → AllByRecursion (λ (endpoint : Endpoint). endpoint.slot < ENDPOINTS_MAX) endpoints → slots_of endpoints ≤ ENDPOINTS_MAX
-slots_bound [] few = omega arith
-slots_bound (endpoint ∷ others) few = let rest = slots_bound others few.1 in let here = few.0 in omega (arith, rest, here)
-
--- one more of that name
-pub one_more_gone : (name : List ℕ) (endpoint : Endpoint) (others : List Endpoint) → bytes_eq endpoint.name name ≡ true → without_endpoint name others ≡ [] → without_endpoint name (endpoint ∷ others) ≡ []
-one_more_gone name endpoint others same none = rw same none
 
 module _ (name : List ℕ) where
   kept_slots : (b : Bool) (endpoint : Endpoint) (slot : ℕ) (others : List Endpoint) → endpoint.slot < slot → slots_of others ≡ slot + 1 → slots_of (cond b (endpoint ∷ others) others) ≡ slot + 1

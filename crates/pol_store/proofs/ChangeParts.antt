@@ -1,8 +1,7 @@
 -- The parts of a change, and that changes of two forms are never one.
-use Rattle.std.proofs.Common.{◌≡◌, ℕ, ◌==◌, false, true, List, sym, ap, ◌∙◌}
+use Rattle.std.proofs.Common.{◌≡◌, ℕ, ◌==◌, false, List, ap}
 use Rattle.std.proofs.lemmas.Bool.{both_ways, eq-eqb}
 use Rattle.pol_addr.specs.declared.network.Prefix.{Prefix}
-use Rattle.pol_rule.specs.declared.policy.PolicyKey.{PolicyKey}
 use Rattle.pol_model.specs.declared.options.Mode.{Mode}
 use Rattle.pol_model.specs.declared.row.Endpoint.{Endpoint}
 use Rattle.pol_model.specs.declared.row.Stamped.{Stamped}
@@ -43,19 +42,9 @@ abbrev pub policy_of_change : Stamped → Change → Stamped
 policy_of_change d (change.Policy stamped key taken given_up) = stamped
 policy_of_change d _ = d
 
-abbrev pub key_of_change : PolicyKey → Change → PolicyKey
-key_of_change d (change.Policy stamped key taken given_up) = key
-key_of_change d (change.NoPolicy key given_up) = key
-key_of_change d _ = d
-
 abbrev pub taken_of_change : List Prefix → Change → List Prefix
 taken_of_change d (change.Policy stamped key taken given_up) = taken
 taken_of_change d _ = d
-
-abbrev pub given_up_of_change : List Prefix → Change → List Prefix
-given_up_of_change d (change.Policy stamped key taken given_up) = given_up
-given_up_of_change d (change.NoPolicy key given_up) = given_up
-given_up_of_change d _ = d
 
 abbrev pub mode_of_change : Mode → Change → Mode
 mode_of_change d (change.Mode mode) = mode

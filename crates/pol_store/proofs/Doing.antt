@@ -1,19 +1,16 @@
 -- A request that is under way is done: what its change makes of the store.
-use Rattle.std.proofs.Common.{◌≡◌, ℕ, ◌+◌, ◌<◌, ◌≤◌, true, false, List, [], ◌∷◌, ◌++◌, find, Option, None, Some, option_map, refl, sym, ap, subst, ◌∙◌, arith}
-use Rattle.std.specs.Str.{bytes_eq}
+use Rattle.std.proofs.Common.{◌≡◌, ℕ, ◌+◌, ◌<◌, ◌≤◌, true, false, List, Option, None, Some, option_map, refl, sym, ap, subst, ◌∙◌}
 use Rattle.pol_data.proofs.Members.{every-in}
 use Rattle.pol_rule.specs.declared.policy.Peer.{Peer}
 use Rattle.pol_model.specs.declared.limits.TheConstants.{ENDPOINTS_MAX}
-use Rattle.pol_model.specs.declared.options.Mode.{Mode}
 use Rattle.pol_model.specs.declared.request.Request.{Request}
 use Rattle.pol_model.specs.declared.request.Request.TheVariants.{AddEndpoint, RemoveEndpoint, AddIdentity, RemoveIdentity, Apply, Remove, SetMode}
 use Rattle.pol_model.specs.declared.row.Endpoint.{Endpoint}
 use Rattle.pol_model.specs.declared.row.IdentityRow.{IdentityRow}
-use Rattle.pol_model.specs.declared.row.NamedIdentity.{NamedIdentity}
 use Rattle.pol_model.specs.State.{State}
 use Rattle.pol_model.specs.After.{after, new_endpoint}
-use Rattle.pol_model.specs.Endpoints.{endpoint_of, free_slot, named_of, without_endpoint, without_named}
-use Rattle.pol_model.specs.Identities.{is_local, number_for, number_released, released}
+use Rattle.pol_model.specs.Endpoints.{endpoint_of, free_slot, without_endpoint}
+use Rattle.pol_model.specs.Identities.{is_local, number_released, released}
 use Rattle.pol_model.specs.Numbers.{placed_by}
 use Rattle.pol_model.specs.Remote.{endpoint_at}
 use Rattle.pol_facts.specs.Holding.{has_row}
@@ -23,16 +20,15 @@ use Rattle.pol_facts.proofs.StateLaws.{keeps-after}
 use Rattle.pol_changes.specs.Log.{newest}
 use Rattle.pol_selcache.specs.Cache.{Cache}
 use Rattle.pol_selcache.specs.Live.{AreExact}
-use Rattle.pol_tables.specs.Tables.{SameNumbers, number_named}
+use Rattle.pol_tables.specs.Tables.{number_named}
 use Rattle.pol_peers.specs.References.{RefsOf}
-use Rattle.pol_store.specs.declared.readied.Change.{Change}
 use Rattle.pol_store.specs.declared.readied.Change.TheVariants as change
 use Rattle.pol_store.specs.Parts.{numbers_of, with_numbers}
 use Rattle.pol_store.specs.Store.{IsLike, StandsFor, Stored, peers_of}
 use Rattle.pol_store.specs.Readied.{Changes, IsUnderWay, MayChange, change_for, or_none, peers_with}
 use Rattle.pol_store.proofs.ChangeParts.{differ, endpoint_of_change, name_of_change, number_of_change}
-use Rattle.pol_store.proofs.Faults.{endpoint_there, may_be_added, may_be_named, name_there}
-use Rattle.pol_store.proofs.LiveNumbers.{MayGo, held_name, live_number}
+use Rattle.pol_store.proofs.Faults.{endpoint_there, may_be_added}
+use Rattle.pol_store.proofs.LiveNumbers.{MayGo, live_number}
 
 -- where the selectors stay as they were, and no policy comes or goes
 pub done : (s : State) (request : Request) (old new : Stored) → IsUnderWay s request old → new.cache ≡ old.cache → peers_with s request ≡ peers_of (after s request).policies

@@ -1,14 +1,14 @@
 -- Faults of a chain of tests: the first that holds, and what none means.
-use Rattle.std.proofs.Common.{◌≡◌, ℕ, ◌<◌, ◌≤◌, ◌&&◌, Bool, true, false, not, nat_le, List, [], ◌∷◌, length, find, Option, None, Some, option_map, is_some, is_none, inl, inr, refl, sym, ap, ◌∙◌, arith}
+use Rattle.std.proofs.Common.{◌≡◌, ℕ, ◌&&◌, Bool, true, false, not, nat_le, List, length, find, Option, None, Some, is_some, is_none, refl, sym, ap, ◌∙◌}
 use Rattle.std.specs.List.{list_any}
-use Rattle.std.proofs.lemmas.Bool.{both_ways, leb-false}
+use Rattle.std.proofs.lemmas.Bool.{both_ways}
 use Rattle.pol_addr.specs.declared.address.Addr.{Addr}
 use Rattle.pol_addr.specs.Address.{same_addr}
 use Rattle.pol_labels.specs.declared.label.Label.{Label}
 use Rattle.pol_model.specs.declared.answer.Fault.{Fault}
 use Rattle.pol_model.specs.declared.answer.Fault.TheVariants as fault
 use Rattle.pol_model.specs.declared.limits.TheConstants.{ENDPOINTS_MAX}
-use Rattle.pol_model.specs.declared.request.Request.TheVariants.{AddEndpoint, RemoveEndpoint, AddIdentity, RemoveIdentity, Remove}
+use Rattle.pol_model.specs.declared.request.Request.TheVariants.{AddEndpoint, RemoveEndpoint, AddIdentity, RemoveIdentity}
 use Rattle.pol_model.specs.declared.row.Endpoint.{Endpoint}
 use Rattle.pol_model.specs.declared.row.NamedIdentity.{NamedIdentity}
 use Rattle.pol_model.specs.State.{State}
@@ -16,7 +16,6 @@ use Rattle.pol_model.specs.Endpoints.{endpoint_of, named_of}
 use Rattle.pol_model.specs.Fault.{fault_if, fault_of, has_reserved, is_exhausted, is_init, is_taken}
 use Rattle.pol_model.specs.Remote.{endpoint_at}
 use Rattle.pol_facts.proofs.Membership.{find-In, find-none, list_any-In}
-use Rattle.pol_tables.specs.Tables.{number_named}
 use Rattle.pol_store.specs.Parts.{endpoint_fault}
 
 pub no_fault_if : (b : Bool) (this : Fault) (others : Option Fault) → fault_if b this others ≡ None → (b ≡ false) × (others ≡ None)
@@ -55,50 +54,6 @@ module _ (s : State) (name : List ℕ) (labels : List Label) (address : Addr) wh
 
   pub endpoint_exhausted : endpoint_fault name labels address s.endpoints ≡ None → is_exhausted labels s.identities ≡ true → fault_of s (AddEndpoint name labels address) ≡ Some fault.IdentitiesExhausted
   endpoint_exhausted none full = endpoint_last none ∙ ap (λ b. fault_if b fault.IdentitiesExhausted None) full
-
--- the faults of a new named identity
-module _ (s : State) (name : List ℕ) (labels : List Label) where
-  pub identity_reserved : has_reserved labels ≡ true → fault_of s (AddIdentity name labels) ≡ Some fault.ReservedLabel
-  identity_reserved reserved =
-      ap (λ b. fault_if b fault.ReservedLabel (fault_if (is_some (named_of name s.named)) fault.DuplicateIdentityName (fault_if (is_exhausted labels s.identities) fault.IdentitiesExhausted None))) reserved
-
-  pub identity_named : has_reserved labels ≡ false → is_some (number_named name s.named) ≡ true → fault_of s (AddIdentity name labels) ≡ Some fault.DuplicateIdentityName
-  identity_named free there =
-      λ i. fault_if (free i) fault.ReservedLabel (fault_if (by (named_of name s.named) there i) fault.DuplicateIdentityName (fault_if (is_exhausted labels s.identities) fault.IdentitiesExhausted None))
-    where
-      by : (o : Option NamedIdentity) → is_some (option_map (λ (identity : NamedIdentity). identity.number) o) ≡ true → is_some o ≡ true
-      by None is = absurd cc
-      by (Some identity) is = refl
-
-  pub identity_exhausted : has_reserved labels ≡ false → number_named name s.named ≡ None → is_exhausted labels s.identities ≡ true → fault_of s (AddIdentity name labels) ≡ Some fault.IdentitiesExhausted
-  identity_exhausted free fresh full =
-      λ i. fault_if (free i) fault.ReservedLabel (fault_if (by (named_of name s.named) fresh i) fault.DuplicateIdentityName (fault_if (full i) fault.IdentitiesExhausted None))
-    where
-      by : (o : Option NamedIdentity) → option_map (λ (identity : NamedIdentity). identity.number) o ≡ None → is_some o ≡ false
-      by None is = refl
-      by (Some identity) is = absurd cc
-
--- what isn't there to go
-pub no_endpoint_there : (s : State) (name : List ℕ) → None ≡ option_map (λ (endpoint : Endpoint). endpoint.identity) (endpoint_of name s.endpoints) → fault_of s (RemoveEndpoint name) ≡ Some fault.UnknownEndpoint
-no_endpoint_there s name is = by (endpoint_of name s.endpoints) is
-  where
-    by : (o : Option Endpoint) → None ≡ option_map (λ (endpoint : Endpoint). endpoint.identity) o → fault_if (is_none o) fault.UnknownEndpoint None ≡ Some fault.UnknownEndpoint
-    by None same = refl
-    by (Some endpoint) same = absurd cc
-
-pub no_name_there : (s : State) (name : List ℕ) → None ≡ number_named name s.named → fault_of s (RemoveIdentity name) ≡ Some fault.UnknownIdentityName
-no_name_there s name is = by (named_of name s.named) is
-  where
-    by : (o : Option NamedIdentity) → None ≡ option_map (λ (identity : NamedIdentity). identity.number) o → fault_if (is_none o) fault.UnknownIdentityName None ≡ Some fault.UnknownIdentityName
-    by None same = refl
-    by (Some identity) same = absurd cc
-
-pub endpoint_allowed : (name : List ℕ) (labels : List Label) (address : Addr) (endpoints : List Endpoint) → endpoint_fault name labels address endpoints ≡ None → (has_reserved labels && not (is_init labels)) ≡ false
-endpoint_allowed name labels address endpoints is =
-    (no_fault_if (has_reserved labels && not (is_init labels)) fault.ReservedLabel
-    (fault_if (is_some (endpoint_of name endpoints)) fault.DuplicateEndpoint
-    (fault_if (nat_le ENDPOINTS_MAX (length endpoints)) fault.EndpointsFull
-    (fault_if (is_taken endpoints address) fault.AddressTaken None))) is).0
 
 -- what isn't there
 pub not_some : {X : Type 0} (o : Option X) → is_some o ≡ false → o ≡ None

@@ -1,33 +1,30 @@
--- A label set is held for an endpoint or a named identity, or one of these goes: what is readied so.
-use Rattle.std.proofs.Common.{◌≡◌, ℕ, ◌+◌, ◌<◌, ◌&&◌, Bool, true, false, not, List, Option, None, Some, option_map, is_some, is_none, refl, sym, ap, subst, ◌∙◌}
+-- A label set is held for an endpoint or a named identity: what is readied so.
+use Rattle.std.proofs.Common.{◌≡◌, ℕ, ◌+◌, ◌<◌, false, List, Option, None, Some, option_map, is_some, sym, ap, subst, ◌∙◌}
 use Rattle.pol_addr.specs.declared.address.Addr.{Addr}
 use Rattle.pol_addr.specs.Address.{IsAddr}
 use Rattle.pol_labels.specs.declared.label.Label.{Label}
 use Rattle.pol_labels.specs.Order.{IsLabelSet}
 use Rattle.pol_rule.specs.declared.policy.Peer.{Peer}
 use Rattle.pol_model.specs.declared.answer.Fault.TheVariants as fault
-use Rattle.pol_model.specs.declared.options.Mode.{Mode}
-use Rattle.pol_model.specs.declared.request.Request.TheVariants.{AddEndpoint, RemoveEndpoint, AddIdentity, RemoveIdentity, SetMode}
+use Rattle.pol_model.specs.declared.request.Request.TheVariants.{AddEndpoint, AddIdentity}
 use Rattle.pol_model.specs.declared.row.Endpoint.{Endpoint}
 use Rattle.pol_model.specs.declared.row.NamedIdentity.{NamedIdentity}
 use Rattle.pol_model.specs.declared.row.IdentityRow.{IdentityRow}
 use Rattle.pol_model.specs.State.{State}
 use Rattle.pol_model.specs.After.{new_endpoint}
-use Rattle.pol_model.specs.Endpoints.{endpoint_of, free_slot, named_of}
-use Rattle.pol_model.specs.Fault.{fault_if, fault_of, has_reserved, is_exhausted}
-use Rattle.pol_model.specs.Identities.{labels_held, number_for, number_released, released}
-use Rattle.pol_selcache.specs.Cache.{Cache, with_room}
+use Rattle.pol_model.specs.Endpoints.{named_of}
+use Rattle.pol_model.specs.Fault.{fault_if, has_reserved, is_exhausted}
+use Rattle.pol_model.specs.Identities.{labels_held, number_for}
+use Rattle.pol_selcache.specs.Cache.{Cache}
 use Rattle.pol_selcache.specs.Live.{AreExact, Live}
 use Rattle.pol_selcache.specs.Plan.{Plan}
 use Rattle.pol_tables.specs.Tables.{number_named}
-use Rattle.pol_numbers.specs.Held.{Held, HoldsLabels, Readies, with_log_room}
+use Rattle.pol_numbers.specs.Held.{HoldsLabels, Readies}
 use Rattle.pol_peers.specs.References.{RefsOf}
 use Rattle.pol_store.specs.declared.readied.Change.{Change}
 use Rattle.pol_store.specs.declared.readied.Change.TheVariants as change
-use Rattle.pol_store.specs.declared.readied.Readied.{Readied}
 use Rattle.pol_store.specs.Parts.{endpoint_fault, numbers_of, with_numbers}
 use Rattle.pol_store.specs.Store.{Rooms, Stored, peers_of, with_rooms}
-use Rattle.pol_store.specs.Readied.{change_for, or_none}
 use Rattle.pol_store.proofs.Faults.{endpoint_last}
 use Rattle.pol_store.proofs.Readying.{IsReadiedHere}
 
@@ -74,7 +71,7 @@ module _ (labels : List Label) (rooms : Rooms) (old mid new : Stored) (mid_is : 
   -- for a new endpoint
   pub endpoint_readied : (name : List ℕ) (address : Addr) (asked : Change) → IsLabelSet labels → IsAddr address
       → endpoint_fault name labels address old.state.endpoints ≡ None → is_exhausted labels old.state.identities ≡ false → 0 < rooms.endpoints
-      → asked ≡ change.Endpoint (record (new_endpoint old.state name labels address) { identity = number }) name
+      → asked ≡ change.Endpoint (with_identity number (new_endpoint mid.state name labels address)) name
       → IsReadiedHere (AddEndpoint name labels address) old new (record { plan = plan; change = asked })
   endpoint_readied name address asked set within none room place its = record {
     valid = (set, within);
@@ -84,7 +81,9 @@ module _ (labels : List Label) (rooms : Rooms) (old mid new : Stored) (mid_is : 
     refs = held_refs (peers_of old.state.policies);
     exact = held_exact old.state.identities;
     plan = held_plan;
-    change = its ∙ ap (λ n. change.Endpoint (record (new_endpoint old.state name labels address) { identity = n }) name) held_number;
+    change = its
+        ∙ ap (λ (s : State). change.Endpoint (with_identity number (new_endpoint s name labels address)) name) state_at
+        ∙ ap (λ n. change.Endpoint (with_identity n (new_endpoint old.state name labels address)) name) held_number;
     room = subst (λ (r : Rooms). 0 < r.endpoints) (sym held_rooms) place;
   }
 
@@ -108,72 +107,3 @@ module _ (labels : List Label) (rooms : Rooms) (old mid new : Stored) (mid_is : 
           → fault_if (has_reserved labels) fault.ReservedLabel (fault_if (is_some o) fault.DuplicateIdentityName (fault_if (is_exhausted labels old.state.identities) fault.IdentitiesExhausted None)) ≡ None
       by None is = λ i. fault_if (allowed i) fault.ReservedLabel (fault_if (room i) fault.IdentitiesExhausted None)
       by (Some identity) is = absurd cc
-
--- a plan alone was made
-module _ (old new : Stored) (plan : Plan) (new_is : new ≡ with_numbers (with_log_room new.cache.log.spare (numbers_of old)) old) where
-  planned_live : new.cache.live ≡ old.cache.live
-  planned_live = ap (λ (stored : Stored). stored.cache.live) new_is
-
-  pub planned_state : new.state ≡ old.state
-  planned_state = ap (λ (stored : Stored). stored.state) new_is
-
-  pub planned_refs : (peers : List Peer) → RefsOf peers old.cache.live → RefsOf peers new.cache.live
-  planned_refs peers refs = subst (λ (live : List Live). RefsOf peers live) (sym planned_live) refs
-
-  pub planned_exact : (rows : List IdentityRow) → AreExact rows old.cache.live → AreExact rows new.cache.live
-  planned_exact rows exact = subst (λ (live : List Live). AreExact rows live) (sym planned_live) exact
-
-  -- where an endpoint goes
-  pub no_endpoint_readied : (name : List ℕ) (number : ℕ) (asked : Change) → Some number ≡ option_map (λ (endpoint : Endpoint). endpoint.identity) (endpoint_of name old.state.endpoints)
-      → Readies (old.state.revision + 1) (released number old.state.identities) new.cache plan → asked ≡ change.NoEndpoint name number
-      → IsReadiedHere (RemoveEndpoint name) old new (record { plan = plan; change = asked })
-  no_endpoint_readied name number asked found readies its = record {
-    valid = tt;
-    no_fault = by (endpoint_of name old.state.endpoints) found;
-    short = tt;
-    state = planned_state;
-    refs = planned_refs (peers_of old.state.policies);
-    exact = planned_exact old.state.identities;
-    plan = subst (λ (o : Option ℕ). Readies (old.state.revision + 1) (number_released o old.state.identities) new.cache plan) found readies;
-    change = its ∙ ap (λ (o : Option ℕ). change.NoEndpoint name (or_none o)) found;
-    room = tt;
-  }
-    where
-      by : (o : Option Endpoint) → Some number ≡ option_map (λ (endpoint : Endpoint). endpoint.identity) o → fault_if (is_none o) fault.UnknownEndpoint None ≡ None
-      by None is = absurd cc
-      by (Some endpoint) is = refl
-
-  -- where a named identity goes
-  pub no_identity_readied : (name : List ℕ) (number : ℕ) (asked : Change) → Some number ≡ number_named name old.state.named
-      → Readies (old.state.revision + 1) (released number old.state.identities) new.cache plan → asked ≡ change.NotNamed name number
-      → IsReadiedHere (RemoveIdentity name) old new (record { plan = plan; change = asked })
-  no_identity_readied name number asked found readies its = record {
-    valid = tt;
-    no_fault = by (named_of name old.state.named) found;
-    short = tt;
-    state = planned_state;
-    refs = planned_refs (peers_of old.state.policies);
-    exact = planned_exact old.state.identities;
-    plan = subst (λ (o : Option ℕ). Readies (old.state.revision + 1) (number_released o old.state.identities) new.cache plan) found readies;
-    change = its ∙ ap (λ (o : Option ℕ). change.NotNamed name (or_none o)) found;
-    room = tt;
-  }
-    where
-      by : (o : Option NamedIdentity) → Some number ≡ option_map (λ (identity : NamedIdentity). identity.number) o → fault_if (is_none o) fault.UnknownIdentityName None ≡ None
-      by None is = absurd cc
-      by (Some identity) is = refl
-
-  -- where the mode changes
-  pub mode_readied : (mode : Mode) (asked : Change) → Readies (old.state.revision + 1) old.state.identities new.cache plan → asked ≡ change.Mode mode
-      → IsReadiedHere (SetMode mode) old new (record { plan = plan; change = asked })
-  mode_readied mode asked readies its = record {
-    valid = tt;
-    no_fault = refl;
-    short = tt;
-    state = planned_state;
-    refs = planned_refs (peers_of old.state.policies);
-    exact = planned_exact old.state.identities;
-    plan = readies;
-    change = its;
-    room = tt;
-  }

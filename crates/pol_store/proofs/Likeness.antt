@@ -1,9 +1,8 @@
 -- Rows that are like a state give the same faults, the same changes and the same rows of identities.
-use Rattle.std.proofs.Common.{◌≡◌, ℕ, Bool, true, false, List, [], ◌∷◌, ◌++◌, Option, None, Some, option_map, is_some, is_none, refl, sym, ap, ◌∙◌}
+use Rattle.std.proofs.Common.{◌≡◌, Option, None, Some, option_map, is_some, is_none, refl, ap, ◌∙◌}
 use Rattle.pol_model.specs.declared.answer.Fault.TheVariants as fault
 use Rattle.pol_model.specs.declared.request.Request.{Request}
 use Rattle.pol_model.specs.declared.request.Request.TheVariants.{AddEndpoint, RemoveEndpoint, AddIdentity, RemoveIdentity, Apply, Remove, SetMode}
-use Rattle.pol_model.specs.declared.row.IdentityRow.{IdentityRow}
 use Rattle.pol_model.specs.declared.row.NamedIdentity.{NamedIdentity}
 use Rattle.pol_model.specs.State.{State}
 use Rattle.pol_model.specs.After.{after}
@@ -11,8 +10,6 @@ use Rattle.pol_model.specs.Endpoints.{named_of}
 use Rattle.pol_model.specs.Fault.{fault_if, fault_of, has_reserved, is_exhausted}
 use Rattle.pol_model.specs.Identities.{number_released}
 use Rattle.pol_facts.specs.Holding.{rows_taken}
-use Rattle.pol_tables.specs.Tables.{number_named}
-use Rattle.pol_store.specs.declared.readied.Change.{Change}
 use Rattle.pol_store.specs.declared.readied.Change.TheVariants as change
 use Rattle.pol_store.specs.Store.{IsLike}
 use Rattle.pol_store.specs.Readied.{change_for, or_none}

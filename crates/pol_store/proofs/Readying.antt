@@ -1,5 +1,5 @@
 -- What is shown of one set of rows holds for each state that they are like: a request is readied, or it isn't.
-use Rattle.std.proofs.Common.{◌≡◌, ℕ, ◌+◌, ◌<◌, ◌≤◌, List, [], ◌∷◌, ◌++◌, Option, None, Some, Result, Ok, Err, refl, sym, ap, subst, ◌∙◌, arith}
+use Rattle.std.proofs.Common.{◌≡◌, ℕ, ◌+◌, ◌≤◌, List, ◌++◌, None, Some, Ok, Err, sym, ap, subst, ◌∙◌, arith}
 use Rattle.pol_rule.specs.declared.policy.Peer.{Peer}
 use Rattle.pol_model.specs.declared.answer.Fault.{Fault as OneFault}
 use Rattle.pol_model.specs.declared.request.Request.{Request}
@@ -11,17 +11,14 @@ use Rattle.pol_model.specs.After.{after}
 use Rattle.pol_model.specs.Fault.{fault_of}
 use Rattle.pol_model.specs.Sizes.{IsShort}
 use Rattle.pol_facts.specs.Holding.{rows_taken}
-use Rattle.pol_facts.specs.Keeps.{Keeps}
 use Rattle.pol_facts.specs.Valid.{IsValid}
 use Rattle.pol_changes.specs.Log.{newest}
 use Rattle.pol_selcache.specs.Live.{AreExact}
-use Rattle.pol_selcache.specs.Cache.{Cache, with_room}
 use Rattle.pol_tables.specs.Tables.{number_named}
 use Rattle.pol_numbers.specs.Held.{IsSettled as AreSettled, Readies}
 use Rattle.pol_peers.specs.Listed.{listed_peers}
 use Rattle.pol_peers.specs.References.{RefsOf}
 use Rattle.pol_store.specs.declared.readied.Readied.{Readied}
-use Rattle.pol_store.specs.declared.error.ReadyError.{ReadyError}
 use Rattle.pol_store.specs.declared.error.ReadyError.TheVariants.{Fault, Memory}
 use Rattle.pol_store.specs.Parts.{numbers_of}
 use Rattle.pol_store.specs.Store.{IsLike, IsSettled, Rooms, StandsFor, Stored, peers_of, with_rooms}
@@ -109,10 +106,6 @@ refused request old new fault same is s keeps stands =
 
 pub without_memory : (request : Request) (old new : Stored) → IsAsBefore old new → ReadiesOrNot request old new (Err Memory)
 without_memory request old new same s keeps stands = (tt, stands_as_before s old new same stands, tt)
-
-pub without_memory_as : (request : Request) (old new : Stored) (error : ReadyError) → error ≡ Memory → IsAsBefore old new → ReadiesOrNot request old new (Err error)
-without_memory_as request old new error is same =
-    subst (λ (e : ReadyError). ReadiesOrNot request old new (Err e)) (sym is) (without_memory request old new same)
 
 -- a call that failed left it so
 pub same_before : (old new : Stored) → new ≡ old → IsAsBefore old new

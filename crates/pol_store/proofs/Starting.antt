@@ -1,11 +1,7 @@
 -- A new store stands for the first state.
-use Rattle.std.proofs.Common.{◌≡◌, ℕ, ◌≤◌, List, [], refl, sym, ap, subst, ◌∙◌, arith}
+use Rattle.std.proofs.Common.{◌≡◌, ◌≤◌, [], refl, sym, ap, subst, ◌∙◌, arith}
 use Rattle.pol_model.specs.declared.options.Options.{Options}
-use Rattle.pol_model.specs.declared.row.NamedIdentity.{NamedIdentity}
-use Rattle.pol_model.specs.declared.row.Stamped.{Stamped}
-use Rattle.pol_model.specs.declared.row.Endpoint.{Endpoint}
 use Rattle.pol_model.specs.After.{start}
-use Rattle.pol_model.specs.State.{State}
 use Rattle.pol_changes.specs.Log.{newest}
 use Rattle.pol_selcache.specs.Cache.{Cache}
 use Rattle.pol_selcache.specs.Live.{AreExact}

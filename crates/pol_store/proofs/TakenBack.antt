@@ -1,9 +1,7 @@
 -- What was readied is taken back, change by change.
-use Rattle.std.proofs.Common.{◌≡◌, ℕ, ◌+◌, ◌≤◌, ◌&&◌, not, Bool, true, false, List, [], ◌∷◌, ◌++◌, refl, sym, ap, subst, ◌∙◌, arith}
-use Rattle.std.proofs.lemmas.Bool.{both_ways}
+use Rattle.std.proofs.Common.{◌≡◌, ℕ, ◌+◌, ◌≤◌, ◌&&◌, not, true, false, List, refl, sym, ap, subst, ◌∙◌, arith}
 use Rattle.pol_addr.specs.declared.network.Prefix.{Prefix}
 use Rattle.pol_labels.specs.declared.label.Label.{Label}
-use Rattle.pol_rule.specs.declared.policy.Policy.{Policy}
 use Rattle.pol_rule.specs.declared.policy.PolicyKey.{PolicyKey}
 use Rattle.pol_rule.specs.Prefixes.{policy_prefixes}
 use Rattle.pol_model.specs.declared.request.Request.{Request}
@@ -17,14 +15,13 @@ use Rattle.pol_model.specs.Identities.{is_local, number_for, released}
 use Rattle.pol_facts.specs.Holding.{has_row}
 use Rattle.pol_facts.specs.Keeps.{Keeps}
 use Rattle.pol_peers.specs.Listed.{listed_peers}
-use Rattle.pol_peers.specs.References.{HasRefs, RefsOf, references_of, times_in}
+use Rattle.pol_peers.specs.References.{HasRefs, references_of, times_in}
 use Rattle.pol_peers.proofs.Counts.{times_append}
-use Rattle.pol_store.specs.declared.readied.Change.{Change}
 use Rattle.pol_store.specs.declared.readied.Change.TheVariants as change
 use Rattle.pol_store.specs.declared.readied.Readied.{Readied}
 use Rattle.pol_store.specs.Parts.{numbers_of, with_numbers}
 use Rattle.pol_store.specs.Store.{StandsFor, Stored, peers_of}
-use Rattle.pol_store.specs.Readied.{CanBeDone, IsReadied, TakesBack, change_for}
+use Rattle.pol_store.specs.Readied.{CanBeDone, IsReadied, TakesBack}
 use Rattle.pol_store.proofs.ChangeParts.{differ, endpoint_of_change, number_of_change, policy_of_change, taken_of_change}
 use Rattle.pol_store.proofs.Faults.{may_be_added, may_be_named}
 use Rattle.pol_store.proofs.UnderWay.{back_with, like_before, may_give_back}
@@ -141,22 +138,3 @@ policy_back stamped key taken given_up old new readied its back s (AddIdentity n
 policy_back stamped key taken given_up old new readied its back s (RemoveIdentity n) keeps ready = absurd (differ _ _ (sym its ∙ ready.change) refl)
 policy_back stamped key taken given_up old new readied its back s (Remove own) keeps ready = absurd (differ _ _ (sym its ∙ ready.change) refl)
 policy_back stamped key taken given_up old new readied its back s (SetMode mode) keeps ready = absurd (differ _ _ (sym its ∙ ready.change) refl)
-
--- ---- the others took nothing
-abbrev pub takes_nothing : Change → Bool
-takes_nothing (change.Endpoint endpoint name) = false
-takes_nothing (change.NoEndpoint name number) = true
-takes_nothing (change.Named name number) = false
-takes_nothing (change.NotNamed name number) = true
-takes_nothing (change.Policy stamped key taken given_up) = false
-takes_nothing (change.NoPolicy key given_up) = true
-takes_nothing (change.Mode mode) = true
-
-pub nothing_back : (old : Stored) (readied : Readied) → takes_nothing readied.change ≡ true → TakesBack old readied old
-nothing_back old readied none s (RemoveEndpoint n) keeps ready = back_with s (RemoveEndpoint n) old readied ready old refl refl ready.like
-nothing_back old readied none s (RemoveIdentity n) keeps ready = back_with s (RemoveIdentity n) old readied ready old refl refl ready.like
-nothing_back old readied none s (Remove key) keeps ready = back_with s (Remove key) old readied ready old refl refl ready.like
-nothing_back old readied none s (SetMode mode) keeps ready = back_with s (SetMode mode) old readied ready old refl refl ready.like
-nothing_back old readied none s (AddEndpoint n labels address) keeps ready = absurd (both_ways (takes_nothing readied.change) (ap takes_nothing ready.change) none)
-nothing_back old readied none s (AddIdentity n labels) keeps ready = absurd (both_ways (takes_nothing readied.change) (ap takes_nothing ready.change) none)
-nothing_back old readied none s (Apply policy) keeps ready = absurd (both_ways (takes_nothing readied.change) (ap takes_nothing ready.change) none)

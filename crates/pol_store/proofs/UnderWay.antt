@@ -1,33 +1,27 @@
 -- What was readied is begun, or taken back.
-use Rattle.std.proofs.Common.{◌≡◌, ℕ, ◌+◌, ◌<◌, ◌≤◌, ◌&&◌, not, true, false, if◌then◌else◌, List, [], ◌∷◌, ◌++◌, find, Option, None, Some, refl, sym, ap, subst, ◌∙◌, arith}
-use Rattle.std.specs.List.{AllByRecursion}
+use Rattle.std.proofs.Common.{◌≡◌, ℕ, ◌+◌, ◌≤◌, ◌&&◌, not, true, false, if◌then◌else◌, List, [], ◌∷◌, find, Some, refl, sym, ap, subst, ◌∙◌, arith}
 use Rattle.std.specs.Option.{option_map_or}
 use Rattle.pol_rule.specs.contracts.policy.PeerPartialEq.TheImpl as peers
 use Rattle.pol_rule.specs.declared.policy.Peer.{Peer}
-use Rattle.pol_rule.specs.Prefixes.{policy_prefixes}
 use Rattle.pol_labels.specs.declared.label.Label.{Label}
 use Rattle.pol_labels.specs.Order.{IsLabelSet}
 use Rattle.pol_model.specs.declared.request.Request.{Request}
-use Rattle.pol_model.specs.declared.request.Request.TheVariants.{AddEndpoint, RemoveEndpoint, AddIdentity, RemoveIdentity, Apply, Remove, SetMode}
-use Rattle.pol_model.specs.declared.row.Endpoint.{Endpoint}
 use Rattle.pol_model.specs.declared.row.IdentityRow.{IdentityRow}
 use Rattle.pol_model.specs.State.{State}
 use Rattle.pol_model.specs.After.{after}
 use Rattle.pol_model.specs.Fault.{has_reserved, is_exhausted, is_init}
 use Rattle.pol_model.specs.Identities.{is_local, labels_held, number_for, released}
-use Rattle.pol_facts.specs.Holding.{has_row, rows_taken}
+use Rattle.pol_facts.specs.Holding.{has_row}
 use Rattle.pol_facts.specs.Keeps.{Keeps}
 use Rattle.pol_facts.proofs.HoldingLaws.{held_has}
 use Rattle.pol_facts.proofs.RowLaws.{labels_undone}
 use Rattle.pol_changes.specs.Log.{newest}
-use Rattle.pol_selcache.specs.Cache.{Cache, carried}
+use Rattle.pol_selcache.specs.Cache.{Cache}
 use Rattle.pol_selcache.specs.Live.{AreExact, Live}
-use Rattle.pol_selcache.specs.Plan.{Plan, Planned, after_changes, changed}
+use Rattle.pol_selcache.specs.Plan.{Planned, after_changes, changed}
 use Rattle.pol_tables.specs.Tables.{number_named}
 use Rattle.pol_numbers.proofs.Coming.{number_not_local}
 use Rattle.pol_peers.specs.References.{RefsOf, references_of}
-use Rattle.pol_store.specs.declared.readied.Change.{Change}
-use Rattle.pol_store.specs.declared.readied.Change.TheVariants as change
 use Rattle.pol_store.specs.declared.readied.Readied.{Readied}
 use Rattle.pol_store.specs.Parts.{begun, numbers_of, with_numbers}
 use Rattle.pol_store.specs.Store.{IsLike, StandsFor, Stored, peers_of}

@@ -5,7 +5,6 @@ use Rattle.pol_rule.specs.declared.policy.Peer.{Peer}
 use Rattle.pol_rule.specs.Prefixes.{policy_prefixes}
 use Rattle.pol_model.specs.declared.request.Request.{Request}
 use Rattle.pol_model.specs.declared.request.Request.TheVariants.{AddEndpoint, RemoveEndpoint, AddIdentity, RemoveIdentity, Apply, Remove, SetMode}
-use Rattle.pol_model.specs.declared.row.Stamped.{Stamped}
 use Rattle.pol_model.specs.State.{State}
 use Rattle.pol_model.specs.After.{after, new_endpoint}
 use Rattle.pol_model.specs.Fault.{fault_of}

@@ -1,4 +1,4 @@
-use Rattle.std.proofs.Common.{◌≡◌, ℕ, List, None, is_some, true, false, sym, ap, ◌∙◌}
+use Rattle.std.proofs.Common.{◌≡◌, ℕ, List, None, is_some, false, sym, ap, ◌∙◌}
 use Rattle.std.proofs.lemmas.Bool.{false_from_ne_true}
 use Rattle.pol_model.specs.Fault.{has_reserved, is_exhausted}
 use Rattle.pol_model.specs.declared.request.Request.TheVariants.{AddIdentity}

@@ -1,4 +1,4 @@
-use Rattle.std.proofs.Common.{◌≡◌, List, ℕ, true, ap, subst, ◌∙◌}
+use Rattle.std.proofs.Common.{List, ℕ, ap, subst, ◌∙◌}
 use Rattle.pol_model.specs.Endpoints.{without_named}
 use Rattle.pol_facts.specs.Holding.{has_row}
 use Rattle.pol_tables.specs.Tables.{SameNumbers}

@@ -4,7 +4,7 @@ use Rattle.pol_model.specs.declared.options.Options.{Options}
 use Rattle.pol_repo.specs.Repository.{state_in}
 use Rattle.pol_run.specs.Serial.{answer_in}
 use Rattle.pol_run.proofs.SerialRuns.{one_more_played}
-use Rattle.policyd.proofs.serial.answers_in_order.Goals as goal
+use Rattle.policyd.proofs.serial.answers_over.Goals as goal
 
 pub loop-reading-preserved : goal.loop-reading-preserved
 loop-reading-preserved c =
@@ -12,7 +12,7 @@ loop-reading-preserved c =
     record {
       options = c.in_ok-answer_line.ensures.options ∙ run.options;
       idle = c.in_ok-answer_line.ensures.idle;
-      played = one_more_played c.args.options (start c.args.options) (state_in c.loop-reading.repo) (state_in c.answer_line.new.repo)
+      played = one_more_played c.args.repo.now.options (start c.args.repo.now.options) (state_in c.loop-reading.repo) (state_in c.answer_line.new.repo)
           c.loop-reading.yielded c.in-Some.reading c.loop-reading.phase c.next_phase-next.result
           c.loop-reading.answers.items c.push.new.self.items c.in_ok-answer_line.field-0
           run.played
