@@ -5,6 +5,7 @@
 //! identity 0.
 #![tactic(auto)]
 
+mod hints;
 mod key_set;
 pub mod laws;
 mod node;
