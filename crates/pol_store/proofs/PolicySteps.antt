@@ -1,5 +1,5 @@
 -- A policy's request, step by step: what is readied, and what is given back where it isn't.
-use Rattle.std.proofs.Common.{◌≡◌, ℕ, ◌+◌, ◌<◌, ◌≤◌, Bool, true, false, List, [], ◌++◌, nat_lt, Option, None, Some, Result, Err, refl, sym, ap, subst, ◌∙◌, arith}
+use Rattle.std.proofs.Common.{◌≡◌, ℕ, ◌+◌, ◌<◌, ◌≤◌, Bool, true, false, List, ◌++◌, nat_lt, Option, None, Some, Result, Err, refl, sym, ap, subst, ◌∙◌, arith}
 use Rattle.std.specs.List.{AllByRecursion, IsDistinct}
 use Rattle.std.proofs.lemmas.Bool.{lt-ltb, ltb-true}
 use Rattle.pol_addr.specs.Cidr.{IsPrefix}
@@ -35,16 +35,15 @@ use Rattle.pol_selcache.specs.Plan.{Plan}
 use Rattle.pol_peers.specs.Listed.{listed_peers}
 use Rattle.pol_peers.specs.References.{HasRefs, IsMoreBy, RefsOf}
 use Rattle.pol_peers.proofs.Counts.{has_more, refs_held, undone}
-use Rattle.pol_numbers.specs.Held.{AreApart, IsSettled as AreSettled, Readies, RefersTo}
+use Rattle.pol_numbers.specs.Held.{AreApart, Readies, RefersTo}
 use Rattle.pol_numbers.proofs.Apart.{apart_where_held}
 use Rattle.pol_store.specs.declared.readied.Change.TheVariants as change
 use Rattle.pol_store.specs.declared.error.ReadyError.TheVariants.{Fault, Memory}
-use Rattle.pol_store.specs.Parts.{numbers_of}
 use Rattle.pol_store.specs.PolicyParts.{policy_error, with_cache, with_rows}
 use Rattle.pol_store.specs.Readied.{ReadiesOrNot}
 use Rattle.pol_store.specs.Store.{IsLike, IsSettled, StandsFor, Stored, peers_of, with_rooms}
 use Rattle.pol_store.proofs.Likeness.{like_fault}
-use Rattle.pol_store.proofs.Readying.{IsReadiedHere, settled_numbers}
+use Rattle.pol_store.proofs.Readying.{IsReadiedHere}
 
 -- The policy's peers have references and there is room for it; else all is as before.
 pub record RefersHere (policy : Policy) (old new : Stored) : Type 0 where
@@ -86,28 +85,7 @@ still_refused : (policy : Policy) (old new : Stored) (fault : OneFault) → IsSt
 still_refused policy old new fault still is s keeps stands =
     (tt, stands_still s old new still stands, sym (like_fault s old.state stands.like (Apply policy)) ∙ is)
 
--- where there is no room for the references, each peer has as many as before
-pub not_referred : (old reserved referred : Stored) → reserved ≡ with_rooms reserved.rooms old → referred ≡ with_cache referred.cache reserved
-    → RefersTo [] reserved.state.identities reserved.cache referred.cache → IsStill old referred
-not_referred old reserved referred same same_too refers = record {
-  state = ap (λ (t : Stored). t.state) same_too ∙ ap (λ (t : Stored). t.state) same;
-  refs = λ peers refs p.
-      let more = refers.more p in
-      let was = subst (λ (t : Stored). RefsOf peers t.cache.live) (sym same) refs p in
-      omega (arith, more, was);
-  exact = subst (λ (t : Stored). AreExact t.state.identities referred.cache.live) same refers.exact;
-  newest = refers.unchanged ∙ ap (λ (t : Stored). newest t.cache.log) same;
-}
-
 -- ---- what holding the prefixes asks
-pub referred_settled : (policy : Policy) (old referred : Stored) → IsSettled old → RefersHere policy old referred → AreSettled (referred.state.revision + 1) (numbers_of referred)
-referred_settled policy old referred settled refers =
-    let was = settled_numbers old settled in
-    record {
-      newer = subst (λ (t : State). newest referred.cache.log < t.revision + 1) (sym refers.state) (subst (λ (n : ℕ). n < old.state.revision + 1) (sym refers.newest) was.newer);
-      exact = subst (λ (t : State). AreExact t.identities referred.cache.live) (sym refers.state) refers.exact;
-    }
-
 pub once_each : (o : Option Stamped) → IsDistinct same_prefix (prefixes_of o)
 unfolding IsDistinct
 once_each None = tt

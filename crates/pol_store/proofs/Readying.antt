@@ -15,13 +15,12 @@ use Rattle.pol_facts.specs.Valid.{IsValid}
 use Rattle.pol_changes.specs.Log.{newest}
 use Rattle.pol_selcache.specs.Live.{AreExact}
 use Rattle.pol_tables.specs.Tables.{number_named}
-use Rattle.pol_numbers.specs.Held.{IsSettled as AreSettled, Readies}
+use Rattle.pol_numbers.specs.Held.{Readies}
 use Rattle.pol_peers.specs.Listed.{listed_peers}
 use Rattle.pol_peers.specs.References.{RefsOf}
 use Rattle.pol_store.specs.declared.readied.Readied.{Readied}
-use Rattle.pol_store.specs.declared.error.ReadyError.TheVariants.{Fault, Memory}
-use Rattle.pol_store.specs.Parts.{numbers_of}
-use Rattle.pol_store.specs.Store.{IsLike, IsSettled, Rooms, StandsFor, Stored, peers_of, with_rooms}
+use Rattle.pol_store.specs.declared.error.ReadyError.TheVariants.{Fault}
+use Rattle.pol_store.specs.Store.{IsLike, Rooms, StandsFor, Stored, peers_of, with_rooms}
 use Rattle.pol_store.specs.Readied.{HasRoom, IsReadied, ReadiesOrNot, change_for, peers_with}
 use Rattle.pol_store.proofs.Likeness.{like_after, like_change, like_fault, like_taken}
 
@@ -99,13 +98,10 @@ stands_as_before s old new same stands = record {
   newest = let later = same.newest in let before = stands.newest in omega (arith, later, before);
 }
 
--- it isn't readied for its fault, and for want of memory
+-- it isn't readied for its fault
 pub refused : (request : Request) (old new : Stored) (fault : OneFault) → IsAsBefore old new → fault_of old.state request ≡ Some fault → ReadiesOrNot request old new (Err (Fault fault))
 refused request old new fault same is s keeps stands =
     (tt, stands_as_before s old new same stands, sym (like_fault s old.state stands.like request) ∙ is)
-
-pub without_memory : (request : Request) (old new : Stored) → IsAsBefore old new → ReadiesOrNot request old new (Err Memory)
-without_memory request old new same s keeps stands = (tt, stands_as_before s old new same stands, tt)
 
 -- a call that failed left it so
 pub same_before : (old new : Stored) → new ≡ old → IsAsBefore old new
@@ -119,14 +115,3 @@ before_both old mid new first second = record {
   exact = λ rows exact. second.exact rows (first.exact rows exact);
   newest = let one = first.newest in let other = second.newest in omega (arith, one, other);
 }
-
--- what a store that is settled has of its rows
-pub settled_numbers : (stored : Stored) → IsSettled stored → AreSettled (stored.state.revision + 1) (numbers_of stored)
-settled_numbers stored settled =
-    let stands = settled.stands in
-    let at = stands.like.revision in
-    let before = stands.newest in
-    record {
-      newer = omega (arith, at, before);
-      exact = subst (λ (rows : List IdentityRow). AreExact rows stored.cache.live) (sym stands.like.identities) stands.exact;
-    }

@@ -66,6 +66,7 @@ impl Store {
         }) }
         ensures within { IsAddr address }
     {
+        // The call tells that the address is within 32 bits.
         let _bits = address.bits();
         Ok(Endpoint {
             name: name.copy(self.alloc)?,

@@ -73,6 +73,7 @@ impl Store {
         ensures ordered { IsLabelSet labels.now }
         ensures cost { steps.new ≤ steps.old + label_selectors self.old.cache.live }
     {
+        // The call tells that the labels are a label set.
         let _ordered = labels.as_slice();
         self.numbers.hold_labels(self.revision + 1, labels, steps)
     }

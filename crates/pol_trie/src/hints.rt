@@ -3,7 +3,7 @@ ghost use Rattle.std.specs.Prelude.{◌≡◌, Some, IfSome, option_copied};
 ghost use Rattle.std.specs.Map.{lookup};
 
 use crate::key_set::KeySet;
-use crate::root::{Root, last_root};
+use crate::root::Root;
 use indexmap::IndexMap;
 use pol_data::Memory;
 use pol_ports::Direction;
@@ -99,10 +99,15 @@ impl Hints {
         }
     }
 
-    /// Notes where the keys that stood last stand now, where others stand last. It takes no memory.
-    pub(crate) fn moved(&mut self, roots: &IndexMap<Root, KeySet>, last: Option<Root>) {
+    /// Notes where the keys that stood last stand now, where the table had more before. It takes no memory.
+    pub(crate) fn shrunk(
+        &mut self,
+        roots: &IndexMap<Root, KeySet>,
+        before: usize,
+        last: Option<Root>,
+    ) {
         match last {
-            Some(root) if last_root(roots) != last => self.note(roots, root),
+            Some(root) if roots.len() < before => self.note(roots, root),
             _ => {}
         }
     }

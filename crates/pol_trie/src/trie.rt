@@ -97,9 +97,10 @@ impl PolicyTrie {
         ensures there { result ≡ map.contains_key self.old key.now }
         ensures rest { self.new ≡ map.remove self.old key.now }
     {
+        let before = self.roots.len();
         let last = last_root(&self.roots);
         let there = clear_row(&mut self.roots, &mut self.zeros, key);
-        self.hints.moved(&self.roots, last);
+        self.hints.shrunk(&self.roots, before, last);
         if there {
             self.count -= 1;
         }
