@@ -72,6 +72,12 @@ some_readied : {X Y : Type 0} (f : X → Y) (o : Option X) (y : Y) → option_ma
 some_readied f None y some = absurd cc
 some_readied f (Some x) y some = (x, refl, cc)
 
+-- before the first request
+pub starts : (options : Options) (journal : List Request) (len capacity : ℕ) (stored : Stored) → journal ≡ [] → StandsFor (start options) stored → IsSound options journal len capacity stored None
+starts options journal len capacity stored none stands =
+    subst (λ (requests : List Request). IsSound options requests len capacity stored None) (sym none)
+    (record { without_faults = tt; inside = stands })
+
 module _ (options : Options) (journal : List Request) (len capacity : ℕ) (stored : Stored) where
   revision_of : (readied : Option Readied) → IsSound options journal len capacity stored readied → stored.state.revision ≡ (state_of options journal).revision
   revision_of None sound = sound.inside.like.revision
