@@ -1,3 +1,4 @@
+pub mod Apart
 pub mod Carried
 pub mod Coming
 pub mod Going

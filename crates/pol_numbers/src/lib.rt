@@ -7,6 +7,7 @@
 #![tactic(auto)]
 
 mod hold;
+pub mod laws;
 mod moves;
 mod numbers;
 mod peers;

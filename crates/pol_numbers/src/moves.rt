@@ -1,6 +1,7 @@
 //! Prefixes, taken and given up.
 ghost use Rattle.std.specs.Prelude.{◌≡◌, ◌<◌, ◌+◌, ◌↔◌, true, IfOk, OnOk, OnErr, IsErrOf};
 ghost use Rattle.std.specs.List.{AllByRecursion, IsDistinct};
+ghost use Rattle.pol_addr.specs.Cidr.{IsPrefix};
 ghost use Rattle.pol_addr.specs.Prefix.{same_prefix};
 ghost use Rattle.pol_model.specs.declared.limits.TheConstants.{LOCAL_IDENTITIES as MOST};
 ghost use Rattle.pol_model.specs.Fault.{locals_held, locals_wanted};
@@ -27,6 +28,7 @@ impl Numbers {
         ensures come { IfOk result (λ come. AreBeyond self.old.rows self.new.rows come.items) }
         ensures err { OnErr result (self.new ≡ self.old) }
         ensures exhausted { IsErrOf result IdentError.Exhausted ↔ (MOST < locals_held self.old.rows + locals_wanted self.old.rows prefixes.now) }
+        ensures within { OnOk result (AllByRecursion IsPrefix prefixes.now) }
         ensures sound { KeepsRows self.old.rows }
     {
         let come = hold_prefixes(

@@ -30,11 +30,11 @@ impl Numbers {
         steps: &mut Steps<L>,
     ) -> Result<Plan, IdentError>
         requires settled { IsSettled revision self.old }
-        requires within { AllByRecursion IsPrefix taken.now }
         requires once { IsDistinct same_prefix given_up.now }
         requires apart { AreApart taken.now given_up.now self.old.rows }
         ensures rows { OnOk result (self.new.rows ≡ prefixes_held taken.now self.old.rows) }
         ensures plan { IfOk result (λ plan. Readies revision (prefixes_released given_up.now (prefixes_held taken.now self.old.rows)) self.new.cache plan) }
+        ensures within { OnOk result (AllByRecursion IsPrefix taken.now) }
         ensures sets { self.new.cache ≡ with_room self.new.cache.log.spare self.old.cache }
         ensures err { OnErr result (self.new ≡ self.old) }
         ensures exhausted { IsErrOf result IdentError.Exhausted ↔ (MOST < locals_held self.old.rows + locals_wanted self.old.rows taken.now) }

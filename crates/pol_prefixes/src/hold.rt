@@ -1,6 +1,6 @@
 //! Prefixes held: all of them, or none.
 ghost use Rattle.std.specs.Prelude.{◌≡◌, ◌+◌, ◌++◌, ◌<◌, ◌≤◌, ◌↔◌, nat_lt, [], IfOk, OnOk, OnErr, IsErrOf};
-ghost use Rattle.std.specs.List.{cons_option};
+ghost use Rattle.std.specs.List.{AllByRecursion, cons_option};
 ghost use Rattle.pol_addr.specs.Cidr.{IsPrefix};
 ghost use Rattle.pol_model.specs.declared.limits.TheConstants.{LOCAL_IDENTITIES as MOST};
 ghost use Rattle.pol_model.specs.Fault.{locals_held, locals_wanted};
@@ -85,6 +85,7 @@ fn hold_each(
     ensures come { OnOk result (come.new.items ≡ come.old.items ++ all_coming prefixes.now identities.old) }
     ensures err { OnErr result (identities.new ≡ identities.old) }
     ensures table { IsTableOf identities.new table.new }
+    ensures within { OnOk result (AllByRecursion IsPrefix prefixes.now) }
 {
     for (i, prefix) in prefixes.iter().enumerate() {
         match hold_next(identities, table, *prefix, come) {
@@ -133,6 +134,8 @@ pub fn hold_prefixes(
     ensures rows { OnOk result (identities.new ≡ prefixes_held prefixes.now identities.old) }
     ensures come { IfOk result (λ come. AreBeyond identities.old identities.new come.items) }
     ensures table { IsTableOf identities.new table.new }
+    // The type of a prefix has no bits beyond its length.
+    ensures within { OnOk result (AllByRecursion IsPrefix prefixes.now) }
     ensures err { OnErr result (identities.new ≡ identities.old) }
     ensures same_table { OnErr result (table.new ≡ table.old) }
     ensures exhausted { IsErrOf result IdentError.Exhausted ↔ (MOST < locals_held identities.old + locals_wanted identities.old prefixes.now) }

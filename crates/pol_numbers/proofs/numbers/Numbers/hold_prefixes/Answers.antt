@@ -21,4 +21,4 @@ returns-clause-err g c =
     let room = not_more LOCAL_IDENTITIES (locals_held c.args.self.now.rows + locals_wanted c.args.self.now.rows taken)
     (λ more. let wrong = c.in_ok-come.ensures.exhausted.1 more in absurd cc) in
     c.release_prefixes.ensures.rows ∙ ap back c.in-Err.ensures.err
-    ∙ taken_undone taken c.args.self.now c.take.new.self c.take.ensures.sound c.requires.within room c.in_ok-come.ensures.rows
+    ∙ taken_undone taken c.args.self.now c.take.new.self c.take.ensures.sound c.in_ok-come.ensures.within room c.in_ok-come.ensures.rows

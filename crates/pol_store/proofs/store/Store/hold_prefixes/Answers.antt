@@ -1,0 +1,11 @@
+use Rattle.std.proofs.Common.{◌↔◌, ◌<◌, ◌+◌, IsErrOf, subst}
+use Rattle.pol_model.specs.declared.limits.TheConstants.{LOCAL_IDENTITIES}
+use Rattle.pol_model.specs.Fault.{locals_held, locals_wanted}
+use Rattle.pol_ident.specs.declared.error.IdentError.TheVariants.{Exhausted}
+use Rattle.pol_store.specs.Store.{Stored}
+use Rattle.pol_store.proofs.store.Store.hold_prefixes.Goals as goal
+
+pub returns-clause-exhausted : goal.returns-clause-exhausted
+returns-clause-exhausted g c =
+    subst (λ (t : Stored). IsErrOf c.hold_prefixes.result Exhausted ↔ (LOCAL_IDENTITIES < locals_held t.state.identities + locals_wanted t.state.identities c.args.taken.now))
+    c.self.view_is c.hold_prefixes.ensures.exhausted

@@ -1,0 +1,32 @@
+use Rattle.pol_store.proofs.TakenBack.{endpoint_back, endpoint_may_give_back, name_back, name_may_give_back, policy_back, policy_may_give_back}
+use Rattle.pol_store.proofs.store.Store.take_back.Goals as goal
+
+pub release-requires : goal.release-requires
+release-requires c =
+    let may = endpoint_may_give_back c.in-Endpoint.endpoint c.in-Endpoint.field-1 c.args.self.now c.args.readied c.in-Endpoint.is c.requires.ready in
+    record { held = may.held; not_local = may.not_local }
+
+pub returns-in-Endpoint : goal.returns-in-Endpoint
+returns-in-Endpoint c = record {
+  back = endpoint_back c.in-Endpoint.endpoint c.in-Endpoint.field-1 c.args.self.now c.release.new.self c.args.readied c.in-Endpoint.is c.release.ensures.released;
+}
+
+pub release-requires-in-Named : goal.release-requires-in-Named
+release-requires-in-Named c =
+    let may = name_may_give_back c.in-Named.field-0 c.in-Named.number c.args.self.now c.args.readied c.in-Named.is c.requires.ready in
+    record { held = may.held; not_local = may.not_local }
+
+pub returns-in-Named : goal.returns-in-Named
+returns-in-Named c = record {
+  back = name_back c.in-Named.field-0 c.in-Named.number c.args.self.now c.release-in-Named.new.self c.args.readied c.in-Named.is c.release-in-Named.ensures.released;
+}
+
+pub take_back_policy-requires : goal.take_back_policy-requires
+take_back_policy-requires c = record {
+  referred = policy_may_give_back c.in-Policy.new c.in-Policy.field-1 c.in-Policy.taken c.in-Policy.field-3 c.args.self.now c.args.readied c.in-Policy.is c.requires.ready;
+}
+
+pub returns-in-Policy : goal.returns-in-Policy
+returns-in-Policy c = record {
+  back = policy_back c.in-Policy.new c.in-Policy.field-1 c.in-Policy.taken c.in-Policy.field-3 c.args.self.now c.take_back_policy.new.self c.args.readied c.in-Policy.is c.take_back_policy.ensures.back;
+}

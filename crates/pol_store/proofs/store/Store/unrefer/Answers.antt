@@ -1,0 +1,14 @@
+use Rattle.std.proofs.Common.{sym, subst}
+use Rattle.pol_selcache.specs.Live.{AreExact}
+use Rattle.pol_peers.specs.Listed.{listed_peers}
+use Rattle.pol_peers.specs.References.{HasRefs}
+use Rattle.pol_store.specs.Store.{Stored}
+use Rattle.pol_store.proofs.store.Store.unrefer.Goals as goal
+
+pub unrefer-requires : goal.unrefer-requires
+unrefer-requires c = record {
+  referred = subst (λ (t : Stored). HasRefs (listed_peers c.args.policy.now) t.cache.live) (sym c.self.view_is) c.requires.referred;
+}
+
+pub returns-clause-exact : goal.returns-clause-exact
+returns-clause-exact c = λ rows exact. c.unrefer.ensures.exact rows (subst (λ (t : Stored). AreExact rows t.cache.live) (sym c.self.view_is) exact)

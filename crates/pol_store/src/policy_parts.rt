@@ -1,0 +1,142 @@
+//! The parts of a store, each changed by one call.
+ghost use Rattle.std.specs.Prelude.{◌≡◌, ◌<◌, ◌+◌, ◌-◌, ◌^◌, ◌↔◌, [], IfOk, OnOk, OnErr, IsErrOf, List};
+ghost use Rattle.std.specs.List.{AllByRecursion, IsDistinct};
+ghost use Rattle.pol_addr.specs.Cidr.{IsPrefix};
+ghost use Rattle.pol_addr.specs.Prefix.{same_prefix};
+ghost use Rattle.pol_model.specs.declared.limits.TheConstants.{LOCAL_IDENTITIES as MOST};
+ghost use Rattle.pol_model.specs.declared.row.IdentityRow.{IdentityRow as OneRow};
+ghost use Rattle.pol_model.specs.Fault.{locals_held, locals_wanted};
+ghost use Rattle.pol_model.specs.Policies.{applied, policy_at, removed};
+ghost use Rattle.pol_model.specs.Prefixes.{prefixes_held, prefixes_released};
+ghost use Rattle.pol_model.specs.Sizes.{IsShortPolicy};
+ghost use Rattle.pol_selcache.specs.Cache.{with_room};
+ghost use Rattle.pol_selcache.specs.Live.{AreExact};
+ghost use Rattle.pol_peers.specs.Listed.{listed_peers};
+ghost use Rattle.pol_peers.specs.References.{HasRefs, IsMoreBy};
+ghost use Rattle.pol_numbers.specs.Held.{AreApart, IsSettled as SetsAreSettled, Readies, RefersTo};
+ghost use Rattle.pol_store.specs.Parts.{numbers_of};
+ghost use Rattle.pol_store.specs.PolicyParts.{listed_of, with_cache, with_policies, with_rows};
+ghost use Rattle.pol_store.specs.Store.{with_rooms};
+
+use crate::store::Store;
+use pol_addr::Prefix;
+use pol_data::{Memory, Steps};
+use pol_ident::IdentError;
+use pol_model::Stamped;
+use pol_rule::{Policy, PolicyKey};
+use pol_selcache::Plan;
+use std::sync::ledger::Ledger;
+
+impl Store {
+    /// Room for one policy more. The one error is want of memory.
+    pub(crate) fn reserve_policy(&mut self) -> Result<(), Memory>
+        ensures same { self.new ≡ with_rooms self.new.rooms self.old }
+        ensures room { OnOk result (0 < self.new.rooms.policies) }
+    {
+        self.policies.reserve()
+    }
+
+    /// One reference more for each peer that the policy lists, or for none. The one error is want of memory.
+    pub(crate) fn refer<L: Ledger>(
+        &mut self,
+        policy: &Policy,
+        steps: &mut Steps<L>,
+    ) -> Result<(), Memory>
+        requires exact { AreExact self.old.state.identities self.old.cache.live }
+        ensures same { self.new ≡ with_cache self.new.cache self.old }
+        ensures ok { OnOk result (RefersTo (listed_peers policy.now) self.old.state.identities self.old.cache self.new.cache) }
+        ensures err { OnErr result (RefersTo [] self.old.state.identities self.old.cache self.new.cache) }
+    {
+        self.numbers.refer(policy, steps)
+    }
+
+    /// One reference less for each peer that the policy lists.
+    pub(crate) fn unrefer(&mut self, policy: &Policy)
+        requires referred { HasRefs (listed_peers policy.now) self.old.cache.live }
+        ensures same { self.new ≡ with_cache self.new.cache self.old }
+        ensures peers { IsMoreBy (listed_peers policy.now) self.new.cache.live self.old.cache.live }
+        ensures exact { (rows : List OneRow) → AreExact rows self.old.cache.live → AreExact rows self.new.cache.live }
+        ensures log { self.new.cache.log ≡ self.old.cache.log }
+    {
+        self.numbers.unrefer(policy);
+    }
+
+    /// The same for a policy that was replaced or taken out, if there was one.
+    pub(crate) fn unrefer_old(&mut self, old: Option<Stamped>)
+        requires referred { HasRefs (listed_of old) self.old.cache.live }
+        ensures same { self.new ≡ with_cache self.new.cache self.old }
+        ensures peers { IsMoreBy (listed_of old) self.new.cache.live self.old.cache.live }
+        ensures exact { (rows : List OneRow) → AreExact rows self.old.cache.live → AreExact rows self.new.cache.live }
+        ensures log { self.new.cache.log ≡ self.old.cache.log }
+    {
+        if let Some(stamped) = old {
+            self.unrefer(&stamped.policy);
+        }
+    }
+
+    /// Holds the prefixes of a policy once more, and plans what that changes of the sets at the next revision, where those
+    /// of another policy are released then.
+    pub(crate) fn hold_prefixes<L: Ledger>(
+        &mut self,
+        taken: &[Prefix],
+        given_up: &[Prefix],
+        steps: &mut Steps<L>,
+    ) -> Result<Plan, IdentError>
+        requires room { self.old.state.revision < 2 ^ 64 - 1 }
+        requires settled { SetsAreSettled (self.old.state.revision + 1) (numbers_of self.old) }
+        requires once { IsDistinct same_prefix given_up.now }
+        requires apart { AreApart taken.now given_up.now self.old.state.identities }
+        ensures rows { OnOk result (self.new ≡ with_rows (prefixes_held taken.now self.old.state.identities) (with_cache self.new.cache self.old)) }
+        ensures plan { IfOk result (λ plan. Readies (self.old.state.revision + 1) (prefixes_released given_up.now (prefixes_held taken.now self.old.state.identities)) self.new.cache plan) }
+        ensures sets { self.new.cache ≡ with_room self.new.cache.log.spare self.old.cache }
+        ensures within { OnOk result (AllByRecursion IsPrefix taken.now) }
+        ensures err { OnErr result (self.new ≡ self.old) }
+        ensures exhausted { IsErrOf result IdentError.Exhausted ↔ (MOST < locals_held self.old.state.identities + locals_wanted self.old.state.identities taken.now) }
+    {
+        self.numbers
+            .hold_prefixes(self.revision + 1, taken, given_up, steps)
+    }
+
+    /// What changes of the sets at the next revision where the prefixes of a policy are released. The one error is want of
+    /// memory.
+    pub(crate) fn plan_prefixes<L: Ledger>(
+        &mut self,
+        given_up: &[Prefix],
+        steps: &mut Steps<L>,
+    ) -> Result<Plan, Memory>
+        requires room { self.old.state.revision < 2 ^ 64 - 1 }
+        requires settled { SetsAreSettled (self.old.state.revision + 1) (numbers_of self.old) }
+        requires once { IsDistinct same_prefix given_up.now }
+        ensures plan { IfOk result (λ plan. Readies (self.old.state.revision + 1) (prefixes_released given_up.now self.old.state.identities) self.new.cache plan) }
+        ensures same { self.new ≡ with_cache (with_room self.new.cache.log.spare self.old.cache) self.old }
+    {
+        self.numbers
+            .plan_prefixes(self.revision + 1, given_up, steps)
+    }
+
+    /// Takes one holder away from each of the prefixes. The sets stay as they are.
+    pub(crate) fn release_prefixes(&mut self, prefixes: &[Prefix])
+        ensures rows { self.new ≡ with_rows (prefixes_released prefixes.now self.old.state.identities) self.old }
+    {
+        self.numbers.release_prefixes(prefixes);
+    }
+
+    /// Puts a policy in place of one of the same key, which it gives back, and else last.
+    pub(crate) fn put(&mut self, new: Stamped, key: PolicyKey) -> Option<Stamped>
+        requires room { 0 < self.old.rooms.policies }
+        requires key { key ≡ new.policy.key }
+        requires short { IsShortPolicy new.policy }
+        ensures same { self.new ≡ with_rooms self.new.rooms (with_policies (applied new self.old.state.policies) self.old) }
+        ensures replaced { result ≡ policy_at new.policy.key self.old.state.policies }
+    {
+        self.policies.put(new, key)
+    }
+
+    /// Takes out the policy of that key, and gives it back.
+    pub(crate) fn take_out(&mut self, key: &PolicyKey) -> Option<Stamped>
+        ensures same { self.new ≡ with_rooms self.new.rooms (with_policies (removed key.now self.old.state.policies) self.old) }
+        ensures removed { result ≡ policy_at key.now self.old.state.policies }
+    {
+        self.policies.remove(key)
+    }
+}

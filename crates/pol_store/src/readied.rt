@@ -1,0 +1,35 @@
+//! What a request that is readied has taken, and what it will do.
+
+use pol_data::Text;
+use pol_model::{Endpoint, Mode, Stamped};
+use pol_rule::{PolicyKey, Prefixes};
+use pol_selcache::Plan;
+
+/// What a readied request does to the tables.
+#[derive(Drop)]
+pub enum Change {
+    /// The endpoint, whose number is held, is placed; the text is its name, for the index.
+    Endpoint(Endpoint, Text),
+    /// The endpoint of that name goes, and one holder of this number with it.
+    NoEndpoint(Text, u32),
+    /// The name holds the number, which is held.
+    Named(Text, u32),
+    /// The name goes, and one holder of this number with it.
+    NotNamed(Text, u32),
+    /// The policy is placed, in place of one of the same key if there is one: the policy, its key for the index, the
+    /// prefixes that it holds, and those of the one that it replaces.
+    Policy(Stamped, PolicyKey, Prefixes, Prefixes),
+    /// The policy of that key goes, and its prefixes with it.
+    NoPolicy(PolicyKey, Prefixes),
+    /// The mode from now on.
+    Mode(Mode),
+}
+
+/// What a readied request will do.
+#[derive(Drop)]
+pub struct Readied {
+    /// What changes of the sets of the selectors.
+    pub plan: Plan,
+    /// What changes of the tables.
+    pub change: Change,
+}

@@ -1,0 +1,105 @@
+//! The rows of the state under their indexes.
+ghost use Rattle.std.specs.Prelude.{◌≡◌, IfOk};
+ghost use Rattle.std.specs.List.{AllByRecursion};
+ghost use Rattle.pol_model.specs.declared.options.Options.{Options as AllOptions};
+ghost use Rattle.pol_model.specs.After.{start};
+ghost use Rattle.pol_model.specs.Sizes.{IsShortPolicy};
+ghost use Rattle.pol_store.specs.Store.{StandsFor};
+
+use pol_data::Memory;
+use pol_ident::Identities;
+use pol_model::{Endpoint, Mode, Stamped};
+use pol_numbers::Numbers;
+use pol_tables::{Endpoints, Named, Policies};
+use std::alloc::Global;
+use std::marker::Model;
+
+/// The state of the policy core under its indexes, with the sets of the selectors that its policies list. Contracts see
+/// the rows and the selectors (`specs/Store`).
+#[derive(Drop)]
+pub struct Store {
+    pub(crate) alloc: Global,
+    pub(crate) revision: u64,
+    pub(crate) mode: Mode,
+    pub(crate) endpoints: Endpoints,
+    pub(crate) named: Named,
+    pub(crate) policies: Policies,
+    pub(crate) numbers: Numbers,
+}
+
+impl Model for Store {
+    ghost use Rattle.pol_store.specs.Store.{Stored};
+
+    ghost Value = { Stored };
+
+    ghost use Rattle.std.specs.List.{AllByRecursion};
+    ghost use Rattle.pol_model.specs.Sizes.{IsShortPolicy};
+
+    ghost view = { λ store. record {
+      state = record {
+        revision = store.revision;
+        mode = store.mode;
+        identities = store.numbers.rows;
+        named = store.named.list;
+        policies = store.policies.list;
+        endpoints = store.endpoints.list;
+      };
+      cache = store.numbers.cache;
+      rooms = record { endpoints = store.endpoints.room; named = store.named.room; policies = store.policies.room };
+    } };
+
+    ghost invariant = { λ store. AllByRecursion (λ stamped. IsShortPolicy stamped.policy) store.policies.list };
+}
+
+impl Store {
+    /// The state before the first request, in this mode. The one error is want of memory.
+    pub fn new(alloc: Global, mode: Mode) -> Result<Store, Memory>
+        ensures start { IfOk result (λ store. (options : AllOptions) → options.mode ≡ mode → StandsFor (start options) store) }
+    {
+        Ok(Store {
+            alloc,
+            revision: 0,
+            mode,
+            endpoints: Endpoints::new(alloc),
+            named: Named::new(alloc),
+            policies: Policies::new(alloc),
+            numbers: Numbers::new(alloc)?,
+        })
+    }
+
+    /// How many requests were done so far.
+    pub fn revision(&self) -> u64
+        ensures revision { result ≡ self.now.state.revision }
+    {
+        self.revision
+    }
+
+    /// The mode of enforcement.
+    pub fn mode(&self) -> Mode
+        ensures mode { result ≡ self.now.state.mode }
+    {
+        self.mode
+    }
+
+    /// The live endpoints, ascending by slot.
+    pub fn endpoints(&self) -> &[Endpoint]
+        ensures list { result.now ≡ self.now.state.endpoints }
+    {
+        self.endpoints.as_slice()
+    }
+
+    /// The policies in force, in their order.
+    pub fn policies(&self) -> &[Stamped]
+        ensures list { result.now ≡ self.now.state.policies }
+        ensures short { AllByRecursion (λ stamped. IsShortPolicy stamped.policy) self.now.state.policies }
+    {
+        self.policies.as_slice()
+    }
+
+    /// The identities that are held.
+    pub fn identities(&self) -> &Identities
+        ensures rows { result.now ≡ self.now.state.identities }
+    {
+        self.numbers.identities()
+    }
+}
