@@ -2,7 +2,7 @@
 use Rattle.std.proofs.Common.{zero, suc, ◌≡◌, ◌≢◌, ℕ, ◌+◌, ◌-◌, ◌%◌, ◌^◌, ◌<◌, ◌≤◌, Option, Some, None, is_some, IsSome, length, inl, inr, refl, sym, ap, ◌∙◌, arith}
 use Rattle.std.proofs.Math.ListN.{get_or-eq_default}
 use Rattle.std.proofs.lemmas.Bool.{cases_lt}
-use Rattle.pol_arena.specs.Pool.{Pool, node_at, nodes_in_use, IsSound}
+use Rattle.pol_arena.specs.Pool.{Pool, node_at, IsSound}
 use Rattle.pol_ports.proofs.Blocks.{prefix_same}
 use Rattle.pol_ports.specs.declared.PortPrefix.{PortPrefix}
 use Rattle.pol_mapkey.specs.declared.Kind.{Kind}

@@ -1,4 +1,4 @@
-use Rattle.std.proofs.Common.{◌≡◌, Bool, false, Option, Some, None, is_some, refl, sym, ◌∙◌}
+use Rattle.std.proofs.Common.{◌≡◌, false, Option, Some, None, is_some, refl, sym, ◌∙◌}
 use Rattle.pol_trie.specs.Roots.{policy_of}
 use Rattle.pol_trie.specs.declared.key_set.KeySet.{KeySet}
 use Rattle.pol_trie.specs.declared.root.Root.{Root}
