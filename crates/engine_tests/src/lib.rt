@@ -1,7 +1,8 @@
 //! Tests of the engines that stand on the model, in one crate, so that each of those is proved once.
 //!
 //! Each call that may find no memory is made once with ample memory, and limits are reached: numbers that run out, a log
-//! that drops its first change, maps of 16,384 entries and of one more. What a contract says is not tested again.
+//! and a selector cache that drop their first change, maps of 16,384 entries and of one more. What a contract says is not
+//! tested again.
 #![tactic(auto)]
 
 #[cfg(test)]

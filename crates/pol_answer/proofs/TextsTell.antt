@@ -3,7 +3,7 @@ use Rattle.std.proofs.Common.{◌≡◌, ℕ, Bool, true, false, cond, not, ◌&
 use Rattle.std.specs.Cmp.Derive.{both_true}
 use Rattle.std.specs.List.{list_all}
 use Rattle.std.proofs.lemmas.Bool.{eqb-true}
-use Rattle.pol_json.specs.Texts.{has_name_length, is_dns_byte, is_dns_name, is_name_byte}
+use Rattle.pol_json.specs.Texts.{has_name_length, is_dns_byte, is_dns_name, is_name, is_name_byte}
 use Rattle.pol_model.specs.declared.answer.FullSlot.{FullSlot}
 use Rattle.pol_rule.specs.declared.policy.Place.{Place}
 use Rattle.pol_script.specs.Lines.{lines_of, ended, newline, is_newline, is_one_line}
@@ -35,21 +35,26 @@ plain_namespace true [] is = refl
 plain_namespace true (byte ∷ text) is = absurd (omega (arith, eqb-true (length (byte ∷ text)) 0 is))
 plain_namespace false text is = plain_dns text is
 
+pub plain_key : (place : Place) → is_applied_key place.key ≡ true → has_plain_key place ≡ true
+plain_key place is =
+    let names = both_parts (is_dns_name place.key.name) (cond place.key.cluster_wide (length place.key.namespace == 0) (is_dns_name place.key.namespace)) is in
+    both_true (plain_namespace place.key.cluster_wide place.key.namespace names.1) (plain_dns place.key.name names.0)
+
 plain_place : (place : Place) → is_read_place place ≡ true → has_plain_key place ≡ true
 plain_place place is =
     let numbers = both_parts (is_applied_key place.key && is_u64 place.rule) (is_u64 place.entry) is in
-    let key = (both_parts (is_applied_key place.key) (is_u64 place.rule) numbers.0).0 in
-    let names = both_parts (is_dns_name place.key.name) (cond place.key.cluster_wide (length place.key.namespace == 0) (is_dns_name place.key.namespace)) key in
-    both_true (plain_namespace place.key.cluster_wide place.key.namespace names.1) (plain_dns place.key.name names.0)
+    plain_key place (both_parts (is_applied_key place.key) (is_u64 place.rule) numbers.0).0
+
+pub plain_name : (slot : FullSlot) → is_name slot.name ≡ true → has_plain_name slot ≡ true
+plain_name slot is = plain_text is_name_byte slot.name refl (both_parts (has_name_length slot.name) (list_all is_name_byte slot.name) is).1
 
 plain_slot : (slot : FullSlot) → is_read_slot slot ≡ true → has_plain_name slot ≡ true
 plain_slot slot is =
-    let numbers = both_parts (has_name_length slot.name && list_all is_name_byte slot.name && is_u64 slot.revision) (is_u64 slot.count) is in
-    let name = (both_parts (has_name_length slot.name && list_all is_name_byte slot.name) (is_u64 slot.revision) numbers.0).0 in
-    plain_text is_name_byte slot.name refl (both_parts (has_name_length slot.name) (list_all is_name_byte slot.name) name).1
+    let numbers = both_parts (is_name slot.name && is_u64 slot.revision) (is_u64 slot.count) is in
+    plain_name slot (both_parts (is_name slot.name) (is_u64 slot.revision) numbers.0).0
 
 -- a weaker test holds of each as well
-all_weaker : {A : Type 0} (one two : A → Bool) → ((x : A) → one x ≡ true → two x ≡ true) → (xs : List A) → list_all one xs ≡ true → list_all two xs ≡ true
+pub all_weaker : {A : Type 0} (one two : A → Bool) → ((x : A) → one x ≡ true → two x ≡ true) → (xs : List A) → list_all one xs ≡ true → list_all two xs ≡ true
 all_weaker one two weaker [] all = refl
 all_weaker one two weaker (x ∷ xs) all =
     let parts = both_parts (one x) (list_all one xs) all in

@@ -7,15 +7,40 @@ ghost use Rattle.pol_distill.specs.Passing.{Rises, begins_with, is_covered, last
 ghost use Rattle.pol_distill.specs.Sorted.{IsSmall};
 
 use pol_data::Memory;
-use pol_mapkey::{Kind, MapKey};
+use pol_mapkey::{KeyProto, Kind, MapKey};
+use pol_ports::Direction;
 use std::alloc::Global;
 
-/// The entries in the order of their keys, with denies last among those of one key.
+/// A number for each protocol of keys, in their order.
+fn proto_place(proto: KeyProto) -> u64 {
+    match proto {
+        KeyProto::Every => 0,
+        KeyProto::Tcp => 1,
+        KeyProto::Udp => 2,
+        KeyProto::Sctp => 3,
+    }
+}
+
+/// A number for each entry. Where one entry comes before another, it has the lower number: by direction, identity, protocol,
+/// first port, length and kind.
+fn place(entry: &(MapKey, Kind)) -> u64 {
+    let key = &entry.0;
+    let root = u64::from(key.dir == Direction::Egress) << 32 | u64::from(key.id);
+    let proto = root << 2 | proto_place(key.proto);
+    let first = proto << 16 | u64::from(key.port.bits);
+    let len = first << 5 | u64::from(key.port.len);
+    len << 1 | u64::from(entry.1 == Kind::Deny)
+}
+
+/// The entries in the order of their keys, with denies last among those of one key. A first sort compares their places, in one
+/// step each; the sort that compares keys field by field then finds them in order already. Where there is no memory
+/// for the first, the second does it all.
 fn in_order(raw: Vec<(MapKey, Kind)>) -> Vec<(MapKey, Kind)>
     ensures same { IsPermutation raw.items result.items }
     ensures rises { Rises result.items }
 {
     let mut entries = raw;
+    let _ = entries.sort_by_cached_key(|entry| place(entry));
     entries.sort_unstable();
     entries
 }

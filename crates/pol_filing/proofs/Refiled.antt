@@ -4,7 +4,7 @@ use Rattle.std.specs.Map.{lookup}
 use Rattle.std.specs.Option.{option_map_or}
 use Rattle.std.specs.declared.alloc.Global.{Global}
 use Rattle.std.specs.declared.vec.Vec.{Vec}
-use Rattle.std.proofs.lemmas.Bool.{eqb-true}
+use Rattle.std.proofs.lemmas.Bool.{both_ways, eq-eqb, eqb-true, or_left}
 use Rattle.std.proofs.lemmas.List.Folds.{list_any-append}
 use Rattle.std.proofs.lemmas.Map.Views.{any-filter_same}
 use Rattle.pol_filing.specs.Filed.{has, is_filed}
@@ -90,6 +90,10 @@ has-taken n number numbers =
 pub has-none : (n : ℕ) (numbers : List ℕ) → length numbers ≡ 0 → has n numbers ≡ false
 has-none n [] none = refl
 has-none n (own ∷ numbers) none = absurd (omega arith)
+
+pub none-has : (numbers : List ℕ) → ((n : ℕ) → has n numbers ≡ false) → length numbers ≡ 0
+none-has [] none = refl
+none-has (own ∷ numbers) none = absurd (both_ways (has own (own ∷ numbers)) (none own) (or_left (own == own) (has own numbers) (eq-eqb own own refl)))
 
 -- what was written is what was there
 pub rewritten : (old new : Entries) (heading : Heading) (then_there : Option (Vec ℕ Global))

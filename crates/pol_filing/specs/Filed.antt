@@ -1,5 +1,5 @@
 -- What is filed where.
-use Rattle.std.specs.Prelude.{ℕ, ◌==◌, Bool, false, List}
+use Rattle.std.specs.Prelude.{ℕ, ◌≡◌, ◌==◌, Bool, false, List}
 use Rattle.std.specs.List.{list_any}
 use Rattle.std.specs.Map.{lookup}
 use Rattle.std.specs.Option.{option_map_or}
@@ -17,6 +17,10 @@ Drawers = List (Heading × List ℕ)
 -- the number is filed under the heading
 abbrev pub is_filed : Drawers → Heading → ℕ → Bool
 is_filed drawers heading number = option_map_or (has number) (lookup (same_heading heading) drawers) false
+
+-- nothing is filed under the heading
+abbrev pub IsEmptyAt : Heading → Drawers → Type 0
+IsEmptyAt heading drawers = (number : ℕ) → is_filed drawers heading number ≡ false
 
 -- the number is filed under one of these headings
 abbrev pub is_filed_in : Drawers → List Heading → ℕ → Bool

@@ -1,8 +1,8 @@
 //! Numbers under their headings.
-ghost use Rattle.std.specs.Prelude.{◌≡◌, ℕ, ◌==◌, ◌||◌, ◌&&◌, not, false, IsTrue, filter, OnOk, OnErr};
+ghost use Rattle.std.specs.Prelude.{◌≡◌, ◌↔◌, ℕ, ◌==◌, ◌||◌, ◌&&◌, not, IsTrue, filter, OnOk, OnErr};
 ghost use Rattle.indexmap.specs.IndexMap.{IsUnique};
 ghost use Rattle.pol_filing.specs.declared.heading.Heading.{Heading as OneHeading};
-ghost use Rattle.pol_filing.specs.Filed.{is_filed};
+ghost use Rattle.pol_filing.specs.Filed.{IsEmptyAt, is_filed};
 ghost use Rattle.pol_filing.specs.Heading.{same_heading};
 ghost use Rattle.pol_filing.specs.Inside.{drawers_of};
 
@@ -67,19 +67,19 @@ fn take_from(drawers: &mut IndexMap<Heading, Vec<u64>>, heading: &Heading, numbe
     }
 }
 
-/// Whether the heading has a drawer without a number.
+/// Whether nothing is filed under the heading.
 fn is_empty_at(drawers: &IndexMap<Heading, Vec<u64>>, heading: &Heading) -> bool
-    ensures { IsTrue result → (n : ℕ) → is_filed (drawers_of drawers.now.entries) heading.now n ≡ false }
+    ensures { IsTrue result ↔ IsEmptyAt heading.now (drawers_of drawers.now.entries) }
 {
     match drawers.get(heading) {
-        None => false,
+        None => true,
         Some(numbers) => numbers.is_empty(),
     }
 }
 
-/// Takes out the drawer of a heading, which has no number.
+/// Takes out the drawer of a heading under which nothing is filed.
 fn clear(drawers: &mut IndexMap<Heading, Vec<u64>>, heading: &Heading)
-    requires empty { (n : ℕ) → is_filed (drawers_of drawers.old.entries) heading.now n ≡ false }
+    requires empty { IsEmptyAt heading.now (drawers_of drawers.old.entries) }
     ensures unique { IsUnique same_heading drawers.new }
     ensures rest { (other : OneHeading) (n : ℕ) → is_filed (drawers_of drawers.new.entries) other n ≡ is_filed (drawers_of drawers.old.entries) other n }
 {

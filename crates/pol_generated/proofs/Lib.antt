@@ -9,3 +9,7 @@ pub mod PolicyRead
 pub mod ApplyLine
 pub mod SyncLine
 pub mod Script
+pub mod Plays
+pub mod FewRows
+pub mod Settled
+pub mod Faultless

@@ -1,13 +1,30 @@
 //! Laws of generated scripts, over the definitions alone.
 //! Each function does nothing: its contract is the law.
 ghost use Rattle.std.specs.Prelude.{◌≡◌, ℕ, map, Ok};
+ghost use Rattle.pol_facts.specs.WithoutFaults.{WithoutFaults};
 ghost use Rattle.pol_gen.specs.Generated.{generated};
+ghost use Rattle.pol_model.specs.declared.options.Options.{Options};
+ghost use Rattle.pol_run.specs.Run.{readings_of, status_of};
+ghost use Rattle.pol_run.specs.Serial.{serial_answers};
 ghost use Rattle.pol_script.specs.Lines.{lines_of};
 ghost use Rattle.pol_script.specs.Reading.{reading_of};
 ghost use Rattle.pol_generated.specs.Asked.{asked};
+ghost use Rattle.pol_generated.specs.Requests.{requests_asked};
 
 /// Each line of a generated script is read as what it is to ask, for every number, and there are no other
 /// lines. So none has a fault of its own ('profile').
 pub fn generated_lines_are_read()
     ensures { (n : ℕ) → map reading_of (lines_of (generated n)) ≡ map Ok (asked n) }
+{}
+
+/// The requests of a generated script commit one after another, for every number and whatever the options: each is
+/// valid, and none has a fault in the state that those before it made ('profile').
+pub fn no_request_has_a_fault()
+    ensures { (options : Options) (n : ℕ) → WithoutFaults options (requests_asked n) }
+{}
+
+/// So no line of a generated script is refused, and none asks for an endpoint that isn't there: answered in input
+/// order, from the state alone, none has an answer that makes the status 1 ('profile').
+pub fn no_generated_line_is_refused()
+    ensures { (options : Options) (n : ℕ) → status_of (serial_answers options (readings_of (generated n))) ≡ 0 }
 {}

@@ -5,3 +5,4 @@ pub mod Looking
 pub mod FirstFaults
 pub mod Visits
 pub mod Names
+pub mod Keys

@@ -1,5 +1,5 @@
 //! Laws of the definitions: what is known of a document that is read, and of one that isn't.
-ghost use Rattle.std.specs.Prelude.{◌≡◌, ◌↔◌, ℕ, List, None, Some, Ok, Err};
+ghost use Rattle.std.specs.Prelude.{◌≡◌, ◌↔◌, ℕ, true, false, List, [], None, Some, Ok, Err, IsTrue};
 ghost use Rattle.serde_json.specs.Data.{Data};
 ghost use Rattle.serde_json.specs.Read.{read};
 ghost use Rattle.pol_json.specs.declared.fault.DocFault.{DocFault};
@@ -7,6 +7,7 @@ ghost use Rattle.pol_json.specs.Document.{head_fault, read_document};
 ghost use Rattle.pol_json.specs.Look.{LeadsTo, IsAt, IsOneOf, IsRead, IsFirstFault, NamesAscend, PathsAscend};
 ghost use Rattle.pol_json.specs.Places.{Step, Place, places, cause_of};
 ghost use Rattle.pol_json.specs.Table.{Shape};
+ghost use Rattle.pol_json.specs.Texts.{is_dns_name};
 ghost use Rattle.pol_rule.specs.declared.raw.RawPolicy.{RawPolicy};
 
 /// The places that are visited are exactly those that a path leads to.
@@ -42,4 +43,12 @@ pub fn what_is_read_is_of_the_table()
 /// path leads to, and nothing is wrong at the places before it.
 pub fn the_first_fault_is_told()
     ensures { (d : Data) (fault : DocFault) → head_fault d ≡ None → read_document d ≡ Err fault → IsFirstFault d fault }
+{}
+
+/// The key of a document that is read: its name is the name of a policy, and its namespace that of a namespace; a
+/// cluster-wide policy has none.
+pub fn keys_have_their_forms()
+    ensures name { (d : Data) (policy : RawPolicy) → read_document d ≡ Ok policy → IsTrue (is_dns_name policy.key.name) }
+    ensures namespace { (d : Data) (policy : RawPolicy) → read_document d ≡ Ok policy → policy.key.cluster_wide ≡ false → IsTrue (is_dns_name policy.key.namespace) }
+    ensures cluster_wide { (d : Data) (policy : RawPolicy) → read_document d ≡ Ok policy → policy.key.cluster_wide ≡ true → policy.key.namespace ≡ [] }
 {}

@@ -67,6 +67,14 @@ impl Numbers {
         self.prefixes.find(address)
     }
 
+    /// The revision of the newest change of a set that was dropped, 0 if none was.
+    pub fn horizon(&self) -> u64
+        ensures horizon { result ≡ self.now.cache.log.horizon }
+        ensures sound { IsSound self.now.cache }
+    {
+        self.selectors.horizon()
+    }
+
     /// Makes the changes of the last plan, since which no selector came or went. It takes no memory.
     pub fn carry_out(&mut self, plan: Plan)
         requires fits { IsPlanFor plan self.old.cache }

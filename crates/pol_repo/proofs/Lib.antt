@@ -1,3 +1,5 @@
 pub mod Agreeing
+pub mod LabelPeers
 pub mod Longest
 pub mod Sides
+pub mod Standing

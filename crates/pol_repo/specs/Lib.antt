@@ -1,0 +1,4 @@
+pub mod Causes
+pub mod Cost
+pub mod Inside
+pub mod Repository

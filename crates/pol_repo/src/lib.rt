@@ -1,4 +1,16 @@
-//! The repository of policies, and the law that an address is judged as its number is.
+//! The repository: the state of the policy core under its indexes, and the requests that made it.
+//!
+//! A request is prepared (`Repo::prepare`), which takes all that it needs, and then accepted or withdrawn, which takes no
+//! memory. `Repo::commit` does both at once. What a contract sees of a repository is its options, the requests so far and
+//! the one that is prepared; each part that it tells is that part of the state which the definitions of `pol_model` give
+//! for the requests so far.
 #![tactic(auto)]
 
+mod commit;
 pub mod laws;
+mod look;
+mod prepare;
+mod repo;
+
+pub use prepare::Ready;
+pub use repo::Repo;

@@ -22,4 +22,9 @@ pub mod OutputsInShort
 pub mod Examples
 pub mod WrongTexts
 pub mod RightExamples
+pub mod ReadNames
+pub mod ReadHistory
+pub mod GivenNumbers
+pub mod RunsTell
 pub mod TextHistory
+pub mod ToldHistory

@@ -9,7 +9,7 @@ use Rattle.pol_model.specs.declared.request.Request.TheVariants.{AddEndpoint, Re
 use Rattle.pol_model.specs.declared.row.Endpoint.{Endpoint}
 use Rattle.pol_run.proofs.Lists.{every_weaker, every_filtered}
 
-every_inserted : {X : Type 0} (P : X → Type 0) (xs : List X) (k : ℕ) (x : X) → P x → AllByRecursion P xs → AllByRecursion P (insert xs k x)
+pub every_inserted : {X : Type 0} (P : X → Type 0) (xs : List X) (k : ℕ) (x : X) → P x → AllByRecursion P xs → AllByRecursion P (insert xs k x)
 every_inserted P [] zero x here others = (here, tt)
 every_inserted P [] (suc k) x here others = (here, tt)
 every_inserted P (y ∷ ys) zero x here others = (here, others)

@@ -4,6 +4,7 @@ pub mod Moments
 pub mod Endpoints
 pub mod RightAnswer
 pub mod Run
+pub mod Told
 pub mod Serial
 pub mod SerialLines
 pub mod ByIndex

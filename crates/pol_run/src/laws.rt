@@ -1,7 +1,12 @@
 //! Laws of runs, over the definitions alone: which answers are a run, and what a run says.
-ghost use Rattle.std.specs.Prelude.{◌≡◌, ◌≤◌, ℕ, List, Option, None, IsTrue};
+ghost use Rattle.std.specs.Prelude.{◌≡◌, ◌<◌, ◌≤◌, ◌^◌, ℕ, true, false, List, [], ◌∷◌, codes, length, map, Option, None, Ok, IsTrue};
 ghost use Rattle.std.specs.List.{list_all, zip};
 ghost use Rattle.pol_model.specs.declared.options.Options.{Options};
+ghost use Rattle.pol_model.specs.declared.request.Request.{Request};
+ghost use Rattle.pol_script.specs.Lines.{lines_of};
+ghost use Rattle.pol_script.specs.Reading.{reading_of};
+ghost use Rattle.pol_script.specs.declared.command.Command.TheVariants as command;
+ghost use Rattle.pol_run.specs.ExampleLines.{add_db, add_web};
 ghost use Rattle.pol_run.specs.History.{commits_of, history_of};
 ghost use Rattle.pol_run.specs.InShort.{IsRunInShort, IsRunOfInShort, begins_marked};
 ghost use Rattle.pol_run.specs.Moments.{IsCutBeforeLater, cap};
@@ -9,6 +14,7 @@ ghost use Rattle.pol_run.specs.Run.{IsRun, IsRunOf, is_marked, readings_of, stat
 ghost use Rattle.pol_run.specs.Serial.{serial_answers};
 ghost use Rattle.pol_run.specs.SerialLines.{IsSerial};
 ghost use Rattle.pol_run.specs.Spots.{Line, Reading, Spot, spots_of};
+ghost use Rattle.pol_run.specs.Told.{has_read_names, history_told, is_ok_line, requests_told, tells_commit};
 ghost use Rattle.pol_answer.specs.Shown.{has_read_parts};
 ghost use Rattle.pol_answer.specs.Text.{text_of, texts_of};
 ghost use Rattle.pol_answer.specs.declared.answer.Answer.{Answer};
@@ -54,16 +60,48 @@ pub fn outputs_in_short()
         → IsRunOf options script written ended }
 {}
 
-/// The history is read from the bytes of the output: whichever answers have these texts, the same lines commit,
-/// with the same requests and numbers, where the answers' parts are such as reading gives. So all the runs that an
-/// output of a script is have one history ('profile').
-pub fn the_output_tells_the_history()
-    ensures commits { (readings : List Reading) (a b : List Answer) → IsTrue (list_all has_read_parts a) → IsTrue (list_all has_read_parts b)
+/// What a line that is read asks for has names of their forms: an endpoint's name is a name of the script, and the key
+/// of a policy is one that metadata gives ('profile').
+pub fn what_is_read_has_names()
+    ensures { (line : List ℕ) (session : ℕ) (request : Request) → reading_of line ≡ Ok (command.Commit session request)
+        → IsTrue (has_read_names request) }
+{}
+
+/// Each answer of a run tells its commit by its text (`tells_commit`): it is one line, since the names that it prints
+/// were read, and the numbers of an `ok` line have 64 bits. So it is of any script of fewer than 2^64 lines.
+pub fn answers_of_runs_tell()
+    ensures { (options : Options) (script written : List ℕ) (ended : ℕ) (run : IsRunOf options script written ended)
+        → length (lines_of script) < 2 ^ 64 → IsTrue (list_all tells_commit run.answers) }
+{}
+
+/// The bytes of an output tell which lines commit, with which requests and numbers: where each answer tells its
+/// commit, any other answers of the same bytes that do so too have the same commits. Answers whose parts are all
+/// such as reading gives do.
+pub fn the_output_tells_the_commits()
+    ensures commits { (readings : List Reading) (a b : List Answer) → IsTrue (list_all tells_commit a) → IsTrue (list_all tells_commit b)
         → texts_of a ≡ texts_of b → commits_of (spots_of (zip readings a)) ≡ commits_of (spots_of (zip readings b)) }
-    ensures history { (options other : Options) (script written : List ℕ) (ended : ℕ)
-        (a : IsRunOf options script written ended) (b : IsRunOf other script written ended)
-        → IsTrue (list_all has_read_parts a.answers) → IsTrue (list_all has_read_parts b.answers)
-        → history_of (spots_of (zip (readings_of script) a.answers)) ≡ history_of (spots_of (zip (readings_of script) b.answers)) }
+    ensures parts { (answers : List Answer) → IsTrue (list_all has_read_parts answers) → IsTrue (list_all tells_commit answers) }
+{}
+
+/// The output of a script tells its history, whichever answers witness the run, and whatever the options: all runs of
+/// these bytes have the same commits, and their history is the one that is read from the bytes (`history_told`), where
+/// the script has fewer than 2^64 lines.
+pub fn the_output_tells_the_history()
+    ensures commits { (options other : Options) (script written : List ℕ) (ended other_ended : ℕ)
+        (a : IsRunOf options script written ended) (b : IsRunOf other script written other_ended) → length (lines_of script) < 2 ^ 64
+        → commits_of (spots_of (zip (readings_of script) a.answers)) ≡ commits_of (spots_of (zip (readings_of script) b.answers)) }
+    ensures history { (options : Options) (script written : List ℕ) (ended : ℕ) (run : IsRunOf options script written ended)
+        → length (lines_of script) < 2 ^ 64 → history_of (spots_of (zip (readings_of script) run.answers)) ≡ history_told script written }
+{}
+
+/// Which lines of an output are `ok 1`, and the history that four lines tell, written out: it is in the order of the
+/// numbers, not of the lines ('profile').
+pub fn lines_that_tell()
+    ensures first { map (is_ok_line 1) (codes "ok 1" ∷ codes "ok 1 identity 256" ∷ codes "ok 10" ∷ codes "ok 1identity" ∷ codes "ok" ∷ codes "synced 1" ∷ [])
+        ≡ true ∷ true ∷ false ∷ false ∷ false ∷ false ∷ [] }
+    ensures order { requests_told 4 ((Ok (command.Commit 1 add_web), codes "ok 2 identity 256") ∷ (Ok (command.Sync 2), codes "synced 2")
+        ∷ (Ok (command.Commit 2 add_db), codes "ok 1 identity 257") ∷ (Ok (command.Commit 2 add_db), codes "refused 30 duplicate-endpoint at 2") ∷ [])
+        ≡ add_db ∷ add_web ∷ [] }
 {}
 
 /// The cap of a line is the greatest revision whose commits hold none that stands behind the line in

@@ -5,8 +5,8 @@
 //! from the answers, `Moments` says between which revisions a line may be answered, `RightAnswer` has
 //! the clauses for each kind of answer, and `Run` puts them together. `InShort` says what a run says,
 //! by the index, the session and the phase of each line (`ByIndex`). `SerialLines` says what lines
-//! answered in input order are, and `Serial` has the answers that the state alone gives. The laws
-//! between them are in `laws`.
+//! answered in input order are, and `Serial` has the answers that the state alone gives. `Told` reads the
+//! history from the bytes of an output. The laws between them are in `laws`.
 //!
 //! Small outputs hold the definition: `refuted` has those that are no runs (`WrongCommits`,
 //! `WrongVerdicts`, `WrongMoments`, `WrongRows`, `WrongAnswers`), and `allowed` those that are

@@ -4,3 +4,4 @@ pub mod Cuts
 pub mod ScriptLaws
 pub mod LeastUnknown
 pub mod ToldUnknown
+pub mod ReadNames

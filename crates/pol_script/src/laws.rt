@@ -1,8 +1,13 @@
 //! Laws of the lines of a script, over the definitions alone.
 //! Each function does nothing: its contract is the law.
-ghost use Rattle.std.specs.Prelude.{◌≡◌, ◌≢◌, ℕ, false, List, [], ◌∷◌, ◌++◌, IsTrue, Result, Ok, Err};
+ghost use Rattle.std.specs.Prelude.{◌≡◌, ◌≢◌, ℕ, true, false, List, [], ◌∷◌, ◌++◌, IsTrue, Result, Ok, Err};
 ghost use Rattle.std.specs.List.{flat_map, list_all};
 ghost use Rattle.serde_json.specs.Data.{Data};
+ghost use Rattle.pol_addr.specs.declared.address.Addr.{Addr};
+ghost use Rattle.pol_json.specs.Texts.{is_dns_name, is_name};
+ghost use Rattle.pol_labels.specs.declared.label.Label.{Label};
+ghost use Rattle.pol_model.specs.declared.request.Request.TheVariants.{AddEndpoint, Apply};
+ghost use Rattle.pol_rule.specs.declared.policy.Policy.{Policy};
 ghost use Rattle.pol_script.specs.Commands.{make};
 ghost use Rattle.pol_script.specs.Lines.{newline, lines_of, ended, is_one_line};
 ghost use Rattle.pol_script.specs.Members.{given};
@@ -10,6 +15,7 @@ ghost use Rattle.pol_script.specs.Reading.{object_of, op_of, reading_of};
 ghost use Rattle.pol_script.specs.Table.{rows};
 ghost use Rattle.pol_script.specs.Unknown.{is_unknown, HasLeastUnknown, IsLeastUnknown};
 ghost use Rattle.pol_script.specs.declared.command.Command.{Command};
+ghost use Rattle.pol_script.specs.declared.command.Command.TheVariants.{Commit};
 ghost use Rattle.pol_script.specs.declared.line_fault.LineFault.{LineFault};
 ghost use Rattle.pol_script.specs.declared.line_fault.LineFault.TheVariants.{UnknownField};
 ghost use Rattle.pol_script.specs.declared.op.Op.{Op};
@@ -39,4 +45,17 @@ pub fn the_least_unknown_member_is_told()
         → ((name : List ℕ) → is_unknown op d name ≡ false) → reading_of line ≡ command }
     ensures some { (line : List ℕ) (d : Data) (op : Op) (other : List ℕ) → object_of line ≡ Ok d → IsTrue (is_unknown op d other)
         → (name : List ℕ) × IsLeastUnknown op d name }
+{}
+
+/// The names that a line asks for have their forms: an endpoint's name is a name of the script, and the key of a policy
+/// is that of a document that is read.
+pub fn names_have_their_forms()
+    ensures endpoint { (line : List ℕ) (session : ℕ) (name : List ℕ) (labels : List Label) (address : Addr)
+        → reading_of line ≡ Ok (Commit session (AddEndpoint name labels address)) → IsTrue (is_name name) }
+    ensures policy { (line : List ℕ) (session : ℕ) (policy : Policy) → reading_of line ≡ Ok (Commit session (Apply policy))
+        → IsTrue (is_dns_name policy.key.name) }
+    ensures namespace { (line : List ℕ) (session : ℕ) (policy : Policy) → reading_of line ≡ Ok (Commit session (Apply policy))
+        → policy.key.cluster_wide ≡ false → IsTrue (is_dns_name policy.key.namespace) }
+    ensures cluster_wide { (line : List ℕ) (session : ℕ) (policy : Policy) → reading_of line ≡ Ok (Commit session (Apply policy))
+        → policy.key.cluster_wide ≡ true → policy.key.namespace ≡ [] }
 {}

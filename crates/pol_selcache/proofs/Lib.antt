@@ -13,3 +13,5 @@ pub mod Coming
 pub mod TakenBack
 pub mod Filed
 pub mod Untried
+pub mod Judged
+pub mod Sharing

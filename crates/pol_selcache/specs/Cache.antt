@@ -84,3 +84,8 @@ pub record MayPlan (revision : ℕ) (come gone : List ℕ) (rows : List Identity
   pub gone_held : AllByRecursion (λ number. has_row number rows ≡ true) gone
   pub apart : AllByRecursion (λ number. has number gone ≡ false) come
   pub exact : AreExact (rows_without come rows) cache.live
+
+-- The number may come to sets that are exact over the rows before: what a plan at any later revision asks holds then.
+abbrev pub MayCome : ℕ → List IdentityRow → List IdentityRow → Type 0
+MayCome number before after =
+    (revision : ℕ) (cache : Cache) → newest cache.log < revision → AreExact before cache.live → MayPlan revision (number ∷ []) [] after cache

@@ -8,3 +8,4 @@ pub mod Tried
 pub mod Planned
 pub mod Moving
 pub mod Told
+pub mod Made

@@ -42,15 +42,17 @@ fn found_in(alloc: Global, numbers: &[u32], set: &IdSet) -> Result<Vec<u32>, Mem
         .collect(alloc)
 }
 
-/// Those of the numbers that the set has not.
-fn missing_in(alloc: Global, numbers: &[u32], set: &IdSet) -> Result<Vec<u32>, Memory>
+/// Those of the numbers that the set has not, in memory that has room for so many more.
+fn missing_in(alloc: Global, numbers: &[u32], set: &IdSet, more: usize) -> Result<Vec<u32>, Memory>
     ensures { IfOk result (λ missing. missing.items ≡ without numbers.now set.now) }
 {
-    numbers
-        .iter()
-        .copied()
-        .filter(|number| !set.contains(*number))
-        .collect(alloc)
+    let mut missing = Vec::with_capacity(alloc, numbers.len().saturating_add(more))?;
+    for number in numbers {
+        if !set.contains(*number) {
+            missing.push(*number)?;
+        }
+    }
+    Ok(missing)
 }
 
 /// The numbers of both sets.
@@ -71,7 +73,7 @@ pub(crate) fn moved(
     ensures members { IfOk result (λ after. (number : ℕ) → has number after ≡ ((has number set.now && not (has number lost.now)) || has number gained.now)) }
     ensures set { IfOk result (λ after. IsIdSet after) }
 {
-    let mut numbers = missing_in(alloc, set.as_slice(), lost)?;
+    let mut numbers = missing_in(alloc, set.as_slice(), lost, gained.len())?;
     numbers.extend_from_slice(gained.as_slice())?;
     let after = set_of_vec(numbers)?;
     Ok(after)

@@ -3,16 +3,36 @@ ghost use Rattle.std.specs.Prelude.{◌≡◌, ◌+◌, ◌≤◌, ◌*◌, IfOk
 ghost use Rattle.pol_facts.specs.Keeps.{KeepsRows};
 ghost use Rattle.pol_model.specs.Selects.{set_at};
 ghost use Rattle.pol_ident.specs.Look.{selects_held};
-ghost use Rattle.pol_selcache.specs.Held.{steps_of};
+ghost use Rattle.pol_rule.specs.declared.policy.Peer.TheVariants.{Labels as LabelPeer};
+ghost use Rattle.pol_selcache.specs.Held.{steps_at, steps_of};
 
 use pol_data::{Memory, Steps};
 use pol_ident::Identities;
+use pol_labels::Selector;
 use pol_rule::Peer;
 use pol_sets::IdSet;
 use std::alloc::Global;
 use std::sync::ledger::Ledger;
 
-/// Whether the number is held and the peer selects its identity. It is one step for a label selector, and none otherwise.
+/// Whether the number is held and its labels match the selector: one step where it is held.
+fn matches_held<L: Ledger>(
+    selector: &Selector,
+    number: u32,
+    identities: &Identities,
+    steps: &mut Steps<L>,
+) -> bool
+    ensures answer { result ≡ selects_held identities.now (LabelPeer selector.now) number }
+    ensures cost { steps.new ≡ steps.old + steps_at identities.now (LabelPeer selector.now) number }
+    ensures sound { KeepsRows identities.now }
+{
+    match identities.labels_of(number) {
+        None => false,
+        Some(labels) => selector.matches(labels, steps),
+    }
+}
+
+/// Whether the number is held and the peer selects its identity. A label selector is judged by the call that counts its
+/// own step; prefixes and entities take none.
 fn selects_held<L: Ledger>(
     peer: &Peer,
     number: u32,
@@ -20,14 +40,14 @@ fn selects_held<L: Ledger>(
     steps: &mut Steps<L>,
 ) -> bool
     ensures answer { result ≡ selects_held identities.now peer.now number }
-    ensures cost { steps.new ≡ steps.old + steps_of peer.now }
+    ensures cost { steps.new ≡ steps.old + steps_at identities.now peer.now number }
+    ensures most { steps.new ≤ steps.old + steps_of peer.now }
     ensures sound { KeepsRows identities.now }
 {
     match peer {
-        Peer::Labels(_) => steps.tick(),
-        Peer::Cidr { .. } | Peer::Entity(_) => (),
+        Peer::Labels(selector) => matches_held(selector, number, identities, steps),
+        Peer::Cidr { .. } | Peer::Entity(_) => identities.is_selected(number, peer),
     }
-    identities.is_selected(number, peer)
 }
 
 /// Those of the numbers that the peer selects.

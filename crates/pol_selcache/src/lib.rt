@@ -10,6 +10,7 @@ mod find;
 mod ids;
 mod judge;
 pub mod laws;
+mod made;
 mod plan;
 mod table;
 mod tried;

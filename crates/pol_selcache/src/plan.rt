@@ -15,8 +15,9 @@ ghost use Rattle.pol_selcache.specs.Planned.{planned_in, planned_of};
 ghost use Rattle.pol_selcache.specs.Tried.{of_numbers};
 
 use crate::SelectorCache;
-use crate::ids::{in_both, moved, set_of_slice};
+use crate::ids::{in_both, set_of_slice};
 use crate::judge::selected_of;
+use crate::made::{Made, shared};
 use crate::table::{Row, Table};
 use crate::tried::{headings_of, tried};
 use pol_changes::Change;
@@ -73,7 +74,8 @@ fn push_some(changes: &mut Vec<Planned>, change: Option<Planned>) -> Result<(), 
     Ok(())
 }
 
-/// What the numbers that come and go change of one selector's set, and None where that is nothing.
+/// What the numbers that come and go change of one selector's set, and None where that is nothing. The set is the one
+/// that was made last, where that is it.
 fn plan_one<L: Ledger>(
     alloc: Global,
     peer: &Peer,
@@ -81,6 +83,7 @@ fn plan_one<L: Ledger>(
     come: &IdSet,
     gone: &IdSet,
     identities: &Identities,
+    last: &mut Option<Made>,
     steps: &mut Steps<L>,
 ) -> Result<Option<Planned>, Memory>
     requires moving { Moving identities.now come.now gone.now peer.now (arc_value row.now.set) }
@@ -92,12 +95,12 @@ fn plan_one<L: Ledger>(
     if is_still(&gained, &lost) {
         return Ok(None);
     }
-    let set = moved(alloc, &row.set, &gained, &lost)?;
+    let set = shared(alloc, &row.set, &gained, &lost, last)?;
     Ok(Some(Planned {
         selector: row.number,
         gained,
         lost,
-        set: Arc::new(alloc, set)?,
+        set,
     }))
 }
 
@@ -117,10 +120,14 @@ fn plan_each<L: Ledger>(
     ensures changes { IfOk result (λ changes. planned_in changes.items ≡ changes_for (rows_without gone.now identities.now) (of_numbers tried.now table.now)) }
     ensures cost { steps.new ≤ steps.old + label_selectors table.now * length come.now }
 {
-    let mut changes = Vec::new(alloc);
+    let mut changes = Vec::with_capacity(alloc, tried.len())?;
+    let mut near = 0;
+    let mut last = None;
     for number in tried {
-        let (peer, row) = table.at(table.place_of(*number));
-        let change = plan_one(alloc, peer, row, come, gone, identities, steps)?;
+        let place = table.place_near(*number, near);
+        near = place.wrapping_add(1);
+        let (peer, row) = table.at(place);
+        let change = plan_one(alloc, peer, row, come, gone, identities, &mut last, steps)?;
         push_some(&mut changes, change)?;
     }
     Ok(changes)
@@ -196,13 +203,14 @@ impl SelectorCache {
         ensures sound { IsSound self.new }
     {
         let _ = &self.next;
+        let mut near = 0;
         for change in changes {
-            self.carry_one(revision, change);
+            near = self.carry_one(revision, change, near).wrapping_add(1);
         }
     }
 
-    /// Makes one change.
-    fn carry_one(&mut self, revision: u64, change: Planned)
+    /// Makes one change, of a selector that is looked for at a place first, and gives its place.
+    fn carry_one(&mut self, revision: u64, change: Planned, near: usize) -> usize
         requires live { is_live change.selector self.old.live ≡ true }
         requires in_order { newest self.old.log ≤ revision }
         requires room { 1 ≤ self.old.log.spare }
@@ -215,13 +223,14 @@ impl SelectorCache {
             lost,
             set,
         } = change;
-        self.table.put_set(selector, set);
+        let place = self.table.put_set(selector, set, near);
         self.log.record(Change {
             selector,
             revision,
             gained,
             lost,
         });
+        place
     }
 
     /// `plan`, and then `carry_out`.

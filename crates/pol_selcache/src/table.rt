@@ -1,5 +1,5 @@
 //! The live selectors, by peer and by number.
-ghost use Rattle.std.specs.Prelude.{◌≡◌, ℕ, ◌+◌, ◌<◌, ◌++◌, nat_lt, remove, [], ◌∷◌, Some, None, true, length, map, slice_get, option_map, IfOk, OnOk, OnErr};
+ghost use Rattle.std.specs.Prelude.{◌≡◌, ℕ, ◌+◌, ◌<◌, ◌++◌, nat_lt, remove, [], ◌∷◌, Some, None, true, length, map, slice_get, option_map, IsTrue, IfOk, OnOk, OnErr};
 ghost use Rattle.std.specs.Arc.{arc_value};
 ghost use Rattle.std.specs.List.{AllByRecursion};
 ghost use Rattle.indexmap.specs.IndexMap.{IsUnique, get, spare};
@@ -157,6 +157,32 @@ impl Table {
         )
     }
 
+    /// Whether the selector at a place has the number.
+    fn is_at(&self, place: usize, number: u64) -> bool
+        ensures { IsTrue result → (place < length self.now) × (option_map (λ s. s.number) (slice_get self.now place) ≡ Some number) }
+    {
+        if place >= self.len() {
+            return false;
+        }
+        let (_, row) = self.at(place);
+        row.number == number
+    }
+
+    /// The place of a live selector, which is looked for at a place first.
+    pub(crate) fn place_near(&self, number: u64, place: usize) -> usize
+        requires live { is_live number self.now ≡ true }
+        ensures within { result < length self.now }
+        ensures place { option_map (λ s. s.number) (slice_get self.now result) ≡ Some number }
+        ensures sound { AreLive self.now }
+    {
+        let _ = self.len();
+        if self.is_at(place, number) {
+            place
+        } else {
+            self.place_of(number)
+        }
+    }
+
     /// One reference more to a live selector. `Memory` comes where its count is at its end, and the count stays.
     pub(crate) fn refer(&mut self, number: u64) -> Result<(), Memory>
         requires live { is_live number self.old ≡ true }
@@ -190,14 +216,15 @@ impl Table {
         }
     }
 
-    /// Another set for a live selector.
-    pub(crate) fn put_set(&mut self, number: u64, set: Arc<IdSet>)
+    /// Another set for a live selector, which is looked for at a place first, and its place.
+    pub(crate) fn put_set(&mut self, number: u64, set: Arc<IdSet>, near: usize) -> usize
         requires live { is_live number self.old ≡ true }
         ensures put { self.new ≡ with_set number (arc_value set) self.old }
         ensures sound { AreLive self.new }
     {
-        let place = self.place_of(number);
+        let place = self.place_near(number, near);
         self.rows[place].set = set;
+        place
     }
 
     /// The set of a live selector.

@@ -3,6 +3,7 @@ ghost use Rattle.std.specs.Prelude.{◌≡◌, IfOk};
 ghost use Rattle.std.specs.List.{AllByRecursion};
 ghost use Rattle.pol_model.specs.declared.options.Options.{Options as AllOptions};
 ghost use Rattle.pol_model.specs.After.{start};
+ghost use Rattle.pol_selcache.specs.Live.{AreLive};
 ghost use Rattle.pol_model.specs.Sizes.{IsShortPolicy};
 ghost use Rattle.pol_store.specs.Store.{StandsFor};
 
@@ -94,6 +95,14 @@ impl Store {
         ensures short { AllByRecursion (λ stamped. IsShortPolicy stamped.policy) self.now.state.policies }
     {
         self.policies.as_slice()
+    }
+
+    /// The revision of the newest change of a set that was dropped, 0 if none was.
+    pub fn horizon(&self) -> u64
+        ensures horizon { result ≡ self.now.cache.log.horizon }
+        ensures live { AreLive self.now.cache.live }
+    {
+        self.numbers.horizon()
     }
 
     /// The identities that are held.

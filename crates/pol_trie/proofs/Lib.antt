@@ -14,3 +14,4 @@ mod RootCalls
 mod Reading
 mod Counting
 mod Meeting
+mod Linking

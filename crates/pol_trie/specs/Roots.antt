@@ -1,7 +1,9 @@
 -- How a policy map is kept: the keys of each direction and identity. No public clause cites this module.
-use Rattle.std.specs.Prelude.{ℕ, ◌+◌, List, [], ◌∷◌, ◌++◌, map, Bool, false, ◌||◌, is_some, if◌then◌else◌, Option, Some, None, option_and_then, flat_map}
+use Rattle.std.specs.Prelude.{◌≡◌, ℕ, ◌+◌, List, [], ◌∷◌, ◌++◌, map, Bool, false, ◌||◌, is_some, if◌then◌else◌, Option, Some, None, option_and_then, flat_map}
 use Rattle.std.specs.FinMap as finite
 use Rattle.std.specs.Map.{lookup}
+use Rattle.pol_ports.specs.declared.Direction.{Direction}
+use Rattle.pol_ports.specs.declared.Direction.TheVariants.{Ingress, Egress}
 use Rattle.pol_ports.specs.declared.Proto.{Proto}
 use Rattle.pol_ports.specs.declared.Proto.TheVariants.{Tcp, Udp, Sctp}
 use Rattle.pol_mapkey.specs.declared.Kind.{Kind}
@@ -11,6 +13,7 @@ use Rattle.pol_mapkey.specs.declared.Word.{Word}
 use Rattle.pol_mapkey.specs.declared.Word.TheVariants.{Allowed, DeniedByRule, DeniedByDefault}
 use Rattle.pol_mapkey.specs.Entries.{Entry, is_deny}
 use Rattle.pol_trie.specs.declared.root.Root.{Root}
+use Rattle.pol_trie.specs.declared.root.Zeros.{Zeros}
 use Rattle.pol_trie.specs.declared.key_set.KeySet.{KeySet}
 use Rattle.pol_trie.specs.KeySet.{kind_of, key_count}
 use Rattle.pol_trie.specs.PortMap.{PortMap}
@@ -46,6 +49,15 @@ row_keys (e ∷ es) = key_count e.1 + row_keys es
 -- the kind of a key, by its direction and identity
 abbrev pub kind_at : (Root → Root → Bool) → List (Root × KeySet) → MapKey → Option Kind
 kind_at eq roots key = option_and_then (λ s. kind_of s key.proto key.port) (lookup (eq (root_of key)) roots)
+
+-- in which directions identity 0 is said to have keys
+abbrev pub tells_zero : Zeros → Direction → Bool
+tells_zero zeros Ingress = zeros.ingress
+tells_zero zeros Egress = zeros.egress
+
+-- that is said where it has keys among the rows
+abbrev pub TellsZero : (Root → Root → Bool) → Zeros → List (Root × KeySet) → Type 0
+TellsZero eq zeros rows = (dir : Direction) → tells_zero zeros dir ≡ is_some (lookup (eq (record { dir = dir; id = 0 })) rows)
 
 -- whether the kind is a deny
 abbrev pub denies : Option Kind → Bool

@@ -5,7 +5,7 @@ ghost use Rattle.pol_ports.specs.declared.PortPrefix.{PortPrefix as ThePrefix};
 ghost use Rattle.pol_mapkey.specs.declared.KeyProto.{KeyProto as TheKeyProto};
 ghost use Rattle.pol_mapkey.specs.KeyProto.{key_proto};
 
-use crate::node::first_port;
+use crate::halves::first_port;
 use crate::ports::PortTrie;
 use pol_data::{Memory, Steps};
 use pol_mapkey::{KeyProto, Kind, MapKey};

@@ -5,8 +5,11 @@
 //! identity 0.
 #![tactic(auto)]
 
+mod halves;
+mod hints;
 mod key_set;
 pub mod laws;
+mod links;
 mod node;
 mod ports;
 mod put;

@@ -5,7 +5,8 @@ ghost use Rattle.pol_trie.specs.PortMap.{Decides};
 ghost use Rattle.pol_trie.specs.Tree.{Takes};
 ghost use Rattle.pol_trie.specs.Standing.{HasRoom, IsTrie, ports_of};
 
-use crate::node::{Node, first_port};
+use crate::halves::first_port;
+use crate::node::Node;
 use crate::put::put;
 use crate::take::take;
 use crate::walk::{kind_at, longest};

@@ -4,9 +4,12 @@ ghost use Rattle.pol_arena.specs.Pool.{node_at, nodes_in_use, Updates};
 ghost use Rattle.pol_ports.specs.PortPrefix.{same_prefix, prefix_contains};
 ghost use Rattle.pol_trie.specs.Tree.{Tree, Parts, Takes, both_low, both_high, kind_in, node_count};
 ghost use Rattle.pol_trie.specs.Links.{node_of};
+ghost use Rattle.pol_trie.specs.Node.{FitsLink};
 ghost use Rattle.pol_trie.specs.Standing.{Holds, HasRoom, IsBelow, Becomes};
 
-use crate::node::{Node, first_port, is_upper, link, middle, set_kind};
+use crate::halves::{first_port, is_upper, middle};
+use crate::links::{fits, link, link_fits, set_kind};
+use crate::node::Node;
 use pol_arena::Pool;
 use pol_mapkey::Kind;
 use pol_ports::PortPrefix;
@@ -73,6 +76,8 @@ fn add(
     other: Option<u32>,
 ) -> u32
     requires spare { 1 ≤ nodes.old.spare }
+    requires below { FitsLink below }
+    requires other { FitsLink other }
     ensures was_free { node_at nodes.old result ≡ None }
     ensures updates { Updates nodes.old nodes.new result (Some (node_of port kind high below other)) }
     ensures count { nodes_in_use nodes.new ≡ nodes_in_use nodes.old + 1 }
@@ -94,12 +99,14 @@ fn put_over(
     ensures { (t : Tree) (lo hi len : ℕ) → Holds nodes.old (Some at) t lo hi len → Takes lo hi len port
         → Becomes nodes.old nodes.new (Some result) (λ q. if same_prefix port q then Some kind else kind_in t q) (node_count t) lo hi len }
 {
+    fits(nodes, at);
     if port.contains(below) {
         let high = is_upper(&port, below.bits);
         return add(nodes, port, Some(kind), high, Some(at), None);
     }
     let fork = common(around(below, &port), below, &port);
     let leaf = add(nodes, port, Some(kind), false, None, None);
+    fits(nodes, leaf);
     let high = is_upper(&fork, below.bits);
     add(nodes, fork, None, high, Some(at), Some(leaf))
 }
@@ -123,6 +130,7 @@ pub(crate) fn put(nodes: &mut Pool<Node>, at: Option<u32>, port: PortPrefix, kin
     }
     let high = node.is_upper(port.bits);
     let below = put(nodes, node.child(high), port, kind);
+    link_fits(nodes, Some(below));
     link(nodes, i, high, Some(below));
     i
 }

@@ -3,8 +3,9 @@ ghost use Rattle.std.specs.Prelude.{◌≡◌, ◌+◌, ◌*◌, ◌^◌, ◌<�
 ghost use Rattle.std.specs.FinMap as map;
 ghost use Rattle.pol_mapkey.specs.Entries.{longest};
 ghost use Rattle.indexmap.specs.IndexMap.{IsUnique};
-ghost use Rattle.pol_trie.specs.Roots.{policy_of, row_keys};
+ghost use Rattle.pol_trie.specs.Roots.{policy_of, root_of, row_keys, tells_zero, TellsZero};
 
+use crate::hints::Hints;
 use crate::key_set::KeySet;
 use indexmap::IndexMap;
 use pol_data::{Memory, Steps};
@@ -20,9 +21,62 @@ pub(crate) struct Root {
     pub(crate) id: u32,
 }
 
+/// The direction and the identity of a key.
+pub(crate) fn root_of(key: &MapKey) -> Root
+    ensures { result ≡ root_of key.now }
+{
+    Root {
+        dir: key.dir,
+        id: key.id,
+    }
+}
+
+/// The direction and the identity that stand last in the table.
+pub(crate) fn last_root(roots: &IndexMap<Root, KeySet>) -> Option<Root> {
+    let (root, _) = roots.last()?;
+    Some(*root)
+}
+
+/// In which directions identity 0 has keys.
+#[derive(Clone, Copy)]
+pub(crate) struct Zeros {
+    ingress: bool,
+    egress: bool,
+}
+
+impl Zeros {
+    /// Whether it has keys in that direction.
+    fn has(self, dir: Direction) -> bool
+        ensures { result ≡ tells_zero self dir }
+    {
+        match dir {
+            Direction::Ingress => self.ingress,
+            Direction::Egress => self.egress,
+        }
+    }
+
+    /// In which directions the table has keys of identity 0.
+    pub(crate) fn of(roots: &IndexMap<Root, KeySet>) -> Zeros
+        ensures { TellsZero ⟦<Root as PartialEq>⟧.eq result roots.now.entries }
+    {
+        let ingress = Root {
+            dir: Direction::Ingress,
+            id: 0,
+        };
+        let egress = Root {
+            dir: Direction::Egress,
+            id: 0,
+        };
+        Zeros {
+            ingress: roots.contains_key(&ingress),
+            egress: roots.contains_key(&egress),
+        }
+    }
+}
+
 /// Gives a key this kind. Whether it had none. The one error is want of memory, where the key had none, and then all is
 /// as before.
-pub(crate) fn put_key(
+fn put_key(
     roots: &mut IndexMap<Root, KeySet>,
     alloc: Global,
     key: &MapKey,
@@ -54,8 +108,29 @@ pub(crate) fn put_key(
     }
 }
 
+/// Gives a key this kind, and keeps true what is told of identity 0.
+pub(crate) fn put_row(
+    roots: &mut IndexMap<Root, KeySet>,
+    zeros: &mut Zeros,
+    alloc: Global,
+    key: &MapKey,
+    kind: Kind,
+) -> Result<bool, Memory>
+    requires { IsUnique ⟦<Root as PartialEq>⟧.eq roots.old }
+    ensures unique { IsUnique ⟦<Root as PartialEq>⟧.eq roots.new }
+    ensures zeros { TellsZero ⟦<Root as PartialEq>⟧.eq zeros.new roots.new.entries }
+    ensures ok { OnOk result (policy_of roots.new.entries ≡ map.insert (policy_of roots.old.entries) key.now kind) }
+    ensures fresh { IfOk result (λ fresh. fresh ≡ is_none (map.get (policy_of roots.old.entries) key.now)) }
+    ensures err { OnErr result (policy_of roots.new.entries ≡ policy_of roots.old.entries) }
+    ensures absent { OnErr result (map.get (policy_of roots.old.entries) key.now ≡ None) }
+{
+    let put = put_key(roots, alloc, key, kind);
+    *zeros = Zeros::of(roots);
+    put
+}
+
 /// Takes a key out. Whether it was there. It takes no memory.
-pub(crate) fn clear_key(roots: &mut IndexMap<Root, KeySet>, key: &MapKey) -> bool
+fn clear_key(roots: &mut IndexMap<Root, KeySet>, key: &MapKey) -> bool
     requires { IsUnique ⟦<Root as PartialEq>⟧.eq roots.old }
     ensures unique { IsUnique ⟦<Root as PartialEq>⟧.eq roots.new }
     ensures there { result ≡ is_some (map.get (policy_of roots.old.entries) key.now) }
@@ -76,10 +151,24 @@ pub(crate) fn clear_key(roots: &mut IndexMap<Root, KeySet>, key: &MapKey) -> boo
     there
 }
 
+/// Takes a key out, and keeps true what is told of identity 0.
+pub(crate) fn clear_row(roots: &mut IndexMap<Root, KeySet>, zeros: &mut Zeros, key: &MapKey) -> bool
+    requires { IsUnique ⟦<Root as PartialEq>⟧.eq roots.old }
+    ensures unique { IsUnique ⟦<Root as PartialEq>⟧.eq roots.new }
+    ensures zeros { TellsZero ⟦<Root as PartialEq>⟧.eq zeros.new roots.new.entries }
+    ensures there { result ≡ is_some (map.get (policy_of roots.old.entries) key.now) }
+    ensures rest { policy_of roots.new.entries ≡ map.remove (policy_of roots.old.entries) key.now }
+{
+    let there = clear_key(roots, key);
+    *zeros = Zeros::of(roots);
+    there
+}
+
 /// The kind of the longest key of the direction and the identity that covers a packet. Each node that is visited is one
 /// step.
 pub(crate) fn longest<L: Ledger>(
     roots: &IndexMap<Root, KeySet>,
+    hints: &Hints,
     root: Root,
     proto: Proto,
     port: u16,
@@ -90,9 +179,32 @@ pub(crate) fn longest<L: Ledger>(
     ensures forward { steps.old ≤ steps.new }
     ensures cost { steps.new ≤ steps.old + 18 }
 {
-    match roots.get(&root) {
+    match hints.find(roots, root) {
         Some(keys) => keys.longest(proto, port, steps),
         None => None,
+    }
+}
+
+/// The same of identity 0, whose keys are sought only where it has some.
+pub(crate) fn longest_of_zero<L: Ledger>(
+    roots: &IndexMap<Root, KeySet>,
+    hints: &Hints,
+    zeros: Zeros,
+    dir: Direction,
+    proto: Proto,
+    port: u16,
+    steps: &mut Steps<L>,
+) -> Option<Kind>
+    requires unique { IsUnique ⟦<Root as PartialEq>⟧.eq roots.now }
+    requires zeros { TellsZero ⟦<Root as PartialEq>⟧.eq zeros roots.now.entries }
+    ensures kind { result ≡ option_map (λ e. e.1) (longest (map.entries (policy_of roots.now.entries)) dir 0 proto port) }
+    ensures forward { steps.old ≤ steps.new }
+    ensures cost { steps.new ≤ steps.old + 18 }
+{
+    if zeros.has(dir) {
+        longest(roots, hints, Root { dir, id: 0 }, proto, port, steps)
+    } else {
+        None
     }
 }
 

@@ -4,7 +4,8 @@ ghost use Rattle.pol_ports.specs.PortPrefix.{same_prefix};
 ghost use Rattle.pol_trie.specs.Tree.{Tree, Inside, kind_in, node_count};
 ghost use Rattle.pol_trie.specs.Standing.{Holds, IsWell, IsLoose, LooselyHolds, Becomes};
 
-use crate::node::{Node, link, set_kind};
+use crate::links::{link, link_fits, set_kind};
+use crate::node::Node;
 use pol_arena::Pool;
 use pol_ports::PortPrefix;
 
@@ -39,6 +40,7 @@ pub(crate) fn take(nodes: &mut Pool<Node>, at: Option<u32>, port: &PortPrefix) -
     }
     let high = node.is_upper(port.bits);
     let below = take(nodes, node.child(high), port);
+    link_fits(nodes, below);
     link(nodes, i, high, below);
     settle(nodes, i)
 }

@@ -4,8 +4,11 @@ ghost use Rattle.std.specs.FinMap as map;
 ghost use Rattle.pol_mapkey.specs.Entries.{read_map};
 ghost use Rattle.pol_trie.specs.Roots.{denies, word_of_kinds};
 
+use crate::hints::Hints;
 use crate::key_set::KeySet;
-use crate::root::{Root, clear_key, longest, nodes, put_key};
+use crate::root::{
+    Root, Zeros, clear_row, last_root, longest, longest_of_zero, nodes, put_row, root_of,
+};
 use indexmap::IndexMap;
 use pol_data::{Memory, Steps};
 use pol_mapkey::{Kind, MapKey, Word};
@@ -19,6 +22,8 @@ use std::sync::ledger::Ledger;
 #[derive(Drop)]
 pub struct PolicyTrie {
     roots: IndexMap<Root, KeySet>,
+    hints: Hints,
+    zeros: Zeros,
     count: u32,
     alloc: Global,
 }
@@ -33,11 +38,11 @@ impl Model for PolicyTrie {
     ghost use Rattle.std.specs.Prelude.{◌≡◌};
     ghost use Rattle.std.specs.FinMap as map;
     ghost use Rattle.indexmap.specs.IndexMap.{IsUnique};
-    ghost use Rattle.pol_trie.specs.Roots.{policy_of};
+    ghost use Rattle.pol_trie.specs.Roots.{policy_of, TellsZero};
 
     ghost view = { λ t. policy_of t.roots.entries };
 
-    ghost invariant = { λ t. IsUnique ⟦<Root as PartialEq>⟧.eq t.roots × (t.count ≡ map.len (policy_of t.roots.entries)) };
+    ghost invariant = { λ t. IsUnique ⟦<Root as PartialEq>⟧.eq t.roots × (t.count ≡ map.len (policy_of t.roots.entries)) × TellsZero ⟦<Root as PartialEq>⟧.eq t.zeros t.roots.entries };
 }
 
 impl PolicyTrie {
@@ -45,8 +50,12 @@ impl PolicyTrie {
     pub fn new(alloc: Global) -> PolicyTrie
         ensures { result ≡ map.empty }
     {
+        let roots = IndexMap::new(alloc);
+        let zeros = Zeros::of(&roots);
         PolicyTrie {
-            roots: IndexMap::new(alloc),
+            roots,
+            hints: Hints::new(alloc),
+            zeros,
             count: 0,
             alloc,
         }
@@ -58,6 +67,8 @@ impl PolicyTrie {
     {
         Ok(PolicyTrie {
             roots: self.roots.clone()?,
+            hints: self.hints.copy()?,
+            zeros: self.zeros,
             count: self.count,
             alloc,
         })
@@ -71,7 +82,11 @@ impl PolicyTrie {
         ensures err { OnErr result (self.new ≡ self.old) }
         ensures absent { OnErr result (map.get self.old key ≡ None) }
     {
-        if put_key(&mut self.roots, self.alloc, &key, kind)? {
+        let before = self.roots.len();
+        let fresh = put_row(&mut self.roots, &mut self.zeros, self.alloc, &key, kind)?;
+        self.hints
+            .grown(self.alloc, &self.roots, before, root_of(&key));
+        if fresh {
             self.count += 1;
         }
         Ok(())
@@ -82,7 +97,10 @@ impl PolicyTrie {
         ensures there { result ≡ map.contains_key self.old key.now }
         ensures rest { self.new ≡ map.remove self.old key.now }
     {
-        let there = clear_key(&mut self.roots, key);
+        let before = self.roots.len();
+        let last = last_root(&self.roots);
+        let there = clear_row(&mut self.roots, &mut self.zeros, key);
+        self.hints.shrunk(&self.roots, before, last);
         if there {
             self.count -= 1;
         }
@@ -121,8 +139,23 @@ impl PolicyTrie {
         ensures forward { steps.old ≤ steps.new }
         ensures cost { steps.new ≤ steps.old + 36 }
     {
-        let own = longest(&self.roots, Root { dir, id }, proto, port, steps);
-        let every = longest(&self.roots, Root { dir, id: 0 }, proto, port, steps);
+        let own = longest(
+            &self.roots,
+            &self.hints,
+            Root { dir, id },
+            proto,
+            port,
+            steps,
+        );
+        let every = longest_of_zero(
+            &self.roots,
+            &self.hints,
+            self.zeros,
+            dir,
+            proto,
+            port,
+            steps,
+        );
         word_of(own, every)
     }
 }

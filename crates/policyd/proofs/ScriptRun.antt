@@ -1,5 +1,5 @@
 -- What is printed for a script is a run of the policy machine.
-use Rattle.std.proofs.Common.{◌≡◌, ℕ, Bool, List, length, map, Option, ap, sym, ◌∙◌, subst}
+use Rattle.std.proofs.Common.{◌≡◌, ℕ, ◌^◌, ◌<◌, ◌≤◌, Bool, true, false, not, ◌||◌, nat_lt, List, length, map, Option, IsTrue, refl, ap, sym, ◌∙◌, subst, arith, ltb-false}
 use Rattle.std.specs.Prelude.{if◌then◌else◌}
 use Rattle.std.specs.List.{list_any, zip}
 use Rattle.std.specs.Io.KnownBytes.{Appends}
@@ -12,7 +12,9 @@ use Rattle.pol_script.specs.Lines.{lines_of}
 use Rattle.pol_script.specs.Reading.{reading_of}
 use Rattle.pol_run.specs.Run.{IsRun, IsRunOf, is_marked}
 use Rattle.pol_run.specs.Spots.{Reading, spots_of}
+use Rattle.pol_run.proofs.ToldHistory.{run_history_told}
 use Rattle.policyd.specs.Headline.{WritesRun, WritesPartOfRun}
+use Rattle.policyd.specs.Script.{fits_limits, input_max, lines_max}
 
 -- lines that were read, played and printed
 pub printed_run : (options : Options) (script text : List ℕ) (readings : List Reading) (answers : List Answer) (marked : Bool)
@@ -26,14 +28,23 @@ printed_run options script text readings answers marked read one_each run printe
   status = ap (λ (b : Bool). if b then 1 else 0) marks;
 }
 
+-- a script within the limits has few lines
+few_lines : (long many : Bool) (n : ℕ) → nat_lt lines_max n ≡ many → not (long || many) ≡ true → n < 2 ^ 64
+few_lines false false n is within = let few : n ≤ lines_max = ltb-false lines_max n is in omega (arith, few)
+few_lines false true n is within = absurd cc
+few_lines true many n is within = absurd cc
+
 module _ (options : Options) (old new : Option (List ℕ)) (script text : List ℕ) (status : ℕ) (run : IsRunOf options script text status) where
   -- all answers were written
-  pub writes_run : (ended : ℕ) → ended ≡ status → Appends old new text → WritesRun options old new script ended
-  writes_run ended same written = record {
-    text = text;
-    run = subst (λ (s : ℕ). IsRunOf options script text s) (sym same) run;
-    written = written;
-  }
+  pub writes_run : (ended : ℕ) → IsTrue (fits_limits script) → ended ≡ status → Appends old new text → WritesRun options old new script ended
+  writes_run ended within same written =
+      let few = few_lines (nat_lt input_max (length script)) (nat_lt lines_max (length (lines_of script))) (length (lines_of script)) refl within in
+      record {
+        text = text;
+        run = subst (λ (s : ℕ). IsRunOf options script text s) (sym same) run;
+        history = λ other. run_history_told options script text ended other few;
+        written = written;
+      }
 
   -- some of them were
   pub writes_part : AppendsPart old new text → WritesPartOfRun options old new script

@@ -1,6 +1,6 @@
 //! The lines of a script are played: answered one after another. Another way to play takes the place of this file,
 //! under the same contract of `play_lines`.
-ghost use Rattle.std.specs.Prelude.{◌≡◌, ℕ, None, length, IfOk};
+ghost use Rattle.std.specs.Prelude.{◌≡◌, ℕ, None, [], length, IfOk};
 ghost use Rattle.std.specs.List.{zip};
 ghost use Rattle.pol_gen.specs.Generated.{generated};
 ghost use Rattle.pol_run.specs.Run.{IsRun, readings_of};
@@ -12,7 +12,7 @@ use crate::line::{Reading, answer_line, next_phase};
 use pol_answer::Answer;
 use pol_data::Memory;
 use pol_model::Options;
-use pol_plain::Plain;
+use pol_repo::Repo;
 use std::alloc::Global;
 
 /// Plays lines whose maps have no limit: one answer each, and the lines with their answers are a run of the policy
@@ -37,14 +37,28 @@ fn answers_in_order(
     options: Options,
     readings: Vec<Reading>,
 ) -> Result<Vec<Answer>, Memory>
+    requires { options.map_max ≡ None }
     ensures { IfOk result (λ answers. answers.items ≡ serial_answers options readings.items) }
 {
-    let mut plain = Plain::new(alloc, options)?;
+    let mut repo = Repo::new(alloc, options.mode, options.localhost)?;
+    answers_over(alloc, &mut repo, readings)
+}
+
+// The answers to the lines, in order, over a repository without a request.
+fn answers_over(
+    alloc: Global,
+    repo: &mut Repo,
+    readings: Vec<Reading>,
+) -> Result<Vec<Answer>, Memory>
+    requires first { repo.old.journal ≡ [] }
+    requires idle { repo.old.readied ≡ None }
+    ensures answers { IfOk result (λ answers. answers.items ≡ serial_answers repo.old.options readings.items) }
+{
     let mut phase = 1u64;
     let mut answers = Vec::with_capacity(alloc, readings.len())?;
     for reading in readings {
         let next = next_phase(phase, &reading);
-        answers.push(answer_line(alloc, &mut plain, phase, reading)?)?;
+        answers.push(answer_line(alloc, repo, phase, reading)?)?;
         phase = next;
     }
     Ok(answers)

@@ -84,7 +84,8 @@ fn script_of<S: Source>(alloc: Global, source: &mut S) -> Result<Vec<u8>, Status
 // Answers a script.
 #[tactic(auto, using(crate::proofs::ScriptRun::writes_run, crate::proofs::ScriptRun::writes_part))]
 fn answer_script<K: Sink>(alloc: Global, options: Options, script: &[u8], sink: &mut K) -> Status
-    requires { options.map_max ≡ None }
+    requires no_limit { options.map_max ≡ None }
+    requires within { IsTrue (fits_limits script.now) }
     ensures end { IsTrue (has_read_all result) ⊎ (result ≡ Status.Memory) }
     ensures write { result ≡ Status.Write → Rose (K.faults sink.old) (K.faults sink.new) }
     ensures silent { result ≡ Status.Memory → Keeps (K.written sink.old) (K.written sink.new) }

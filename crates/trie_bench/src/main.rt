@@ -95,7 +95,8 @@ fn time_sets<R: Clock + Eprint + AllocGlobal>(rt: &R, trie: &mut PolicyTrie) -> 
     fill(trie)?;
     let nanos = start.elapsed(rt)?.as_nanos() / u128::from(KEYS);
     let count = trie.count();
-    eprintln!(rt; "set: {nanos} ns, {count} keys")?;
+    let nodes = trie.nodes();
+    eprintln!(rt; "set: {nanos} ns, {count} keys, {nodes} nodes")?;
     Ok(())
 }
 

@@ -1,6 +1,7 @@
 -- The laws are lemmas.
-use Rattle.pol_run.proofs.TextHistory.{same_commits, same_history}
+use Rattle.pol_run.proofs.TextHistory.{runs_commit_alike}
+use Rattle.pol_run.proofs.ToldHistory.{run_history_told}
 use Rattle.pol_run.proofs.laws.the_output_tells_the_history.Goals as goal
 
 pub returns : goal.returns
-returns c = record { commits = same_commits; history = same_history }
+returns c = record { commits = runs_commit_alike; history = run_history_told }

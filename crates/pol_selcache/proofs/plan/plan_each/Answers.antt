@@ -10,31 +10,31 @@ use Rattle.pol_selcache.proofs.plan.plan_each.Goals as goal
 
 pub loop-number-init : goal.loop-number-init
 loop-number-init g c = (
-  ap planned_in c.new-changes.ensures.items ∙ sym (ap (changes_for (rows_without c.args.gone.now c.args.identities.now)) (none_yet c.args.table.now)),
+  ap planned_in c.in_ok-changes.ensures.items ∙ sym (ap (changes_for (rows_without c.args.gone.now c.args.identities.now)) (none_yet c.args.table.now)),
   omega arith,
 )
 
 pub plan_one-requires : goal.plan_one-requires
 plan_one-requires g c = record {
-  moving = every_at (λ (s : Live). Moving c.args.identities.now c.args.come.now c.args.gone.now s.peer s.set) c.args.table.now c.place_of.result (live_of (c.at.result.0.now, c.at.result.1.now)) c.requires.moving c.at.ensures.at;
+  moving = every_at (λ (s : Live). Moving c.args.identities.now c.args.come.now c.args.gone.now s.peer s.set) c.args.table.now c.place_near-place.result (live_of (c.at.result.0.now, c.at.result.1.now)) c.requires.moving c.at.ensures.at;
 }
 
 pub returns-in_err-change-clause-cost : goal.returns-in_err-change-clause-cost
 returns-in_err-change-clause-cost g c =
     let within : c.loop-number.number-index < length c.args.tried.now = omega arith in
-    let known = known_trying c.args.tried.now c.args.table.now c.loop-number.number-index c.place_of.result (live_of (c.at.result.0.now, c.at.result.1.now)) within c.requires.ascend c.place_of.ensures.sound c.place_of.ensures.place c.at.ensures.at in
+    let known = known_trying c.args.tried.now c.args.table.now c.loop-number.number-index c.place_near-place.result (live_of (c.at.result.0.now, c.at.result.1.now)) within c.requires.ascend c.place_near-place.ensures.sound c.place_near-place.ensures.place c.at.ensures.at in
     cost_tried_all _ _ _ _ _ known _ _ _ _ c.loop-number.invariant.1 c.plan_one.ensures.cost
 
 pub returns-in_err-push_some-clause-cost : goal.returns-in_err-push_some-clause-cost
 returns-in_err-push_some-clause-cost g c =
     let within : c.loop-number.number-index < length c.args.tried.now = omega arith in
-    let known = known_trying c.args.tried.now c.args.table.now c.loop-number.number-index c.place_of.result (live_of (c.at.result.0.now, c.at.result.1.now)) within c.requires.ascend c.place_of.ensures.sound c.place_of.ensures.place c.at.ensures.at in
+    let known = known_trying c.args.tried.now c.args.table.now c.loop-number.number-index c.place_near-place.result (live_of (c.at.result.0.now, c.at.result.1.now)) within c.requires.ascend c.place_near-place.ensures.sound c.place_near-place.ensures.place c.at.ensures.at in
     cost_tried_all _ _ _ _ _ known _ _ _ _ c.loop-number.invariant.1 c.plan_one.ensures.cost
 
 pub loop-number-preserved : goal.loop-number-preserved
 loop-number-preserved g c =
     let within : c.loop-number.number-index < length c.args.tried.now = omega arith in
-    let known = known_trying c.args.tried.now c.args.table.now c.loop-number.number-index c.place_of.result (live_of (c.at.result.0.now, c.at.result.1.now)) within c.requires.ascend c.place_of.ensures.sound c.place_of.ensures.place c.at.ensures.at in (
+    let known = known_trying c.args.tried.now c.args.table.now c.loop-number.number-index c.place_near-place.result (live_of (c.at.result.0.now, c.at.result.1.now)) within c.requires.ascend c.place_near-place.ensures.sound c.place_near-place.ensures.place c.at.ensures.at in (
       c.in_ok-push_some.ensures.pushed
           ∙ (λ i. c.loop-number.invariant.0 i ++ cons_option (c.in_ok-change.ensures.change i) [])
           ∙ sym (tried_so_far _ _ _ _ _ known (rows_without c.args.gone.now c.args.identities.now)),

@@ -1,10 +1,9 @@
-use Rattle.std.proofs.Common.{◌≡◌, ◌&&◌, ◌||◌, not, ℕ, List, Option, Some, filter, ap, sym, ◌∙◌}
+use Rattle.std.proofs.Common.{◌≡◌, ◌&&◌, ◌||◌, not, filter, ap, sym, ◌∙◌}
 use Rattle.std.specs.Arc.{arc_value}
 use Rattle.pol_model.specs.Selects.{set_at}
 use Rattle.pol_changes.specs.Ids.{has}
 use Rattle.pol_selcache.specs.Inside.{live_of}
 use Rattle.pol_selcache.specs.Live.{rows_without}
-use Rattle.pol_selcache.specs.Plan.{Planned}
 use Rattle.pol_selcache.proofs.Moves.{gained_is, lost_is, moved_is}
 use Rattle.pol_selcache.proofs.Planning.{moves, stands}
 use Rattle.pol_selcache.proofs.plan.plan_one.Goals as goal
@@ -30,12 +29,10 @@ returns-clause-change g c =
     let set = arc_value c.args.row.now.set in
     let gained = c.in_ok-gained.ensures.selected in
     let lost = c.in_ok-lost.ensures ∙ ap (λ s. filter (λ m. has m s) gone) c.deref.ensures in
-    let next : c.in_ok-set.set ≡ set_at (rows_without gone rows) p =
-    moved_is rows p come gone set c.requires.moving c.in_ok-set.set c.in_ok-set.ensures.set.ascends
-    (λ n. c.in_ok-set.ensures.members n ∙ (λ i. (has n (c.deref-2.ensures i) && not (has n (lost i))) || has n (gained i))) in
-    let give : List ℕ → List ℕ → List ℕ → Option Planned = λ g l n. Some (record { selector = c.args.row.now.number; gained = g; lost = l; set = n }) in
-    (λ i. give (c.gained.view_is i) (c.lost.view_is i) (c.in_ok-new.ensures.ok i))
-    ∙ moves (set_at (rows_without gone rows) p) (live_of (p, c.args.row.now)) c.in_ok-gained.gained c.in_ok-lost.lost
+    let next : arc_value c.in_ok-set.set ≡ set_at (rows_without gone rows) p =
+    moved_is rows p come gone set c.requires.moving (arc_value c.in_ok-set.set) c.in_ok-set.ensures.made.set.ascends
+    (λ n. c.in_ok-set.ensures.made.members n ∙ (λ i. (has n set && not (has n (lost i))) || has n (gained i))) in
+    moves (set_at (rows_without gone rows) p) (live_of (p, c.args.row.now)) c.in_ok-gained.gained c.in_ok-lost.lost
     (gained ∙ gained_is rows p come gone set c.requires.moving)
     (lost ∙ lost_is rows p come gone set c.requires.moving)
-    (sym c.is_still.ensures ∙ c.if-is_still.false) c.in_ok-set.set next
+    (sym c.is_still.ensures ∙ c.if-is_still.false) (arc_value c.in_ok-set.set) next

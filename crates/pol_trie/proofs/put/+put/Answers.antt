@@ -11,7 +11,7 @@ use Rattle.pol_trie.proofs.Calls.{well_here, room_here, well_of, used_here, room
 use Rattle.pol_trie.proofs.put.+put.Goals as goal
 
 pub add-requires : goal.add-requires
-add-requires t c = (let two = room_at_none c.args.nodes.now c.args.at c.args.port c.in_default.is c.requires in record { spare = omega arith })
+add-requires t c = (let two = room_at_none c.args.nodes.now c.args.at c.args.port c.in_default.is c.requires in record { spare = omega arith; below = tt; other = tt })
 
 pub returns-in_default : goal.returns-in_default
 returns-in_default t c = λ x lo hi len h takes.
@@ -63,6 +63,23 @@ put-below-requires t c =
       subst R (sym c.child.ensures) (room_below p i n c.args.port high there room (sym c.contains.ensures ∙ c.if-not-contains.false) (sym c.same.ensures ∙ c.if-same.false) c.is_upper-high.ensures),
     )
 
+pub link_fits-requires : goal.link_fits-requires
+link_fits-requires t c =
+    let p = c.args.nodes.now in
+    let i = c.in-Some.i in
+    let n = c.get.result.now in
+    let port = c.args.port in
+    let high = c.is_upper-high.result in
+    let there = c.get.ensures.value in
+    let room = room_here p c.args.at i port c.in-Some.is c.requires in
+    let b = below_of p i n high room.tree room.lo room.hi room.len there room.holds in
+    let from = half_lo n.port high in
+    let to = half_hi n.port high in
+    let P : Option ℕ → Type 0 = λ o. Holds p o b.below from to (n.port.len + 1) in
+    let takes = takes_below n port high c.is_upper-high.ensures (sym c.contains.ensures ∙ c.if-not-contains.false) (sym c.same.ensures ∙ c.if-same.false) in
+    let done = c.put-below.ensures b.below from to (n.port.len + 1) (subst P (sym c.child.ensures) b.holds) takes in
+    record { tree = done.tree; lo = from; hi = to; len = n.port.len + 1; holds = done.holds }
+
 pub link-requires : goal.link-requires
 link-requires t c =
     let p = c.args.nodes.now in
@@ -78,7 +95,7 @@ link-requires t c =
     let P : Option ℕ → Type 0 = λ o. Holds p o b.below from to (n.port.len + 1) in
     let takes = takes_below n port high c.is_upper-high.ensures (sym c.contains.ensures ∙ c.if-not-contains.false) (sym c.same.ensures ∙ c.if-same.false) in
     let done = c.put-below.ensures b.below from to (n.port.len + 1) (subst P (sym c.child.ensures) b.holds) takes in
-    record { in_use = ap is_some (done.others i n there (not_below n.port from to)) }
+    record { in_use = ap is_some (done.others i n there (not_below n.port from to)); fits = c.link_fits.ensures }
 
 pub returns : goal.returns
 returns t c = λ x lo hi len h takes.

@@ -10,7 +10,7 @@ returns-in-Some-clause-kind g c =
     let es = c.args.roots.now.entries in
     let root = c.args.root in
     let s = c.in-Some.keys.now in
-    let there : lookup (same_root root) es ≡ Some s = sym c.in-Some.ensures.value in
+    let there : lookup (same_root root) es ≡ Some s = sym c.in-Some.ensures in
     let below : c.args.port < 2 ^ 16 = omega (arith, c.ranges.port.fits) in
     found_longest (policy_of es) root.dir root.id c.args.proto c.args.port s (kinds_in es c.requires root s there) below c.longest.result c.longest.ensures.kind
 
@@ -18,4 +18,4 @@ pub returns-in-None-clause-kind : goal.returns-in-None-clause-kind
 returns-in-None-clause-kind g c =
     let es = c.args.roots.now.entries in
     let root = c.args.root in
-    missed_longest (policy_of es) root.dir root.id c.args.proto c.args.port (none_in es c.requires root (sym c.in-None.ensures.value))
+    missed_longest (policy_of es) root.dir root.id c.args.proto c.args.port (none_in es c.requires root (sym c.in-None.ensures))

@@ -66,6 +66,21 @@ take-below-requires t c =
     let W : Option ℕ → Type 0 = λ o. IsWell p o in
     (rw c.child.ensures (omega (arith, less', c.decreases)), subst W (sym c.child.ensures) (well_below p i n high there well))
 
+pub link_fits-requires : goal.link_fits-requires
+link_fits-requires t c =
+    let p = c.args.nodes.now in
+    let i = c.in_ok-i.i in
+    let n = c.get.result.now in
+    let high = c.is_upper-high.result in
+    let there = c.get.ensures.value in
+    let w = well_here p c.args.at i c.in_ok-i.was c.requires in
+    let b = below_of p i n high w.tree w.lo w.hi w.len there w.holds in
+    let from = half_lo n.port high in
+    let to = half_hi n.port high in
+    let P : Option ℕ → Type 0 = λ o. Holds p o b.below from to (n.port.len + 1) in
+    let done = c.take-below.ensures b.below from to (n.port.len + 1) (subst P (sym c.child.ensures) b.holds) in
+    record { tree = done.tree; lo = from; hi = to; len = n.port.len + 1; holds = done.holds }
+
 pub link-requires : goal.link-requires
 link-requires t c =
     let p = c.args.nodes.now in
@@ -79,7 +94,7 @@ link-requires t c =
     let to = half_hi n.port high in
     let P : Option ℕ → Type 0 = λ o. Holds p o b.below from to (n.port.len + 1) in
     let done = c.take-below.ensures b.below from to (n.port.len + 1) (subst P (sym c.child.ensures) b.holds) in
-    record { in_use = ap is_some (done.others i n there (not_below n.port from to)) }
+    record { in_use = ap is_some (done.others i n there (not_below n.port from to)); fits = c.link_fits.ensures }
 
 pub settle-requires-2 : goal.settle-requires-2
 settle-requires-2 t c =

@@ -29,7 +29,7 @@ loop-change-preserved c =
       tt,
       tt,
       omega (arith, steps.1, counted, longer),
-      goes_on c.args.revision _ _ c.in-Some.change _ _ _ steps.0 c.carry_one.ensures.carried c.carry_one.ensures.sound going.3,
+      goes_on c.args.revision _ _ c.in-Some.change _ _ _ steps.0 c.carry_one-near.ensures.carried c.carry_one-near.ensures.sound going.3,
     )
 
 pub returns-clause-carried : goal.returns-clause-carried

@@ -7,8 +7,8 @@ use Rattle.pol_selcache.proofs.LiveLists.{set_keeps}
 use Rattle.pol_selcache.proofs.Places.{At, write_at}
 use Rattle.pol_selcache.proofs.table.Table.put_set.Goals as goal
 
-known : (c : goal.After-drop-index_mut) → At c.self.inside.rows.entries c.args.self.now c.place_of-place.result c.args.number c.index_mut.result.now
-known c = record { is = c.self.view_is; are = c.self.invariant.live; place = c.place_of-place.ensures.place; row = c.index_mut.ensures.value }
+known : (c : goal.After-drop-index_mut) → At c.self.inside.rows.entries c.args.self.now c.place_near-place.result c.args.number c.index_mut.result.now
+known c = record { is = c.self.view_is; are = c.self.invariant.live; place = c.place_near-place.ensures.place; row = c.index_mut.ensures.value }
 
 pub invariant_of-self : goal.invariant_of-self
 invariant_of-self c =

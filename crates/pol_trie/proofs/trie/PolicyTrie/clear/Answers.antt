@@ -29,18 +29,18 @@ some_there m k there =
 pub overflow_sub-self : goal.overflow_sub-self
 overflow_sub-self c =
     let m = policy_of c.self.inside.roots.entries in
-    omega (arith, c.self.invariant.1, some_there m c.args.key.now (sym c.clear_key-there.ensures.there ∙ c.if-there.true))
+    omega (arith, c.self.invariant.1, some_there m c.args.key.now (sym c.clear_row-there.ensures.there ∙ c.if-there.true))
 
 pub invariant_of-self : goal.invariant_of-self
 invariant_of-self c =
     let m = policy_of c.self.inside.roots.entries in
     let k = c.args.key.now in
-    let less = picked (map.contains_key m k) (map.len m - 1) (map.len m) (sym c.clear_key-there.ensures.there ∙ c.if-there.true) in
-    (c.clear_key-there.ensures.unique, ap (λ n. n - 1) c.self.invariant.1 ∙ sym (ap map.len c.clear_key-there.ensures.rest ∙ map.len-remove key_cmp_total m k ∙ less))
+    let less = picked (map.contains_key m k) (map.len m - 1) (map.len m) (sym c.clear_row-there.ensures.there ∙ c.if-there.true) in
+    (c.clear_row-there.ensures.unique, ap (λ n. n - 1) c.self.invariant.1 ∙ sym (ap map.len c.clear_row-there.ensures.rest ∙ map.len-remove key_cmp_total m k ∙ less), c.clear_row-there.ensures.zeros)
 
 pub invariant_of-self-else-there : goal.invariant_of-self-else-there
 invariant_of-self-else-there c =
     let m = policy_of c.self.inside.roots.entries in
     let k = c.args.key.now in
-    let same = left (map.contains_key m k) (map.len m - 1) (map.len m) (sym c.clear_key-there.ensures.there ∙ c.if-there.false) in
-    (c.clear_key-there.ensures.unique, c.self.invariant.1 ∙ sym (ap map.len c.clear_key-there.ensures.rest ∙ map.len-remove key_cmp_total m k ∙ same))
+    let same = left (map.contains_key m k) (map.len m - 1) (map.len m) (sym c.clear_row-there.ensures.there ∙ c.if-there.false) in
+    (c.clear_row-there.ensures.unique, c.self.invariant.1 ∙ sym (ap map.len c.clear_row-there.ensures.rest ∙ map.len-remove key_cmp_total m k ∙ same), c.clear_row-there.ensures.zeros)

@@ -6,7 +6,7 @@ use Rattle.pol_trie.proofs.RootCalls.{policy_of-none}
 use Rattle.pol_trie.proofs.trie.PolicyTrie.new.Goals as goal
 
 pub invariant_of-result : goal.invariant_of-result
-invariant_of-result c = (c.new.ensures.unique, sym (ap map.len (policy_of-none c.new.result.entries c.new.ensures.empty) ∙ map.len-empty key_cmp Kind))
+invariant_of-result c = (c.new-roots.ensures.unique, sym (ap map.len (policy_of-none c.new-roots.result.entries c.new-roots.ensures.empty) ∙ map.len-empty key_cmp Kind), c.of-zeros.ensures)
 
 pub returns : goal.returns
-returns c = policy_of-none c.new.result.entries c.new.ensures.empty
+returns c = policy_of-none c.new-roots.result.entries c.new-roots.ensures.empty

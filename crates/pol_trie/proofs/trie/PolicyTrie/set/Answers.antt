@@ -13,16 +13,16 @@ as_long : (o : Option Kind) (n : ℕ) → false ≡ is_none o → cond (is_some 
 as_long None n e = cc
 as_long (Some k) n e = refl
 
-pub invariant_of-self-then-branch : goal.invariant_of-self-then-branch
-invariant_of-self-then-branch c =
+pub invariant_of-self-then-fresh : goal.invariant_of-self-then-fresh
+invariant_of-self-then-fresh c =
     let m = policy_of c.self.inside.roots.entries in
     let k = c.args.key in
-    let more = longer (map.get m k) (map.len m) (sym c.if-branch.true ∙ c.in_ok-put_key.ensures.fresh) in
-    (c.put_key.ensures.unique, ap (λ n. n + 1) c.self.invariant.1 ∙ sym (ap map.len c.in_ok-put_key.ensures.ok ∙ map.len-insert key_cmp_total m k c.args.kind ∙ more))
+    let more = longer (map.get m k) (map.len m) (sym c.if-fresh.true ∙ c.in_ok-fresh.ensures.fresh) in
+    (c.put_row.ensures.unique, ap (λ n. n + 1) c.self.invariant.1 ∙ sym (ap map.len c.in_ok-fresh.ensures.ok ∙ map.len-insert key_cmp_total m k c.args.kind ∙ more), c.put_row.ensures.zeros)
 
-pub invariant_of-self-else-branch : goal.invariant_of-self-else-branch
-invariant_of-self-else-branch c =
+pub invariant_of-self-else-fresh : goal.invariant_of-self-else-fresh
+invariant_of-self-else-fresh c =
     let m = policy_of c.self.inside.roots.entries in
     let k = c.args.key in
-    let same = as_long (map.get m k) (map.len m) (sym c.if-branch.false ∙ c.in_ok-put_key.ensures.fresh) in
-    (c.put_key.ensures.unique, c.self.invariant.1 ∙ sym (ap map.len c.in_ok-put_key.ensures.ok ∙ map.len-insert key_cmp_total m k c.args.kind ∙ same))
+    let same = as_long (map.get m k) (map.len m) (sym c.if-fresh.false ∙ c.in_ok-fresh.ensures.fresh) in
+    (c.put_row.ensures.unique, c.self.invariant.1 ∙ sym (ap map.len c.in_ok-fresh.ensures.ok ∙ map.len-insert key_cmp_total m k c.args.kind ∙ same), c.put_row.ensures.zeros)

@@ -1,9 +1,0 @@
-pub mod Added
-pub mod Counts
-pub mod Free
-pub mod Gains
-pub mod Held
-pub mod Locals
-pub mod Nearest
-pub mod Placed
-pub mod Room

@@ -1,0 +1,228 @@
+-- What the parts of a repository tell of its state, and of the request that is prepared.
+use Rattle.std.proofs.Common.{◌≡◌, ℕ, ◌==◌, ◌-◌, ◌<◌, ◌^◌, ◌++◌, ◌&&◌, not, List, [], ◌∷◌, Option, None, Some, option_map, refl, sym, ap, ◌∙◌, subst}
+use Rattle.std.specs.Prelude.{Ok, Err, ◌≤◌}
+use Rattle.std.specs.Option.{option_map_or}
+use Rattle.pol_labels.specs.declared.label.Label.{Label}
+use Rattle.pol_model.specs.declared.options.Options.{Options}
+use Rattle.pol_model.specs.declared.request.Request.{Request}
+use Rattle.pol_model.specs.declared.request.Request.TheVariants.{AddEndpoint, RemoveEndpoint, AddIdentity, RemoveIdentity, Apply, Remove, SetMode}
+use Rattle.pol_model.specs.declared.row.IdentityRow.{IdentityRow}
+use Rattle.pol_model.specs.declared.answer.CommitError.{CommitError}
+use Rattle.pol_model.specs.declared.answer.CommitError.TheVariants.{Refused}
+use Rattle.pol_model.specs.declared.answer.Committed.{Committed}
+use Rattle.pol_model.specs.declared.answer.Fault.{Fault}
+use Rattle.pol_model.specs.After.{after, state_of, start}
+use Rattle.pol_model.specs.Commits.{Commits}
+use Rattle.pol_model.specs.Committed.{committed_of}
+use Rattle.pol_model.specs.Fault.{fault_of}
+use Rattle.pol_labels.specs.Same.{same_labels}
+use Rattle.pol_model.specs.declared.limits.TheConstants.{CLUSTER_FIRST}
+use Rattle.pol_model.specs.Identities.{free_number, is_local, labels_held, number_for}
+use Rattle.pol_model.specs.State.{State}
+use Rattle.pol_model.proofs.AscendingStates.{RowsAscend}
+use Rattle.pol_facts.specs.Holding.{rows_taken}
+use Rattle.pol_facts.specs.Keeps.{Keeps}
+use Rattle.pol_facts.specs.WithoutFaults.{MayCommit}
+use Rattle.pol_facts.proofs.HoldingLaws.{held_has, labels_row_is}
+use Rattle.pol_facts.proofs.KeepsAll.{state_keeps}
+use Rattle.pol_facts.proofs.Lives.{after_append}
+use Rattle.pol_facts.proofs.Membership.{found-some}
+use Rattle.pol_facts.proofs.StateLaws.{commits-more}
+use Rattle.pol_store.specs.declared.readied.Readied.{Readied}
+use Rattle.pol_store.specs.declared.error.ReadyError.{ReadyError}
+use Rattle.pol_store.specs.declared.error.ReadyError.TheVariants.{Fault as WithFault}
+use Rattle.pol_store.specs.Readied.{CanBeDone, IsCause as ReadyCause, IsReadied, ReadiesOrNot, TakesBack, change_for}
+use Rattle.pol_store.specs.Store.{IsSettled, StandsFor, Stored}
+use Rattle.pol_selcache.specs.Live.{AreLive, label_selectors}
+use Rattle.pol_repo.specs.Causes.{IsCause}
+use Rattle.pol_repo.specs.Cost.{label_peers}
+use Rattle.pol_repo.specs.Inside.{IsPrepared, IsSound, labels_of, request_of, seen_as}
+use Rattle.pol_repo.specs.Repository.{Repository, state_in}
+use Rattle.pol_repo.proofs.LabelPeers.{selectors_few}
+
+-- ---- the request that is readied is told by its change and the rows
+labels_told : (labels : List Label) (rows : List IdentityRow) → RowsAscend rows → labels_of (number_for labels rows) (labels_held labels rows) ≡ labels
+labels_told labels rows ascend =
+    let found = found-some (λ row. row.number == number_for labels rows) (labels_held labels rows) (held_has (λ row. not (is_local row.number) && same_labels row.labels labels) (record { number = free_number CLUSTER_FIRST rows; labels = labels; prefix = None; holders = 1 }) rows) in
+    ap (λ (o : Option IdentityRow). option_map_or (λ row. row.labels) o []) found.1
+    ∙ labels_row_is labels rows ascend found.0 found.1
+
+module _ (s : State) (keeps : Keeps s) where
+  request_told : (request : Request) → request_of (rows_taken s request) (change_for s request) ≡ request
+  request_told (AddEndpoint name labels address) = refl
+  request_told (RemoveEndpoint name) = refl
+  request_told (AddIdentity name labels) = ap (λ (held : List Label). AddIdentity name held) (labels_told labels s.identities keeps.identities.numbers)
+  request_told (RemoveIdentity name) = refl
+  request_told (Apply policy) = refl
+  request_told (Remove key) = refl
+  request_told (SetMode mode) = refl
+
+  pub request_is : (request : Request) (stored : Stored) (readied : Readied) → IsReadied s request stored readied → request_of stored.state.identities readied.change ≡ request
+  request_is request stored readied is =
+      ap (λ (rows : List IdentityRow). request_of rows readied.change) is.like.identities
+      ∙ ap (λ change. request_of (rows_taken s request) change) is.change
+      ∙ request_told request
+
+-- ---- what the parts are seen as
+no_readied : {X Y : Type 0} (f : X → Y) (o : Option X) → option_map f o ≡ None → o ≡ None
+no_readied f None none = refl
+no_readied f (Some x) none = absurd cc
+
+some_readied : {X Y : Type 0} (f : X → Y) (o : Option X) (y : Y) → option_map f o ≡ Some y → (x : X) × (o ≡ Some x) × (f x ≡ y)
+some_readied f None y some = absurd cc
+some_readied f (Some x) y some = (x, refl, cc)
+
+-- before the first request
+pub starts : (options : Options) (journal : List Request) (len capacity : ℕ) (stored : Stored) → journal ≡ [] → StandsFor (start options) stored → IsSound options journal len capacity stored None
+starts options journal len capacity stored none stands =
+    subst (λ (requests : List Request). IsSound options requests len capacity stored None) (sym none)
+    (record { without_faults = tt; inside = stands })
+
+module _ (options : Options) (journal : List Request) (len capacity : ℕ) (stored : Stored) where
+  revision_of : (readied : Option Readied) → IsSound options journal len capacity stored readied → stored.state.revision ≡ (state_of options journal).revision
+  revision_of None sound = sound.inside.like.revision
+  revision_of (Some readied) sound = sound.inside.is_readied.like.revision
+
+module _ (options : Options) (journal : List Request) (len capacity : ℕ) (stored : Stored) (readied : Option Readied) (self : Repository)
+    (seen : seen_as options journal stored readied ≡ self) (sound : IsSound options journal len capacity stored readied) where
+  present : state_of options journal ≡ state_in self
+  present = ap state_in seen
+
+  pub keeps_now : Keeps (state_of options journal)
+  keeps_now = state_keeps options journal sound.without_faults
+
+  pub revision_is : stored.state.revision ≡ (state_in self).revision
+  revision_is = revision_of options journal len capacity stored readied sound ∙ ap (λ (s : State). s.revision) present
+
+  -- with nothing readied the store stands for the present state
+  module _ (idle : self.readied ≡ None) where
+    pub none_readied : readied ≡ None
+    none_readied = no_readied _ readied (ap (λ (r : Repository). r.readied) seen ∙ idle)
+
+    stands_now : StandsFor (state_of options journal) stored
+    stands_now = let idly : IsSound options journal len capacity stored None = subst (λ (o : Option Readied). IsSound options journal len capacity stored o) none_readied sound in idly.inside
+
+    pub stands : StandsFor (state_in self) stored
+    stands = subst (λ (s : State). StandsFor s stored) present stands_now
+
+    pub settled : IsSettled stored
+    settled = record { state = state_of options journal; keeps = keeps_now; stands = stands_now }
+
+    -- ---- a request is prepared
+    module _ (request : Request) (journal' : List Request) (stored' : Stored) (same : journal' ≡ journal) where
+      pub ready_ok : (readied' : Readied) → ReadiesOrNot request stored stored' (Ok readied') → IsReadied (state_of options journal) request stored' readied'
+      ready_ok readied' readies = (readies (state_of options journal) keeps_now stands_now).0
+
+      pub prepared : (readied' : Readied) (len' capacity' : ℕ) → (state_in self).revision < 2 ^ 64 - 1 → len' < capacity' → ReadiesOrNot request stored stored' (Ok readied')
+          → IsSound options journal' len' capacity' stored' (Some readied')
+      prepared readied' len' capacity' not_last room readies =
+          subst (λ (requests : List Request). IsSound options requests len' capacity' stored' (Some readied')) (sym same)
+          (record { without_faults = sound.without_faults; inside = record { request = request; is_readied = ready_ok readied' readies; not_last = subst (λ (s : State). s.revision < 2 ^ 64 - 1) (sym present) not_last; room = room } })
+
+      pub prepared_seen : (readied' : Readied) → ReadiesOrNot request stored stored' (Ok readied')
+          → seen_as options journal' stored' (Some readied') ≡ record self { readied = Some request }
+      prepared_seen readied' readies =
+          let is = request_is (state_of options journal) keeps_now request stored' readied' (ready_ok readied' readies) in
+          let with : Repository → Repository = λ r. record r { readied = Some request } in
+          (λ i. record { options = options; journal = same i; readied = Some (is i) }) ∙ ap with seen
+
+      pub prepared_no_fault : (readied' : Readied) → ReadiesOrNot request stored stored' (Ok readied') → fault_of (state_in self) request ≡ None
+      prepared_no_fault readied' readies = subst (λ (s : State). fault_of s request ≡ None) present (ready_ok readied' readies).may.no_fault
+
+      pub prepared_done : (readied' : Readied) (done : Committed) → ReadiesOrNot request stored stored' (Ok readied')
+          → ((s : State) (request : Request) → Keeps s → IsReadied s request stored' readied' → done ≡ committed_of (after s request) request)
+          → done ≡ committed_of (after (state_in self) request) request
+      prepared_done readied' done readies answer =
+          subst (λ (s : State). done ≡ committed_of (after s request) request) present (answer (state_of options journal) request keeps_now (ready_ok readied' readies))
+
+      -- it isn't, and all is as before
+      pub refused : (error : ReadyError) (len' capacity' : ℕ) → ReadiesOrNot request stored stored' (Err error) → IsSound options journal' len' capacity' stored' readied
+      refused error len' capacity' readies =
+          subst (λ (requests : List Request). IsSound options requests len' capacity' stored' readied) (sym same)
+          (subst (λ (o : Option Readied). IsSound options journal len' capacity' stored' o) (sym none_readied)
+          (record { without_faults = sound.without_faults; inside = (readies (state_of options journal) keeps_now stands_now).1 }))
+
+      pub refused_seen : seen_as options journal' stored' readied ≡ self
+      refused_seen = subst (λ (o : Option Readied). seen_as options journal stored o ≡ self → seen_as options journal' stored' o ≡ self) (sym none_readied)
+          (λ was. (λ i. record { options = options; journal = same i; readied = None }) ∙ was) seen
+
+      pub prepared_rises : (readied' : Readied) → (state_in self).revision < 2 ^ 64 - 1 → ReadiesOrNot request stored stored' (Ok readied') → stored'.state.revision < 2 ^ 64 - 1
+      prepared_rises readied' not_last readies =
+          subst (λ (n : ℕ). n < 2 ^ 64 - 1) (sym ((ready_ok readied' readies).like.revision ∙ ap (λ (s : State). s.revision) present)) not_last
+
+      pub refused_cause : (error : ReadyError) (fault : Fault) (refusal : CommitError) → error ≡ WithFault fault → refusal ≡ Refused (record { revision = stored'.state.revision; fault = fault })
+          → ReadiesOrNot request stored stored' (Err error) → IsCause (state_in self) request refusal
+      refused_cause error fault refusal is told readies =
+          let given = readies (state_of options journal) keeps_now stands_now in
+          let at : stored'.state.revision ≡ (state_in self).revision = given.1.like.revision ∙ ap (λ (s : State). s.revision) present in
+          let cause : ReadyCause (state_in self) request (WithFault fault) = subst (λ (e : ReadyError). ReadyCause (state_in self) request e) is (subst (λ (s : State). ReadyCause s request error) present given.2) in
+          subst (λ (e : CommitError). IsCause (state_in self) request e) (sym told) (record { fault = cause; revision = at })
+
+    -- ---- what it takes
+    pub few_steps : AreLive stored.cache.live → label_selectors stored.cache.live ≤ label_peers (state_in self).policies
+    few_steps are = selectors_few (state_in self).policies stored.cache.live stands.refs are
+
+  -- ---- the request that is prepared is done, or given up
+  module _ (request : Request) (is_prepared : self.readied ≡ Some request) where
+    given : (one : Readied) × (readied ≡ Some one) × (request_of stored.state.identities one.change ≡ request)
+    given = some_readied _ readied request (ap (λ (r : Repository). r.readied) seen ∙ is_prepared)
+
+    module _ (one : Readied) (is : readied ≡ Some one) where
+      prepared_now : IsPrepared (state_of options journal) len capacity stored one
+      prepared_now = let now : IsSound options journal len capacity stored (Some one) = subst (λ (o : Option Readied). IsSound options journal len capacity stored o) is sound in now.inside
+
+      pub can_be_done : CanBeDone stored one
+      can_be_done = record { state = state_of options journal; keeps = keeps_now; request = prepared_now.request; is_readied = prepared_now.is_readied }
+
+      pub has_room : len < capacity
+      has_room = prepared_now.room
+
+      pub may_rise : stored.state.revision < 2 ^ 64 - 1
+      may_rise = subst (λ (n : ℕ). n < 2 ^ 64 - 1) (sym prepared_now.is_readied.like.revision) prepared_now.not_last
+
+      is_it : prepared_now.request ≡ request
+      is_it =
+          sym (request_is (state_of options journal) keeps_now prepared_now.request stored one prepared_now.is_readied)
+          ∙ some_of (subst (λ (o : Option Readied). option_map (λ r. request_of stored.state.identities r.change) o ≡ Some request) is (ap (λ (r : Repository). r.readied) seen ∙ is_prepared))
+        where
+          some_of : {X : Type 0} {x y : X} → Some x ≡ Some y → x ≡ y
+          some_of e = cc
+
+      readied_now : IsReadied (state_of options journal) request stored one
+      readied_now = subst (λ (r : Request). IsReadied (state_of options journal) r stored one) is_it prepared_now.is_readied
+
+      pub accepted : (journal' : List Request) (stored' : Stored) (len' capacity' : ℕ) (left : Option Readied) → journal' ≡ journal ++ request ∷ [] → left ≡ None
+          → ((s : State) (r : Request) → Keeps s → IsReadied s r stored one → StandsFor (after s r) stored')
+          → IsSound options journal' len' capacity' stored' left
+      accepted journal' stored' len' capacity' left longer none done =
+          subst (λ (o : Option Readied). IsSound options journal' len' capacity' stored' o) (sym none)
+          (subst (λ (requests : List Request). IsSound options requests len' capacity' stored' None) (sym longer)
+          (record {
+            without_faults = (commits-more options journal request).1 (sound.without_faults, readied_now.may);
+            inside = subst (λ (s : State). StandsFor s stored') (sym (after_append (start options) journal (request ∷ []))) (done (state_of options journal) request keeps_now readied_now);
+          }))
+
+      pub accepted_seen : (journal' : List Request) (stored' : Stored) (left : Option Readied) → journal' ≡ journal ++ request ∷ [] → left ≡ None
+          → seen_as options journal' stored' left ≡ record self { journal = self.journal ++ request ∷ []; readied = None }
+      accepted_seen journal' stored' left longer none =
+          let with : Repository → Repository = λ r. record r { journal = r.journal ++ request ∷ []; readied = None } in
+          (λ i. seen_as options (longer i) stored' (none i)) ∙ ap with seen
+
+      pub withdrawn : (stored' : Stored) (left : Option Readied) → left ≡ None → TakesBack stored one stored' → IsSound options journal len capacity stored' left
+      withdrawn stored' left none back =
+          subst (λ (o : Option Readied). IsSound options journal len capacity stored' o) (sym none)
+          (record { without_faults = sound.without_faults; inside = back (state_of options journal) request keeps_now readied_now })
+
+      pub may_commit : MayCommit (state_in self) request
+      may_commit = subst (λ (s : State). MayCommit s request) present readied_now.may
+
+-- ---- what a commit is, from what it was prepared for
+pub commits : (old new : Repository) (request : Request) (done : Committed) → MayCommit (state_in old) request → done ≡ committed_of (after (state_in old) request) request
+    → new ≡ record old { journal = old.journal ++ request ∷ []; readied = None } → Commits (state_in old) (state_in new) request done
+commits old new request done may answer is =
+    let state : state_in new ≡ after (state_in old) request = ap state_in is ∙ after_append (start old.options) old.journal (request ∷ []) in
+    record {
+      no_fault = may.no_fault;
+      state = state;
+      answer = answer ∙ ap (λ (s : State). committed_of s request) (sym state);
+    }

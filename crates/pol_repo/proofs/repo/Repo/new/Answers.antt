@@ -1,0 +1,11 @@
+use Rattle.std.proofs.Common.{None, refl, vec_len}
+use Rattle.std.specs.Vec.{vec_capacity}
+use Rattle.pol_model.specs.declared.options.Options.{Options}
+use Rattle.pol_repo.proofs.Standing.{starts}
+use Rattle.pol_repo.proofs.repo.Repo.new.Goals as goal
+
+pub invariant_of-result : goal.invariant_of-result
+invariant_of-result c =
+    let options : Options = record { mode = c.args.mode; localhost = c.args.localhost; map_max = None } in
+    starts options c.new.result.items (vec_len c.new.result) (vec_capacity c.new.result) c.in_ok-new.field-0 c.new.ensures.items
+    (c.in_ok-new.ensures.start options refl)

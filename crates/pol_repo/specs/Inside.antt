@@ -1,0 +1,58 @@
+-- How the parts of a repository fit together. No public clause cites this module.
+use Rattle.std.specs.Prelude.{ℕ, ◌-◌, ◌<◌, ◌^◌, List, [], Option, None, Some, option_map}
+use Rattle.std.specs.Option.{option_map_or}
+use Rattle.pol_labels.specs.declared.label.Label.{Label}
+use Rattle.pol_model.specs.declared.options.Options.{Options}
+use Rattle.pol_model.specs.declared.request.Request.{Request}
+use Rattle.pol_model.specs.declared.request.Request.TheVariants.{AddEndpoint, RemoveEndpoint, AddIdentity, RemoveIdentity, Apply, Remove, SetMode}
+use Rattle.pol_model.specs.declared.row.IdentityRow.{IdentityRow}
+use Rattle.pol_model.specs.After.{state_of}
+use Rattle.pol_model.specs.State.{State}
+use Rattle.pol_facts.specs.Holding.{row_of}
+use Rattle.pol_facts.specs.WithoutFaults.{WithoutFaults}
+use Rattle.pol_store.specs.declared.readied.Change.{Change}
+use Rattle.pol_store.specs.declared.readied.Change.TheVariants as change
+use Rattle.pol_store.specs.declared.readied.Readied.{Readied}
+use Rattle.pol_store.specs.Readied.{IsReadied}
+use Rattle.pol_store.specs.Store.{StandsFor, Stored}
+use Rattle.pol_repo.specs.Repository.{Repository}
+
+-- the labels of the number's row, none where it has none
+abbrev pub labels_of : ℕ → List IdentityRow → List Label
+labels_of number rows = option_map_or (λ row. row.labels) (row_of number rows) []
+
+-- the request that asks for the change, where these are the rows with what it holds
+abbrev pub request_of : List IdentityRow → Change → Request
+request_of rows (change.Endpoint endpoint name) = AddEndpoint endpoint.name endpoint.labels endpoint.address
+request_of rows (change.NoEndpoint name number) = RemoveEndpoint name
+request_of rows (change.Named name number) = AddIdentity name (labels_of number rows)
+request_of rows (change.NotNamed name number) = RemoveIdentity name
+request_of rows (change.Policy stamped key taken given_up) = Apply stamped.policy
+request_of rows (change.NoPolicy key given_up) = Remove key
+request_of rows (change.Mode mode) = SetMode mode
+
+-- what parts like these are seen as
+abbrev pub seen_as : Options → List Request → Stored → Option Readied → Repository
+seen_as options journal stored readied = record {
+  options = options;
+  journal = journal;
+  readied = option_map (λ readied. request_of stored.state.identities readied.change) readied;
+}
+
+-- Some request is readied in the state, whose revision isn't the last one, and the journal, with so many requests and room
+-- for so many, has room for it.
+pub record IsPrepared (s : State) (len capacity : ℕ) (stored : Stored) (readied : Readied) : Type 0 where
+  pub request : Request
+  pub is_readied : IsReadied s request stored readied
+  pub not_last : s.revision < 2 ^ 64 - 1
+  pub room : len < capacity
+
+-- the store stands for the state, or a request is prepared there
+abbrev pub IsIn : State → (len capacity : ℕ) → Stored → Option Readied → Type 0
+IsIn s len capacity stored None = StandsFor s stored
+IsIn s len capacity stored (Some readied) = IsPrepared s len capacity stored readied
+
+-- the requests so far commit one after another, and the store is in the state that they make
+pub record IsSound (options : Options) (journal : List Request) (len capacity : ℕ) (stored : Stored) (readied : Option Readied) : Type 0 where
+  pub without_faults : WithoutFaults options journal
+  pub inside : IsIn (state_of options journal) len capacity stored readied

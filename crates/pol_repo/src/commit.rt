@@ -1,0 +1,69 @@
+//! What was prepared is accepted, or withdrawn.
+ghost use Rattle.std.specs.Prelude.{◌≡◌, ◌<◌, ◌+◌, ◌-◌, ◌^◌, ◌≤◌, ◌++◌, ◌∷◌, [], None, Some, false, IfErr, IfOk, OnErr, OnOk};
+ghost use Rattle.pol_model.specs.After.{after};
+ghost use Rattle.pol_model.specs.Commits.{Commits};
+ghost use Rattle.pol_model.specs.Committed.{committed_of};
+ghost use Rattle.pol_model.specs.Sizes.{IsShort};
+ghost use Rattle.pol_store.specs.Readied.{is_of_policy};
+ghost use Rattle.pol_repo.specs.Causes.{IsCause};
+ghost use Rattle.pol_repo.specs.Cost.{label_peers};
+ghost use Rattle.pol_repo.specs.Repository.{state_in};
+
+use crate::prepare::Ready;
+use crate::repo::Repo;
+use pol_data::Steps;
+use pol_model::{CommitError, Committed, Request};
+use std::sync::ledger::Ledger;
+
+impl Repo {
+    /// Does the request that was prepared last, and answers it. It takes no memory.
+    pub fn accept(&mut self, ready: Ready) -> Committed
+        requires request { self.old.readied ≡ Some ready.request }
+        requires done { ready.done ≡ committed_of (after (state_in self.old) ready.request) ready.request }
+        ensures committed { Commits (state_in self.old) (state_in self.new) ready.request result }
+        ensures new { self.new ≡ record self.old { journal = self.old.journal ++ ready.request ∷ []; readied = None } }
+    {
+        let Ready { request, done } = ready;
+        match self.readied.take() {
+            Some(readied) => {
+                self.store.carry_out(readied);
+                self.journal.push(request).unwrap();
+                done
+            }
+            // No caller comes here: the request is prepared.
+            None => done,
+        }
+    }
+
+    /// Gives up the request that was prepared last. It takes no memory.
+    pub fn withdraw(&mut self, ready: Ready)
+        requires request { self.old.readied ≡ Some ready.request }
+        ensures new { self.new ≡ record self.old { readied = None } }
+    {
+        match self.readied.take() {
+            Some(readied) => self.store.take_back(readied),
+            // No caller comes here: a request is prepared.
+            None => (),
+        }
+    }
+
+    /// Does the request, if it has no fault, and raises the revision by one. The errors are those of `Repo::prepare`; after
+    /// either all is as before.
+    pub fn commit<L: Ledger>(
+        &mut self,
+        request: Request,
+        steps: &mut Steps<L>,
+    ) -> Result<Committed, CommitError>
+        requires idle { self.old.readied ≡ None }
+        requires room { (state_in self.old).revision < 2 ^ 64 - 1 }
+        requires short { IsShort request }
+        ensures committed { IfOk result (λ done. Commits (state_in self.old) (state_in self.new) request done) }
+        ensures new { OnOk result (self.new ≡ record self.old { journal = self.old.journal ++ request ∷ [] }) }
+        ensures cause { IfErr result (IsCause (state_in self.old) request) }
+        ensures stays { OnErr result (self.new ≡ self.old) }
+        ensures cost { is_of_policy request ≡ false → steps.new ≤ steps.old + label_peers (state_in self.old).policies }
+    {
+        let ready = self.prepare(request, steps)?;
+        Ok(self.accept(ready))
+    }
+}

@@ -1,0 +1,95 @@
+//! Requests are prepared.
+ghost use Rattle.std.specs.Prelude.{◌≡◌, ◌<◌, ◌+◌, ◌-◌, ◌^◌, ◌≤◌, None, Some, false, IfErr, IfOk, OnErr, OnOk, vec_len};
+ghost use Rattle.std.specs.Vec.{vec_capacity};
+ghost use Rattle.pol_model.specs.After.{after};
+ghost use Rattle.pol_model.specs.Committed.{committed_of};
+ghost use Rattle.pol_model.specs.Fault.{fault_of};
+ghost use Rattle.pol_model.specs.Sizes.{IsShort};
+ghost use Rattle.pol_selcache.specs.Live.{label_selectors};
+ghost use Rattle.pol_store.specs.Readied.{ReadiesOrNot, is_of_policy};
+ghost use Rattle.pol_store.specs.Store.{IsSettled};
+ghost use Rattle.pol_repo.specs.Causes.{IsCause};
+ghost use Rattle.pol_repo.specs.Cost.{label_peers};
+ghost use Rattle.pol_repo.specs.Repository.{state_in};
+
+use crate::repo::Repo;
+use pol_data::Steps;
+use pol_model::{CommitError, Committed, Fault, Refused, Request};
+use pol_store::{Readied, ReadyError, Store};
+use std::sync::ledger::Ledger;
+
+/// A request that is prepared, and what it will be answered.
+#[derive(Drop)]
+pub struct Ready {
+    /// The request.
+    pub request: Request,
+    /// Its answer, once it is accepted.
+    pub done: Committed,
+}
+
+// The request is readied, with room in the journal for one more.
+fn ready_in<L: Ledger>(
+    journal: &mut Vec<Request>,
+    store: &mut Store,
+    request: &Request,
+    steps: &mut Steps<L>,
+) -> Result<Readied, ReadyError>
+    requires settled { IsSettled store.old }
+    requires room { store.old.state.revision < 2 ^ 64 - 1 }
+    requires short { IsShort request.now }
+    ensures journal { journal.new.items ≡ journal.old.items }
+    ensures room { OnOk result (vec_len journal.new < vec_capacity journal.new) }
+    ensures readied { ReadiesOrNot request.now store.old store.new result }
+    ensures cost { is_of_policy request.now ≡ false → steps.new ≤ steps.old + label_selectors store.old.cache.live }
+{
+    journal.reserve(1)?;
+    store.ready(request, steps)
+}
+
+// The request has this fault, at the store's revision.
+fn refused(store: &Store, fault: Fault) -> CommitError
+    ensures error { result ≡ CommitError.Refused (record { revision = store.now.state.revision; fault = fault }) }
+{
+    CommitError::Refused(Refused {
+        revision: store.revision(),
+        fault,
+    })
+}
+
+impl Repo {
+    /// Prepares the request: takes the numbers, the references and all the memory that it needs. Journal, revision and
+    /// state stay as they are. Until `Repo::accept` or `Repo::withdraw` takes what is answered, only `Repo::journal` and
+    /// `Repo::revision` may be called.
+    ///
+    /// `Refused` names the first fault of the request, at the present revision. `Memory` is want of memory, or a count of
+    /// 64 bits at its end. After either all is as before.
+    pub fn prepare<L: Ledger>(
+        &mut self,
+        request: Request,
+        steps: &mut Steps<L>,
+    ) -> Result<Ready, CommitError>
+        requires idle { self.old.readied ≡ None }
+        requires room { (state_in self.old).revision < 2 ^ 64 - 1 }
+        requires short { IsShort request }
+        ensures request { IfOk result (λ ready. ready.request ≡ request) }
+        ensures no_fault { OnOk result (fault_of (state_in self.old) request ≡ None) }
+        ensures done { IfOk result (λ ready. ready.done ≡ committed_of (after (state_in self.old) request) request) }
+        ensures readied { OnOk result (self.new ≡ record self.old { readied = Some request }) }
+        ensures cause { IfErr result (IsCause (state_in self.old) request) }
+        ensures stays { OnErr result (self.new ≡ self.old) }
+        // Only a policy may list peers that are new, which are judged by all identities.
+        ensures cost { is_of_policy request ≡ false → steps.new ≤ steps.old + label_peers (state_in self.old).policies }
+    {
+        // The call tells that each selector has a reference, and no two are of one peer.
+        let _horizon = self.store.horizon();
+        match ready_in(&mut self.journal, &mut self.store, &request, steps) {
+            Ok(readied) => {
+                let done = self.store.answer(&readied);
+                self.readied = Some(readied);
+                Ok(Ready { request, done })
+            }
+            Err(ReadyError::Fault(fault)) => Err(refused(&self.store, fault)),
+            Err(ReadyError::Memory) => Err(CommitError::Memory),
+        }
+    }
+}

@@ -1,0 +1,71 @@
+//! The repository, and what is told at any time.
+ghost use Rattle.std.specs.Prelude.{◌≡◌, [], None, IfOk};
+ghost use Rattle.pol_repo.specs.Repository.{state_in};
+
+use pol_data::Memory;
+use pol_model::{Mode, Options, Request};
+use pol_store::{Readied, Store};
+use std::alloc::Global;
+use std::marker::Model;
+
+/// The state that the requests so far have made, under its indexes. Contracts see the options, these requests, and the
+/// request that is prepared, if there is one (`specs/Repository`).
+#[derive(Drop)]
+pub struct Repo {
+    pub(crate) options: Options,
+    pub(crate) journal: Vec<Request>,
+    pub(crate) store: Store,
+    pub(crate) readied: Option<Readied>,
+}
+
+impl Model for Repo {
+    ghost use Rattle.pol_repo.specs.Repository.{Repository};
+
+    ghost Value = { Repository };
+
+    ghost use Rattle.std.specs.Prelude.{vec_len};
+    ghost use Rattle.std.specs.Vec.{vec_capacity};
+    ghost use Rattle.pol_repo.specs.Inside.{IsSound, seen_as};
+
+    ghost view = { λ repo. seen_as repo.options repo.journal.items repo.store repo.readied };
+
+    ghost invariant = { λ repo. IsSound repo.options repo.journal.items (vec_len repo.journal) (vec_capacity repo.journal) repo.store repo.readied };
+}
+
+impl Repo {
+    /// The repository before the first request, with this mode, and with or without leave for the local host (Cilium,
+    /// `--allow-localhost`). Maps have no limit. The one error is want of memory.
+    pub fn new(alloc: Global, mode: Mode, localhost: bool) -> Result<Repo, Memory>
+        ensures start { IfOk result (λ repo. repo ≡ record {
+          options = record { mode = mode; localhost = localhost; map_max = None };
+          journal = [];
+          readied = None;
+        }) }
+    {
+        let options = Options {
+            mode,
+            localhost,
+            map_max: None,
+        };
+        Ok(Repo {
+            options,
+            journal: Vec::new(alloc),
+            store: Store::new(alloc, mode)?,
+            readied: None,
+        })
+    }
+
+    /// The requests so far, in the order in which they were accepted.
+    pub fn journal(&self) -> &[Request]
+        ensures requests { result.now ≡ self.now.journal }
+    {
+        self.journal.as_slice()
+    }
+
+    /// How many requests were accepted so far.
+    pub fn revision(&self) -> u64
+        ensures revision { result ≡ (state_in self.now).revision }
+    {
+        self.store.revision()
+    }
+}

@@ -1,0 +1,208 @@
+-- The names that a line asks for have their forms: an endpoint's name is a name of the script, and a policy's key is one of a
+-- document that is read.
+use Rattle.std.proofs.Common.{◌≡◌, ℕ, Bool, true, false, cond, List, [], ◌∷◌, Option, None, Some, ok_or, option_and_then, Result, Ok, Err, IsTrue, refl, sym, ap, subst, ◌∙◌}
+use Rattle.std.specs.Prelude.{⊤}
+use Rattle.serde_json.specs.Data.{Data}
+use Rattle.serde_json.specs.Find.{as_str}
+use Rattle.pol_addr.specs.declared.address.Addr.{Addr}
+use Rattle.pol_json.proofs.Keys.{key_name, key_namespace, wide_key}
+use Rattle.pol_json.specs.Document.{read_document}
+use Rattle.pol_json.specs.Members.{present}
+use Rattle.pol_json.specs.Texts.{is_dns_name, is_name}
+use Rattle.pol_json.specs.declared.fault.DocFault.{DocFault}
+use Rattle.pol_labels.specs.declared.label.Label.{Label}
+use Rattle.pol_model.specs.declared.request.Remote.{Remote}
+use Rattle.pol_model.specs.declared.request.Request.{Request}
+use Rattle.pol_model.specs.declared.request.Request.TheVariants as request
+use Rattle.pol_ports.specs.declared.Direction.{Direction}
+use Rattle.pol_ports.specs.declared.Proto.{Proto}
+use Rattle.pol_rule.specs.declared.fault.RuleFault.{RuleFault}
+use Rattle.pol_rule.specs.declared.policy.Policy.{Policy}
+use Rattle.pol_rule.specs.declared.policy.PolicyKey.{PolicyKey}
+use Rattle.pol_rule.specs.declared.raw.RawPolicy.{RawPolicy}
+use Rattle.pol_sanitize.proofs.Wholeness.{accepted_whole}
+use Rattle.pol_sanitize.specs.Sanitized.{sanitized_of}
+use Rattle.pol_script.specs.Commands.{address_of, asks, commit, labels_of, make, policy_of, query_from, remote_of}
+use Rattle.pol_script.specs.Forms.{Form, a_name, a_text, texts, anything, a_kind, a_mode, a_direction, a_protocol, whole, read_as}
+use Rattle.pol_script.specs.Members.{Takes, Value, given, known, value_of}
+use Rattle.pol_script.specs.Reading.{object_of, op_of, read_object, read_op, reading_of}
+use Rattle.pol_script.specs.Steps.{◌>>=◌, fault_as, only}
+use Rattle.pol_script.specs.Table.{Need, needed, optional, or_else, Row, names, rows}
+use Rattle.pol_script.specs.declared.command.Command.{Command}
+use Rattle.pol_script.specs.declared.command.Command.TheVariants as command
+use Rattle.pol_script.specs.declared.line_fault.LineFault.{LineFault}
+use Rattle.pol_script.specs.declared.line_fault.LineFault.TheVariants as fault
+use Rattle.pol_script.specs.declared.op.Op.{Op}
+use Rattle.pol_script.specs.declared.op.Op.TheVariants as op
+
+-- ---- the key of a policy
+
+pub record HasKeyForm (key : PolicyKey) : Type 0 where
+  pub name : is_dns_name key.name ≡ true
+  pub namespace : key.cluster_wide ≡ false → is_dns_name key.namespace ≡ true
+  pub wide : key.cluster_wide ≡ true → key.namespace ≡ []
+
+key_read : (d : Data) (raw : RawPolicy) → read_document d ≡ Ok raw → HasKeyForm raw.key
+key_read d raw is = record { name = key_name d raw is; namespace = key_namespace d raw is; wide = wide_key d raw is }
+
+accepted_key : (raw : RawPolicy) (s : Result Policy RuleFault) (policy : Policy) → HasKeyForm raw.key → sanitized_of raw ≡ s
+    → fault_as fault.Rule s ≡ Ok policy → HasKeyForm policy.key
+accepted_key raw (Ok p) policy own accepted is =
+    let same : p ≡ policy = cc in
+    let key : policy.key ≡ raw.key = ap (λ (x : Policy). x.key) (sym same) ∙ (accepted_whole raw p accepted).key in
+    subst HasKeyForm (sym key) own
+accepted_key raw (Err f) policy own accepted is = absurd cc
+
+policy_key : (d : Data) (r : Result RawPolicy DocFault) (policy : Policy) → read_document d ≡ r
+    → (fault_as fault.Doc r >>= λ raw. fault_as fault.Rule (sanitized_of raw)) ≡ Ok policy → HasKeyForm policy.key
+policy_key d (Ok raw) policy reads is = accepted_key raw (sanitized_of raw) policy (key_read d raw reads) refl is
+policy_key d (Err f) policy reads is = absurd cc
+
+-- ---- what the rows of an operation give
+
+abbrev Asked : Type 0
+Asked = Result Command LineFault
+
+-- the names that a request brings have their forms
+abbrev pub BringsNamed : Request → Type 0
+BringsNamed (request.AddEndpoint name labels address) = is_name name ≡ true
+BringsNamed (request.Apply policy) = HasKeyForm policy.key
+BringsNamed other = Unit {0}
+
+abbrev AsksNamed : Command → Type 0
+AsksNamed (command.Commit session asked) = BringsNamed asked
+AsksNamed other = Unit {0}
+
+-- where the line is read, it asks for such names
+abbrev pub IsNamed : Asked → Type 0
+IsNamed (Ok asked) = AsksNamed asked
+IsNamed (Err f) = Unit {0}
+
+-- a name has its form
+abbrev Fits : (need : Need) (shape : Form) → Value need shape → Type 0
+Fits needed a_name value = is_name value ≡ true
+Fits need shape value = Unit {0}
+
+value_fits : (need : Need) (shape : Form) (name : List ℕ) (d : Data) (value : Value need shape) → value_of need shape name d ≡ Ok value → Fits need shape value
+value_fits needed a_name name d value is = by_member (present name d) is
+  where
+    by_text : (b : Bool) (text : List ℕ) → is_name text ≡ b → ok_or (cond b (Some text) None) (fault.BadField name) ≡ Ok value → is_name value ≡ true
+    by_text true text is found = let same : text ≡ value = cc in subst (λ t. is_name t ≡ true) same is
+    by_text false text is found = absurd cc
+
+    by_str : (o : Option (List ℕ)) → ok_or (only is_name o) (fault.BadField name) ≡ Ok value → is_name value ≡ true
+    by_str None found = absurd cc
+    by_str (Some text) found = by_text (is_name text) text refl found
+
+    by_member : (o : Option Data) → ok_or (option_and_then (read_as a_name) o) (fault.BadField name) ≡ Ok value → is_name value ≡ true
+    by_member None found = absurd cc
+    by_member (Some e) found = by_str (as_str e) found
+value_fits needed a_text name d value is = tt
+value_fits needed texts name d value is = tt
+value_fits needed anything name d value is = tt
+value_fits needed a_kind name d value is = tt
+value_fits needed a_mode name d value is = tt
+value_fits needed a_direction name d value is = tt
+value_fits needed a_protocol name d value is = tt
+value_fits needed (whole least greatest) name d value is = tt
+value_fits optional shape name d value is = tt
+value_fits (or_else other) shape name d value is = tt
+
+-- whatever values of their forms the members have, what is made of them is named
+abbrev AllNamed : (table : List Row) → Takes table Asked → Type 0
+AllNamed [] made = IsNamed made
+AllNamed (row ∷ table) make = (value : Value row.need row.form) → Fits row.need row.form value → AllNamed table (make value)
+
+given_value : (row : Row) (table : List Row) (make : Takes (row ∷ table) Asked) (d : Data) (made : Asked) (v : Result (Value row.need row.form) LineFault)
+    → AllNamed (row ∷ table) make → value_of row.need row.form row.name d ≡ v → (v >>= λ value. given table (make value) d) ≡ Ok made
+    → ((value : Value row.need row.form) → AllNamed table (make value) → given table (make value) d ≡ Ok made → IsNamed made) → IsNamed made
+given_value row table make d made (Ok value) all of is more = more value (all value (value_fits row.need row.form row.name d value of)) is
+given_value row table make d made (Err f) all of is more = absurd cc
+
+given_named : (table : List Row) (make : Takes table Asked) (d : Data) (made : Asked) → AllNamed table make → given table make d ≡ Ok made → IsNamed made
+given_named [] make d made all is = let same : make ≡ made = cc in subst IsNamed same all
+given_named (row ∷ table) make d made all is =
+    given_value row table make d made (value_of row.need row.form row.name d) all refl is (λ value. given_named table (make value) d made)
+
+rows_known : (k : Result ⊤ LineFault) (made : Asked) → IsNamed made → IsNamed (k >>= λ _. made)
+rows_known (Ok u) made own = own
+rows_known (Err f) made own = tt
+
+rows_given : (g : Result Asked LineFault) (k : Result ⊤ LineFault) → ((made : Asked) → g ≡ Ok made → IsNamed made) → IsNamed (g >>= λ made. k >>= λ _. made)
+rows_given (Ok made) k own = rows_known k made (own made refl)
+rows_given (Err f) k own = tt
+
+-- ---- the operations
+
+endpoint_named : (name : List ℕ) (session : Option ℕ) (labels : Result (List Label) LineFault) (address : Result Addr LineFault) → is_name name ≡ true
+    → IsNamed (labels >>= λ set. address >>= λ at. Ok (commit session (request.AddEndpoint name set at)))
+endpoint_named name session (Ok set) (Ok at) own = own
+endpoint_named name session (Ok set) (Err f) own = tt
+endpoint_named name session (Err f) address own = tt
+
+identity_named : (name : List ℕ) (session : Option ℕ) (labels : Result (List Label) LineFault)
+    → IsNamed (labels >>= λ set. Ok (commit session (request.AddIdentity name set)))
+identity_named name session (Ok set) = tt
+identity_named name session (Err f) = tt
+
+apply_named : (session : Option ℕ) (p : Result Policy LineFault) → ((policy : Policy) → p ≡ Ok policy → HasKeyForm policy.key)
+    → IsNamed (p >>= λ policy. Ok (commit session (request.Apply policy)))
+apply_named session (Ok policy) own = own policy refl
+apply_named session (Err f) own = tt
+
+query_named : (is_trace : Bool) (endpoint : List ℕ) (dir : Direction) (proto : Proto) (port : ℕ) (session : Option ℕ) (other : Result Remote LineFault)
+    → IsNamed (other >>= λ remote. Ok (asks is_trace session (query_from endpoint dir proto port remote)))
+query_named true endpoint dir proto port session (Ok remote) = tt
+query_named false endpoint dir proto port session (Ok remote) = tt
+query_named is_trace endpoint dir proto port session (Err f) = tt
+
+op_named : (o : Op) → AllNamed (rows o) (make o)
+op_named op.Endpoint = λ name own labels _ address _ session _. endpoint_named name session (labels_of labels) (address_of address) own
+op_named op.RemoveEndpoint = λ name _ session _. tt
+op_named op.Identity = λ name _ labels _ session _. identity_named name session (labels_of labels)
+op_named op.RemoveIdentity = λ name _ session _. tt
+op_named op.Apply = λ document _ session _. apply_named session (policy_of document) (λ policy. policy_key document (read_document document) policy refl)
+op_named op.Delete = λ kind _ namespace _ name _ session _. tt
+op_named op.Mode = λ mode _ session _. tt
+op_named op.Verdict = λ endpoint _ dir _ identity _ address _ proto _ port _ session _.
+    query_named false endpoint dir proto port session (remote_of identity address)
+op_named op.Trace = λ endpoint _ dir _ identity _ address _ proto _ port _ session _.
+    query_named true endpoint dir proto port session (remote_of identity address)
+op_named op.Sync = λ session _. tt
+op_named op.Phase = tt
+
+-- ---- lines
+
+read_op_named : (o : Op) (d : Data) → IsNamed (read_op o d)
+read_op_named o d = rows_given (given (rows o) (make o) d) (known (names (rows o)) d) (λ made. given_named (rows o) (make o) d made (op_named o))
+
+object_named : (d : Data) (o : Result Op LineFault) → IsNamed (o >>= λ x. read_op x d)
+object_named d (Ok o) = read_op_named o d
+object_named d (Err f) = tt
+
+line_named : (o : Result Data LineFault) → IsNamed (o >>= read_object)
+line_named (Ok d) = object_named d (op_of d)
+line_named (Err f) = tt
+
+-- what a line reads as asks for names of their forms
+pub reading_named : (line : List ℕ) → IsNamed (reading_of line)
+reading_named line = line_named (object_of line)
+
+pub asked_named : (line : List ℕ) (session : ℕ) (asked : Request) → reading_of line ≡ Ok (command.Commit session asked) → BringsNamed asked
+asked_named line session asked is = subst IsNamed is (reading_named line)
+
+-- ---- the laws
+
+pub endpoint_name : (line : List ℕ) (session : ℕ) (name : List ℕ) (labels : List Label) (address : Addr)
+    → reading_of line ≡ Ok (command.Commit session (request.AddEndpoint name labels address)) → IsTrue (is_name name)
+endpoint_name line session name labels address is = asked_named line session (request.AddEndpoint name labels address) is
+
+module _ (line : List ℕ) (session : ℕ) (policy : Policy) (is : reading_of line ≡ Ok (command.Commit session (request.Apply policy))) where
+  pub policy_name : IsTrue (is_dns_name policy.key.name)
+  policy_name = (asked_named line session (request.Apply policy) is).name
+
+  pub policy_namespace : policy.key.cluster_wide ≡ false → IsTrue (is_dns_name policy.key.namespace)
+  policy_namespace = (asked_named line session (request.Apply policy) is).namespace
+
+  pub policy_wide : policy.key.cluster_wide ≡ true → policy.key.namespace ≡ []
+  policy_wide = (asked_named line session (request.Apply policy) is).wide

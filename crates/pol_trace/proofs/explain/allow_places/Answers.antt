@@ -1,4 +1,0 @@
-use Rattle.pol_trace.proofs.explain.allow_places.Goals as goal
-
-pub returns : goal.returns
-returns c = rw c.allow_section-section.ensures at c.places_in.ensures

@@ -1,0 +1,11 @@
+use Rattle.std.proofs.Common.{◌∙◌}
+use Rattle.pol_repo.specs.Repository.{state_in}
+use Rattle.pol_trace.proofs.ToldByParts.{word_told}
+use Rattle.pol_trace.proofs.query.judged.Goals as goal
+
+pub returns : goal.returns
+returns c = record {
+  word = c.verdict_at.ensures.word
+      ∙ word_told c.options_of.result c.args.repo.now.options (state_in c.args.repo.now) c.mode.result c.policies.result.now c.identities.result.now c.number_of.result c.args.query.now c.args.endpoint.now
+      c.options_of.ensures.localhost c.mode.ensures.mode c.policies.ensures.list c.identities.ensures.rows c.number_of.ensures.number;
+}
