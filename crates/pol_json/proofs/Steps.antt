@@ -1,5 +1,5 @@
 -- The texts of paths, and what is found one step further from the top.
-use Rattle.std.proofs.Common.{◌≡◌, ◌≢◌, ℕ, ◌==◌, if◌then◌else◌, List, [], ◌∷◌, ◌++◌, map, Bool, true, false, arith, Option, None, Some, option_map, Result, Ok, Err, refl, sym, ap, subst}
+use Rattle.std.proofs.Common.{◌≡◌, ◌≢◌, ℕ, ◌==◌, if◌then◌else◌, List, [], ◌∷◌, ◌++◌, map, Bool, true, false, arith, Option, None, Some, is_none, option_map, Result, Ok, Err, refl, sym, ap, subst}
 use Rattle.std.specs.Option.{option_or}
 use Rattle.std.proofs.lemmas.List.{append-nil}
 use Rattle.serde_json.specs.Data.{Data}
@@ -8,9 +8,11 @@ use Rattle.pol_json.specs.declared.fault.DocError.{DocError}
 use Rattle.pol_json.specs.declared.fault.DocError.TheVariants as error
 use Rattle.pol_json.specs.Gives.{Finds, Leads}
 use Rattle.pol_json.specs.Path.{step_text, steps_text, fault_by, fault_below, fault_of, path_text, led, topped, without_dot}
-use Rattle.pol_json.specs.Places.{Step, Place, Cause, unknown_name, left_out, wrong_shape, lacks, cause_of, Found, found_at, first_found, under, unless_absent, places}
+use Rattle.pol_json.specs.Places.{Step, Place, Cause, unknown_name, left_out, wrong_shape, lacks, cause_of, content_cause, is_sound_leaf, Found, found_at, first_found, under, unless_absent, below, places}
 use Rattle.pol_json.specs.Members.{is_null}
-use Rattle.pol_json.specs.Table.{Shape}
+use Rattle.pol_json.specs.Table.{Shape, one}
+use Rattle.pol_json.specs.declared.table.Content.{Content}
+use Rattle.pol_json.specs.declared.table.Content.TheVariants.{Ignored, Text, Number, Object}
 
 -- a path of one step
 pub one_step : (text : List ℕ) → text ++ [] ≡ text
@@ -85,6 +87,20 @@ leads_places step shape of_table d answer result same finds leads =
     let at_table : Finds (fault_below (first_found (places of_table d))) answer =
     subst (λ s. Finds (fault_below (first_found (places s d))) answer) same finds in
     rw (first_under step (places of_table d)) (leads_further step (first_found (places of_table d)) answer result at_table leads)
+
+no_cause : (cause : Option Cause) → is_none cause ≡ true → cause ≡ None
+no_cause None none = refl
+no_cause (Some c) none = cc
+
+leaf_under : (step : Step) (content : Content) (d : Data) → content_cause content d ≡ None → below (one content) d ≡ [] → first_found (map (under step) (places (one content) d)) ≡ None
+leaf_under step content d none empty = rw (first_under step (places (one content) d), none, empty) refl
+
+-- nothing is wrong at a value that holds nothing and is sound
+pub sound_leaf : (step : Step) (content : Content) (d : Data) → is_sound_leaf content d ≡ true → first_found (map (under step) (places (one content) d)) ≡ None
+sound_leaf step Ignored d sound = leaf_under step Ignored d refl refl
+sound_leaf step (Text form) d sound = leaf_under step (Text form) d (no_cause (content_cause (Text form) d) sound) refl
+sound_leaf step Number d sound = leaf_under step Number d (no_cause (content_cause Number d) sound) refl
+sound_leaf step (Object kind) d sound = cc
 
 -- a member that isn't null is there
 pub there : {Y : Type 0} (d : Data) (ps : List Place) (r : Bool) (result : Result Y DocError) → r ≡ is_null d → r ≡ false

@@ -92,11 +92,13 @@ rule_of d =
       egress_deny = member_items (entry_of Egress) (codes "egressDeny") d;
     }
 
+-- a rule, then those of `specs`
+abbrev pub rules_with : Option Data → Data → List RawRule
+rules_with spec d = unwrap_or (option_map (λ spec. rule_of spec ∷ []) spec) [] ++ member_items rule_of (codes "specs") d
+
 -- the rule of `spec`, then those of `specs`
 abbrev pub rules_of : Data → List RawRule
-rules_of d =
-    unwrap_or (option_map (λ spec. rule_of spec ∷ []) (present (codes "spec") d)) []
-    ++ member_items rule_of (codes "specs") d
+rules_of d = rules_with (present (codes "spec") d) d
 
 -- the namespace of a policy that names none (Kubernetes, "Namespaces")
 abbrev pub default_namespace : List ℕ
@@ -115,6 +117,15 @@ namespace_of d = if is_cluster_wide d then [] else metadata_text (codes "namespa
 
 abbrev pub key_of : Data → PolicyKey
 key_of d = record { cluster_wide = is_cluster_wide d; namespace = namespace_of d; name = metadata_text (codes "name") [] d }
+
+-- the key of a policy of a kind, with this metadata and this name
+abbrev pub key_with : Bool → Data → List ℕ → PolicyKey
+key_with cluster_wide metadata name =
+    record {
+      cluster_wide = cluster_wide;
+      namespace = if cluster_wide then [] else unwrap_or (text_at (codes "namespace") metadata) default_namespace;
+      name = name;
+    }
 
 abbrev pub policy_of : Data → RawPolicy
 policy_of d = record { key = key_of d; rules = rules_of d }

@@ -14,11 +14,13 @@ use Rattle.pol_json.specs.Places.{Place, places, first_found}
 use Rattle.pol_json.specs.Table.{one}
 use Rattle.pol_rule.specs.declared.raw.RawPolicy.{RawPolicy}
 
+-- one of the two kinds
+abbrev pub has_kind : Data → Bool
+has_kind d = is_text (codes "CiliumNetworkPolicy") (text_at (codes "kind") d) || is_cluster_wide d
+
 -- an object of the version and of one of the two kinds
 abbrev pub is_policy : Data → Bool
-is_policy d =
-    is_text (codes "cilium.io/v2") (text_at (codes "apiVersion") d)
-    && (is_text (codes "CiliumNetworkPolicy") (text_at (codes "kind") d) || is_cluster_wide d)
+is_policy d = is_text (codes "cilium.io/v2") (text_at (codes "apiVersion") d) && has_kind d
 
 abbrev pub is_long : {A : Type 0} → Option (List A) → Bool
 is_long None = false

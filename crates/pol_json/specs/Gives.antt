@@ -39,8 +39,12 @@ Finds found (Ok _) = found ≡ None
 Finds found (Err error.Memory) = Unit {0}
 Finds found (Err (error.Fault fault)) = found ≡ Some fault
 
+-- the answer is this error, with more in front of the path of its fault
+abbrev pub Led : {Y : Type 0} → (DocFault → DocFault) → DocError → Result Y DocError → Type 0
+Led led error.Memory result = result ≡ Err error.Memory
+Led led (error.Fault fault) result = Finds (Some (led fault)) result
+
 -- an answer is another, with more in front of the path of its fault
 abbrev pub Leads : {X Y : Type 0} → (DocFault → DocFault) → Result X DocError → Result Y DocError → Type 0
 Leads led (Ok _) result = Finds None result
-Leads led (Err error.Memory) result = result ≡ Err error.Memory
-Leads led (Err (error.Fault fault)) result = Finds (Some (led fault)) result
+Leads led (Err error) result = Led led error result

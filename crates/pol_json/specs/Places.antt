@@ -1,5 +1,5 @@
 -- The places that the reading of a policy document visits, in the order of its visits, and what is wrong at one ('profile').
-use Rattle.std.specs.Prelude.{ℕ, suc, ◌==◌, ◌||◌, not, Bool, if◌then◌else◌, List, [], ◌∷◌, ◌++◌, codes, map, Option, None, Some, is_some, option_map, option_and_then}
+use Rattle.std.specs.Prelude.{ℕ, suc, ◌==◌, ◌||◌, not, Bool, false, if◌then◌else◌, List, [], ◌∷◌, ◌++◌, codes, map, Option, None, Some, is_none, is_some, option_map, option_and_then}
 use Rattle.std.specs.Option.{option_or}
 use Rattle.std.specs.List.{find, list_any}
 use Rattle.std.specs.Str.{str_eq_ignore_ascii_case}
@@ -63,6 +63,11 @@ content_cause Ignored d = None
 content_cause (Text form) d = or_wrong (text_cause form) (as_str d)
 content_cause Number d = or_wrong (λ _. None) (option_and_then as_u64 (as_number d))
 content_cause (Object kind) d = or_wrong (λ _. object_cause kind d) (as_object d)
+
+-- a value that holds nothing, and with which nothing is wrong
+abbrev pub is_sound_leaf : Content → Data → Bool
+is_sound_leaf (Object kind) d = false
+is_sound_leaf content d = is_none (content_cause content d)
 
 abbrev pub cause_of : Shape → Data → Option Cause
 cause_of unknown d = Some unknown_name

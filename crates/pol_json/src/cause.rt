@@ -1,13 +1,13 @@
 //! What is wrong at a place of a policy document, without what it holds.
 #![tactic(auto, using(crate::proofs::Steps::one_step))]
 
-ghost use Rattle.std.specs.Prelude.{◌≡◌, Some, ◌==◌};
+ghost use Rattle.std.specs.Prelude.{◌≡◌, Some, is_none, ◌==◌};
 ghost use Rattle.std.specs.List.{list_any};
 ghost use Rattle.std.specs.Str.{str_eq_ignore_ascii_case};
 ghost use Rattle.serde_json.specs.View.{view};
 ghost use Rattle.pol_json.specs.Gives.{Finds};
 ghost use Rattle.pol_json.specs.Path.{fault_here, step_text};
-ghost use Rattle.pol_json.specs.Places.{named, left_out, lacks, wrong_shape, is_icmp, text_cause, object_cause, content_cause};
+ghost use Rattle.pol_json.specs.Places.{named, left_out, lacks, wrong_shape, is_icmp, is_sound_leaf, text_cause, object_cause, content_cause};
 ghost use Rattle.pol_json.specs.Texts.{is_letter};
 
 use crate::fault::{DocError, DocFault};
@@ -81,15 +81,45 @@ fn is_icmp(text: &str) -> bool
     is_word(text, "ICMP") || is_word(text, "ICMPv6")
 }
 
+fn is_sound_text(form: TextForm, text: &str) -> bool
+    ensures { result ≡ is_none (text_cause form text.now) }
+{
+    match form {
+        TextForm::Any => true,
+        TextForm::Name => is_dns_name(text),
+        TextForm::Cidr => !has_colon(text),
+        TextForm::Port => !has_letter(text),
+        TextForm::Protocol => !is_icmp(text),
+    }
+}
+
+/// Whether a value that isn't an object is what should stand here.
+pub(crate) fn is_sound_leaf(content: Content, value: &Value) -> bool
+    ensures { result ≡ is_sound_leaf content (view value.now) }
+{
+    match content {
+        Content::Ignored => true,
+        Content::Text(form) => match value.as_str() {
+            None => false,
+            Some(text) => is_sound_text(form, text),
+        },
+        Content::Number => value.as_u64().is_some(),
+        Content::Object(_) => false,
+    }
+}
+
 fn check_text(alloc: Global, form: TextForm, text: &str) -> Result<(), DocError>
     ensures { Finds (fault_here (text_cause form text.now)) result }
 {
+    if is_sound_text(form, text) {
+        return Ok(());
+    }
     match form {
-        TextForm::Name if !is_dns_name(text) => wrong_shape(alloc),
-        TextForm::Cidr if has_colon(text) => left_out(alloc, "ipv6"),
-        TextForm::Port if has_letter(text) => left_out(alloc, "named-port"),
-        TextForm::Protocol if is_icmp(text) => left_out(alloc, "icmp"),
-        _ => Ok(()),
+        TextForm::Any => Ok(()),
+        TextForm::Name => wrong_shape(alloc),
+        TextForm::Cidr => left_out(alloc, "ipv6"),
+        TextForm::Port => left_out(alloc, "named-port"),
+        TextForm::Protocol => left_out(alloc, "icmp"),
     }
 }
 

@@ -1,10 +1,10 @@
 //! Policy documents: what is read first, the walk, and the policy.
-ghost use Rattle.std.specs.Prelude.{◌≡◌, IfOk, option_map};
+ghost use Rattle.std.specs.Prelude.{◌≡◌, codes, Some, is_some, IfOk, IfSome, option_map};
 ghost use Rattle.serde_json.specs.View.{view};
-ghost use Rattle.pol_json.specs.Build.{metadata_text, namespace_of, key_of, is_cluster_wide, rules_of, policy_of};
-ghost use Rattle.pol_json.specs.Document.{is_policy, has_name, has_spec, head_fault, places_of, first_fault, read_document};
+ghost use Rattle.pol_json.specs.Build.{is_cluster_wide, key_with, rules_with};
+ghost use Rattle.pol_json.specs.Document.{has_kind, head_fault, is_long, is_there_and_long, places_of, read_document};
 ghost use Rattle.pol_json.specs.Gives.{Gives, Finds, doc_fault_of};
-ghost use Rattle.pol_json.specs.Members.{present};
+ghost use Rattle.pol_json.specs.Members.{present, text_at};
 ghost use Rattle.pol_json.specs.Path.{fault_of};
 ghost use Rattle.pol_json.specs.Places.{first_found};
 
@@ -22,57 +22,82 @@ use std::alloc::Global;
 /// The namespace of a policy that names none (Kubernetes, "Namespaces").
 const DEFAULT_NAMESPACE: &str = "default";
 
-fn is_cluster_wide(value: &Value) -> bool
-    ensures { result ≡ is_cluster_wide (view value.now) }
-{
-    is_text_at(value, "kind", "CiliumClusterwideNetworkPolicy")
+/// What is read first of a policy: its kind, its metadata and the name there, and the rule of `spec`.
+#[derive(Clone, Copy)]
+struct Head<'v> {
+    /// Whether it is of the cluster-wide kind.
+    cluster_wide: bool,
+    /// The metadata.
+    metadata: &'v Value,
+    /// The name.
+    name: &'v str,
+    /// The rule of `spec`, where it is there.
+    spec: Option<&'v Value>,
 }
 
-fn is_policy(value: &Value) -> bool
-    ensures { result ≡ is_policy (view value.now) }
+/// Whether a policy is of the cluster-wide kind; none where it is of no kind.
+fn kind_of(value: &Value) -> Option<bool>
+    ensures kind { is_some result ≡ has_kind (view value.now) }
+    ensures wide { IfSome result (λ wide. wide ≡ is_cluster_wide (view value.now)) }
 {
-    is_text_at(value, "apiVersion", "cilium.io/v2")
-        && (is_text_at(value, "kind", "CiliumNetworkPolicy") || is_cluster_wide(value))
-}
-
-fn has_name(value: &Value) -> bool
-    ensures { result ≡ has_name (view value.now) }
-{
-    match present(value, "metadata") {
-        None => false,
-        Some(metadata) => match text_at(metadata, "name") {
-            None => false,
-            Some(name) => !name.is_empty(),
-        },
+    let kind = text_at(value, "kind")?;
+    let cluster_wide = "CiliumClusterwideNetworkPolicy" == kind;
+    if "CiliumNetworkPolicy" == kind || cluster_wide {
+        Some(cluster_wide)
+    } else {
+        None
     }
 }
 
-fn has_spec(value: &Value) -> bool
-    ensures { result ≡ has_spec (view value.now) }
+/// The name in the metadata, unless it is empty.
+fn name_in<'v>(metadata: &'v Value) -> Option<&'v str>
+    ensures there { is_some result ≡ is_long (text_at (codes "name") (view metadata.now)) }
+    ensures name { IfSome result (λ name. text_at (codes "name") (view metadata.now) ≡ Some name.now) }
 {
-    if present(value, "spec").is_some() {
-        return true;
-    }
+    let name = text_at(metadata, "name")?;
+    if name.is_empty() { None } else { Some(name) }
+}
+
+/// Whether `specs` is there and is no empty list.
+fn has_specs(value: &Value) -> bool
+    ensures { result ≡ is_there_and_long (codes "specs") (view value.now) }
+{
     match list_at(value, "specs") {
         None => present(value, "specs").is_some(),
         Some(items) => !items.is_empty(),
     }
 }
 
-/// What is no policy, has no name, or has no rule.
-fn check_head(value: &Value) -> Result<(), DocError>
-    ensures { Finds (head_fault (view value.now)) result }
+/// What is read first, or the fault of what is no policy, has no name, or has no rule.
+fn head_of(value: &Value) -> Result<Head, DocError>
+    ensures fault { Finds (head_fault (view value.now)) result }
+    ensures kind { IfOk result (λ head. head.cluster_wide ≡ is_cluster_wide (view value.now)) }
+    ensures metadata { IfOk result (λ head. present (codes "metadata") (view value.now) ≡ Some (view head.metadata.now)) }
+    ensures name { IfOk result (λ head. text_at (codes "name") (view head.metadata.now) ≡ Some head.name.now) }
+    ensures spec { IfOk result (λ head. option_map (λ spec. view spec.now) head.spec ≡ present (codes "spec") (view value.now)) }
 {
-    if !is_policy(value) {
+    if !is_text_at(value, "apiVersion", "cilium.io/v2") {
         return Err(DocError::Fault(DocFault::NotPolicy));
     }
-    if !has_name(value) {
+    let Some(cluster_wide) = kind_of(value) else {
+        return Err(DocError::Fault(DocFault::NotPolicy));
+    };
+    let Some(metadata) = present(value, "metadata") else {
         return Err(DocError::Fault(DocFault::NoName));
-    }
-    if !has_spec(value) {
+    };
+    let Some(name) = name_in(metadata) else {
+        return Err(DocError::Fault(DocFault::NoName));
+    };
+    let spec = present(value, "spec");
+    if spec.is_none() && !has_specs(value) {
         return Err(DocError::Fault(DocFault::NoSpec));
     }
-    Ok(())
+    Ok(Head {
+        cluster_wide,
+        metadata,
+        name,
+        spec,
+    })
 }
 
 fn check_places(alloc: Global, value: &Value) -> Result<(), DocError>
@@ -81,51 +106,28 @@ fn check_places(alloc: Global, value: &Value) -> Result<(), DocError>
     from_policy(alloc, walk(alloc, Content::Object(Kind::Policy), value))
 }
 
-fn check_document(alloc: Global, value: &Value) -> Result<(), DocError>
-    ensures { Finds (first_fault (view value.now)) result }
+/// The key: a cluster-wide policy has no namespace, and another that names none is in the default one.
+fn build_key(alloc: Global, head: &Head) -> Result<PolicyKey, Memory>
+    ensures { IfOk result (λ key. key ≡ key_with head.now.cluster_wide (view head.now.metadata.now) head.now.name.now) }
 {
-    check_head(value)?;
-    check_places(alloc, value)
-}
-
-/// The text of a member of the metadata, or this.
-fn metadata_text(alloc: Global, value: &Value, name: &str, otherwise: &str) -> Result<Text, Memory>
-    ensures { IfOk result (λ text. text ≡ metadata_text name.now otherwise.now (view value.now)) }
-{
-    match present(value, "metadata") {
-        None => Text::from_str(alloc, otherwise),
-        Some(metadata) => Text::from_str(alloc, text_at(metadata, name).unwrap_or(otherwise)),
-    }
-}
-
-fn build_namespace(alloc: Global, value: &Value) -> Result<Text, Memory>
-    ensures { IfOk result (λ namespace. namespace ≡ namespace_of (view value.now)) }
-{
-    if is_cluster_wide(value) {
-        Ok(Text::from_string(String::new(alloc)))
+    let namespace = if head.cluster_wide {
+        ""
     } else {
-        metadata_text(alloc, value, "namespace", DEFAULT_NAMESPACE)
-    }
-}
-
-impl Part for PolicyKey {
-    ghost gives = { key_of };
-
-    fn build(alloc: Global, value: &Value) -> Result<PolicyKey, Memory> {
-        Ok(PolicyKey {
-            cluster_wide: is_cluster_wide(value),
-            namespace: build_namespace(alloc, value)?,
-            name: metadata_text(alloc, value, "name", "")?,
-        })
-    }
+        text_at(head.metadata, "namespace").unwrap_or(DEFAULT_NAMESPACE)
+    };
+    Ok(PolicyKey {
+        cluster_wide: head.cluster_wide,
+        namespace: Text::from_str(alloc, namespace)?,
+        name: Text::from_str(alloc, head.name)?,
+    })
 }
 
 /// The rule of `spec`, then those of `specs`.
-fn build_rules(alloc: Global, value: &Value) -> Result<RawRules, Memory>
-    ensures { IfOk result (λ rules. rules ≡ rules_of (view value.now)) }
+fn build_rules(alloc: Global, value: &Value, spec: Option<&Value>) -> Result<RawRules, Memory>
+    ensures { IfOk result (λ rules. rules ≡ rules_with (option_map (λ spec. view spec.now) spec.entry) (view value.now)) }
 {
     let more: RawRules = items_at(alloc, value, "specs")?;
-    match present(value, "spec") {
+    match spec {
         None => Ok(more),
         Some(spec) => {
             let mut rules = Vec::new(alloc);
@@ -133,17 +135,6 @@ fn build_rules(alloc: Global, value: &Value) -> Result<RawRules, Memory>
             rules.append(&mut more.into_vec())?;
             Ok(Items::from_vec(rules))
         }
-    }
-}
-
-impl Part for RawPolicy {
-    ghost gives = { policy_of };
-
-    fn build(alloc: Global, value: &Value) -> Result<RawPolicy, Memory> {
-        Ok(RawPolicy {
-            key: PolicyKey::build(alloc, value)?,
-            rules: build_rules(alloc, value)?,
-        })
     }
 }
 
@@ -155,6 +146,10 @@ impl Part for RawPolicy {
 pub fn read_policy(alloc: Global, value: &Value) -> Result<RawPolicy, DocError>
     ensures exact { Gives doc_fault_of result (read_document (view value.now)) }
 {
-    check_document(alloc, value)?;
-    Ok(RawPolicy::build(alloc, value)?)
+    let head = head_of(value)?;
+    check_places(alloc, value)?;
+    Ok(RawPolicy {
+        key: build_key(alloc, &head)?,
+        rules: build_rules(alloc, value, head.spec)?,
+    })
 }

@@ -1,7 +1,7 @@
 //! Paths: the texts of their steps, and a fault one step further from the top.
 ghost use Rattle.std.specs.Prelude.{◌≡◌, IfOk, OnOk, ◌++◌};
 ghost use Rattle.std.specs.String.{string_bytes};
-ghost use Rattle.pol_json.specs.Gives.{Leads};
+ghost use Rattle.pol_json.specs.Gives.{Led, Leads};
 ghost use Rattle.pol_json.specs.Path.{printable_byte, printable, step_text, led, without_dot, topped};
 ghost use Rattle.pol_json.specs.Places.{named, numbered};
 
@@ -65,6 +65,16 @@ fn led(step: &String, fault: DocFault) -> Result<DocFault, Memory>
     })
 }
 
+/// An error with a step in front of the path of its fault.
+fn led_by(step: &String, error: DocError) -> Result<(), DocError>
+    ensures { Led (led (string_bytes step.now)) error result }
+{
+    match error {
+        DocError::Memory => Err(DocError::Memory),
+        DocError::Fault(fault) => Err(DocError::Fault(led(step, fault)?)),
+    }
+}
+
 /// What was found below a member, seen from its object.
 pub(crate) fn from_member(
     alloc: Global,
@@ -74,11 +84,8 @@ pub(crate) fn from_member(
     ensures { Leads (led (step_text (named name.now))) found result }
 {
     match found {
-        Err(DocError::Fault(fault)) => {
-            let step = member_step(alloc, name)?;
-            Err(DocError::Fault(led(&step, fault)?))
-        }
-        other => other,
+        Ok(()) => Ok(()),
+        Err(error) => led_by(&member_step(alloc, name)?, error),
     }
 }
 
@@ -91,11 +98,8 @@ pub(crate) fn from_item(
     ensures { Leads (led (step_text (numbered index))) found result }
 {
     match found {
-        Err(DocError::Fault(fault)) => {
-            let step = item_step(alloc, index)?;
-            Err(DocError::Fault(led(&step, fault)?))
-        }
-        other => other,
+        Ok(()) => Ok(()),
+        Err(error) => led_by(&item_step(alloc, index)?, error),
     }
 }
 

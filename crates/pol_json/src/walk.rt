@@ -6,7 +6,7 @@ ghost use Rattle.pol_json.specs.Path.{fault_below};
 ghost use Rattle.pol_json.specs.Places.{named, numbered, under, unless_absent, places, below, below_members, below_items, first_found};
 ghost use Rattle.pol_json.specs.Table.{one, list_of, shape_of as shape_at};
 
-use crate::cause::{check, left_out, unknown_name, wrong_shape};
+use crate::cause::{check, is_sound_leaf, left_out, unknown_name, wrong_shape};
 use crate::fault::DocError;
 use crate::path::{from_item, from_member};
 use crate::table::{Content, Kind, Shape, shape_of};
@@ -57,9 +57,20 @@ fn walk_member(alloc: Global, kind: Kind, name: &str, value: &Value) -> Result<(
     match shape_of(kind, name) {
         Shape::Unknown => unknown_name(alloc, name),
         Shape::Unsupported => left_out(alloc, name),
-        Shape::One(content) => from_member(alloc, name, walk(alloc, content, value)),
+        Shape::One(content) => walk_one(alloc, name, content, value),
         Shape::List(content) => from_member(alloc, name, walk_list(alloc, content, value)),
     }
+}
+
+/// The first fault of a member's value, seen from its object. Most values hold nothing and are sound.
+#[cycle(walk)]
+fn walk_one(alloc: Global, name: &str, content: Content, value: &Value) -> Result<(), DocError>
+    ensures { Finds (fault_below (first_found (map (under (named name.now)) (places (one content) (view value.now))))) result }
+{
+    if is_sound_leaf(content, value) {
+        return Ok(());
+    }
+    from_member(alloc, name, walk(alloc, content, value))
 }
 
 #[cycle(walk)]

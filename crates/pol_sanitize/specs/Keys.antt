@@ -18,18 +18,19 @@ source_of key = if list_any is_colon key then before_first is_colon key else any
 abbrev pub lacks_source : List ℕ → Bool
 lacks_source key = length (source_of key) == 0
 
-abbrev pub has_any_source : List ℕ → Bool
-has_any_source key = bytes_eq (source_of key) any_source
-
--- What is asked of the labels of a key, which stands after the first `:`.
-abbrev pub requirement_on : List ℕ → Operator → List (List ℕ) → Requirement
-requirement_on key op values = record {
-  any_source = has_any_source key;
-  source = if has_any_source key then [] else source_of key;
-  key = key_part key;
+-- what is asked of the labels of a source and a key
+abbrev pub requirement_of : List ℕ → List ℕ → Operator → List (List ℕ) → Requirement
+requirement_of source key op values = record {
+  any_source = bytes_eq source any_source;
+  source = if bytes_eq source any_source then [] else source;
+  key = key;
   op = op;
   values = values;
 }
+
+-- What is asked of the labels of a selector's key, which stands after the first `:`.
+abbrev pub requirement_on : List ℕ → Operator → List (List ℕ) → Requirement
+requirement_on key op values = requirement_of (source_of key) (key_part key) op values
 
 -- ---- keys with a meaning of their own
 
@@ -49,8 +50,11 @@ namespace_key = codes "io.kubernetes.pod.namespace"
 abbrev pub namespace_labels : List ℕ
 namespace_labels = codes "io.cilium.k8s.namespace.labels."
 
+abbrev pub is_namespace : List ℕ → List ℕ → Bool
+is_namespace source key = is_k8s_source source && bytes_eq key namespace_key
+
 abbrev pub is_on_namespace : List ℕ → Bool
-is_on_namespace key = is_k8s_source (source_of key) && bytes_eq (key_part key) namespace_key
+is_on_namespace key = is_namespace (source_of key) (key_part key)
 
 abbrev pub is_on_namespace_labels : List ℕ → Bool
 is_on_namespace_labels key = is_k8s_source (source_of key) && starts_with nat_eq (key_part key) namespace_labels

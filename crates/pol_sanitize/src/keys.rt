@@ -5,7 +5,7 @@ ghost use Rattle.pol_rule.specs.declared.raw.RawExpression.{RawExpression};
 ghost use Rattle.pol_rule.specs.declared.raw.RawPair.{RawPair};
 ghost use Rattle.pol_sanitize.specs.Selectors.{has_key};
 ghost use Rattle.pol_labels.specs.LabelText.{key_part};
-ghost use Rattle.pol_sanitize.specs.Keys.{is_k8s_source, is_on_init, is_on_namespace, lacks_source, namespace_labels, says_namespace, source_of};
+ghost use Rattle.pol_sanitize.specs.Keys.{is_k8s_source, is_namespace, is_on_init, namespace_labels, says_namespace, source_of};
 
 use pol_rule::{RawExpression, RawPair, RawSelector};
 
@@ -35,13 +35,6 @@ pub(crate) fn split_key(key: &str) -> (&str, &str)
     }
 }
 
-/// Whether a `:` has no source before it.
-pub(crate) fn lacks_source(key: &str) -> bool
-    ensures { result ≡ lacks_source key.now }
-{
-    split_key(key).0.len() == 0
-}
-
 /// Whether labels of this source count as Kubernetes' own: they are, or every source is meant.
 fn is_k8s_source(source: &str) -> bool
     ensures { result ≡ is_k8s_source source.now }
@@ -49,11 +42,10 @@ fn is_k8s_source(source: &str) -> bool
     source == ANY_SOURCE || source == K8S_SOURCE
 }
 
-/// Whether the key is that of a pod's namespace.
-pub(crate) fn is_on_namespace(key: &str) -> bool
-    ensures { result ≡ is_on_namespace key.now }
+/// Whether a source and a key are those of a pod's namespace.
+pub(crate) fn is_namespace(source: &str, name: &str) -> bool
+    ensures { result ≡ is_namespace source.now name.now }
 {
-    let (source, name) = split_key(key);
     is_k8s_source(source) && name == NAMESPACE_KEY
 }
 

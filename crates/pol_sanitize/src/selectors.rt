@@ -3,14 +3,13 @@ ghost use Rattle.std.specs.Prelude.{◌≡◌, ◌∷◌, [], not, IfOk, OnOk};
 ghost use Rattle.pol_labels.specs.WellFormed.{all_well_formed};
 ghost use Rattle.pol_sanitize.specs.Answers.{Finds};
 ghost use Rattle.pol_sanitize.specs.Faults.{found, located};
-ghost use Rattle.pol_sanitize.specs.Keys.{requirement_on};
+ghost use Rattle.pol_sanitize.specs.Keys.{requirement_of};
 ghost use Rattle.pol_sanitize.specs.Selectors.{bound_subject, expression_requirement, has_bad_member, has_namespace, is_bad_expression, is_bad_label, is_bad_selector, is_in_namespace, label_requirement, operator_of, other_requirement, peer_selector, requirements_of, subject_selector};
 
 use crate::SanitizeError;
 use crate::fault::{BAD_SELECTOR, Location};
 use crate::keys::{
-    ANY_SOURCE, K8S_SOURCE, NAMESPACE_KEY, OnInit, SaysNamespace, has_key, is_on_namespace,
-    lacks_source, split_key,
+    ANY_SOURCE, K8S_SOURCE, NAMESPACE_KEY, OnInit, SaysNamespace, has_key, is_namespace, split_key,
 };
 use crate::kind::{Kind, push_each};
 use pol_data::{Items, Memory, Text, Texts};
@@ -28,16 +27,16 @@ fn one_text(alloc: Global, text: &Text) -> Result<Texts, Memory>
     Ok(Items::from_vec(texts))
 }
 
-/// What is asked of the labels of a key.
-fn requirement_on(
+/// What is asked of the labels of a source and a key.
+fn requirement_of(
     alloc: Global,
-    key: &str,
+    source: &str,
+    name: &str,
     op: Operator,
     values: Texts,
 ) -> Result<Requirement, Memory>
-    ensures { IfOk result (λ requirement. requirement ≡ requirement_on key.now op values) }
+    ensures { IfOk result (λ requirement. requirement ≡ requirement_of source.now name.now op values) }
 {
-    let (source, name) = split_key(key);
     let any_source = source == ANY_SOURCE;
     Ok(Requirement {
         any_source,
@@ -80,11 +79,12 @@ impl Kind for Labels {
         location: Location,
         pair: &RawPair,
     ) -> Result<Option<Requirement>, SanitizeError> {
-        if lacks_source(pair.key.as_str()) {
+        let (source, name) = split_key(pair.key.as_str());
+        if source.is_empty() {
             return Err(location.fault(BAD_SELECTOR));
         }
         let values = one_text(alloc, &pair.value)?;
-        let requirement = requirement_on(alloc, pair.key.as_str(), Operator::OneOf, values)?;
+        let requirement = requirement_of(alloc, source, name, Operator::OneOf, values)?;
         Ok(Some(requirement))
     }
 }
@@ -109,13 +109,16 @@ impl Kind for OtherLabels {
         location: Location,
         pair: &RawPair,
     ) -> Result<Option<Requirement>, SanitizeError> {
-        if lacks_source(pair.key.as_str()) {
+        let (source, name) = split_key(pair.key.as_str());
+        if source.is_empty() {
             return Err(location.fault(BAD_SELECTOR));
         }
-        if is_on_namespace(pair.key.as_str()) {
+        if is_namespace(source, name) {
             return Ok(None);
         }
-        Labels::read(alloc, key, location, pair)
+        let values = one_text(alloc, &pair.value)?;
+        let requirement = requirement_of(alloc, source, name, Operator::OneOf, values)?;
+        Ok(Some(requirement))
     }
 }
 
@@ -139,14 +142,15 @@ impl Kind for Expressions {
         location: Location,
         expression: &RawExpression,
     ) -> Result<Option<Requirement>, SanitizeError> {
-        if lacks_source(expression.key.as_str()) {
+        let (source, name) = split_key(expression.key.as_str());
+        if source.is_empty() {
             return Err(location.fault(BAD_SELECTOR));
         }
         let Some(op) = operator_of(expression.operator.as_str()) else {
             return Err(location.fault(BAD_SELECTOR));
         };
         let values = expression.values.copy(alloc)?;
-        let requirement = requirement_on(alloc, expression.key.as_str(), op, values)?;
+        let requirement = requirement_of(alloc, source, name, op, values)?;
         Ok(Some(requirement))
     }
 }

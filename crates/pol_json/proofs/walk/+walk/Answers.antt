@@ -1,25 +1,37 @@
-use Rattle.std.proofs.Common.{◌+◌, drop, map, refl, sym, ap, ◌∙◌, arith}
+use Rattle.std.proofs.Common.{◌+◌, drop, map, refl, sym, ap, subst, ◌∙◌, arith}
 use Rattle.std.proofs.lemmas.Result.{err_from_is_err_and}
 use Rattle.serde_json.specs.View.{view, items_view, members_view}
+use Rattle.pol_json.specs.Gives.{Finds}
+use Rattle.pol_json.specs.Path.{fault_below}
 use Rattle.pol_json.specs.Places.{named, numbered, places, under, unless_absent, below_items, below_members, first_found}
 use Rattle.pol_json.specs.Table.{one, list_of, shape_of as shape_at}
-use Rattle.pol_json.proofs.Steps.{leads_places, there}
+use Rattle.pol_json.proofs.Steps.{leads_places, sound_leaf, there}
 use Rattle.pol_json.proofs.Turns.{passed, stopped, item_turn, member_turn}
 use Rattle.pol_json.proofs.walk.+walk.Goals as goal
+
+pub walk_one-returns-then-is_sound_leaf : goal.walk_one-returns-then-is_sound_leaf
+walk_one-returns-then-is_sound_leaf t c =
+    rw (sound_leaf (named c.args.name.now) c.args.content (view c.args.value.now) (sym c.is_sound_leaf.ensures ∙ c.if-is_sound_leaf.true)) refl
+
+pub walk_one-returns : goal.walk_one-returns
+walk_one-returns t c =
+    leads_places (named c.args.name.now) (one c.args.content) (one c.args.content) (view c.args.value.now)
+    c.walk.result c.from_member.result refl c.walk.ensures c.from_member.ensures
 
 pub walk_member-returns-in-One : goal.walk_member-returns-in-One
 walk_member-returns-in-One t c =
     let d = view c.args.value.now in
+    let step = named c.args.name.now in
     let at_table = shape_at c.args.kind c.args.name.now in
-    there d (map (under (named c.args.name.now)) (places at_table d)) c.is_null.result c.from_member.result c.is_null.ensures c.if-is_null.false
-    (leads_places (named c.args.name.now) (one c.in-One.content) at_table d c.walk.result c.from_member.result c.in-One.ensures c.walk.ensures c.from_member.ensures)
+    there d (map (under step) (places at_table d)) c.is_null.result c.walk_one.result c.is_null.ensures c.if-is_null.false
+    (subst (λ s. Finds (fault_below (first_found (map (under step) (places s d)))) c.walk_one.result) c.in-One.ensures c.walk_one.ensures)
 
 pub walk_member-returns-in-List : goal.walk_member-returns-in-List
 walk_member-returns-in-List t c =
     let d = view c.args.value.now in
     let at_table = shape_at c.args.kind c.args.name.now in
-    there d (map (under (named c.args.name.now)) (places at_table d)) c.is_null.result c.from_member-in-List.result c.is_null.ensures c.if-is_null.false
-    (leads_places (named c.args.name.now) (list_of c.in-List.content) at_table d c.walk_list.result c.from_member-in-List.result c.in-List.ensures c.walk_list.ensures c.from_member-in-List.ensures)
+    there d (map (under (named c.args.name.now)) (places at_table d)) c.is_null.result c.from_member.result c.is_null.ensures c.if-is_null.false
+    (leads_places (named c.args.name.now) (list_of c.in-List.content) at_table d c.walk_list.result c.from_member.result c.in-List.ensures c.walk_list.ensures c.from_member.ensures)
 
 pub walk_item-returns : goal.walk_item-returns
 walk_item-returns t c =
