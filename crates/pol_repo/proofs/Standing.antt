@@ -1,6 +1,11 @@
 -- What the parts of a repository tell of its state, and of the request that is prepared.
+<<<<<<< HEAD
 use Rattle.std.proofs.Common.{◌≡◌, ℕ, ◌==◌, ◌-◌, ◌<◌, ◌^◌, ◌++◌, ◌&&◌, not, List, [], ◌∷◌, Option, None, Some, option_map, refl, sym, ap, ◌∙◌, subst}
 use Rattle.std.specs.Prelude.{Ok, Err, ◌≤◌}
+=======
+use Rattle.std.proofs.Common.{◌≡◌, ℕ, ◌+◌, ◌==◌, ◌-◌, ◌<◌, ◌^◌, ◌++◌, ◌&&◌, not, true, List, [], ◌∷◌, find, length, map, IsSome, Option, None, Some, option_map, refl, sym, ap, ◌∙◌, subst, arith}
+use Rattle.std.specs.Prelude.{Result, Ok, Err, ◌≤◌}
+>>>>>>> a2d79410a97d0d87429e286bc35db957063a3a26
 use Rattle.std.specs.Option.{option_map_or}
 use Rattle.pol_labels.specs.declared.label.Label.{Label}
 use Rattle.pol_model.specs.declared.options.Options.{Options}
@@ -20,7 +25,12 @@ use Rattle.pol_model.specs.declared.limits.TheConstants.{CLUSTER_FIRST}
 use Rattle.pol_model.specs.Identities.{free_number, is_local, labels_held, number_for}
 use Rattle.pol_model.specs.State.{State}
 use Rattle.pol_model.proofs.AscendingStates.{RowsAscend}
+<<<<<<< HEAD
 use Rattle.pol_facts.specs.Holding.{rows_taken}
+=======
+use Rattle.pol_model.proofs.Histories.{state_of-revision}
+use Rattle.pol_facts.specs.Holding.{has_row, row_of, rows_taken}
+>>>>>>> a2d79410a97d0d87429e286bc35db957063a3a26
 use Rattle.pol_facts.specs.Keeps.{Keeps}
 use Rattle.pol_facts.specs.WithoutFaults.{MayCommit}
 use Rattle.pol_facts.proofs.HoldingLaws.{held_has, labels_row_is}
@@ -91,6 +101,10 @@ module _ (options : Options) (journal : List Request) (len capacity : ℕ) (stor
   pub keeps_now : Keeps (state_of options journal)
   keeps_now = state_keeps options journal sound.without_faults
 
+  -- the journal has one request for each revision
+  pub counts : stored.state.revision ≡ length journal
+  counts = revision_of options journal len capacity stored readied sound ∙ state_of-revision options journal
+
   pub revision_is : stored.state.revision ≡ (state_in self).revision
   revision_is = revision_of options journal len capacity stored readied sound ∙ ap (λ (s : State). s.revision) present
 
@@ -113,11 +127,11 @@ module _ (options : Options) (journal : List Request) (len capacity : ℕ) (stor
       pub ready_ok : (readied' : Readied) → ReadiesOrNot request stored stored' (Ok readied') → IsReadied (state_of options journal) request stored' readied'
       ready_ok readied' readies = (readies (state_of options journal) keeps_now stands_now).0
 
-      pub prepared : (readied' : Readied) (len' capacity' : ℕ) → (state_in self).revision < 2 ^ 64 - 1 → len' < capacity' → ReadiesOrNot request stored stored' (Ok readied')
+      pub prepared : (readied' : Readied) (len' capacity' : ℕ) → stored.state.revision < 2 ^ 64 - 1 → len' < capacity' → ReadiesOrNot request stored stored' (Ok readied')
           → IsSound options journal' len' capacity' stored' (Some readied')
       prepared readied' len' capacity' not_last room readies =
           subst (λ (requests : List Request). IsSound options requests len' capacity' stored' (Some readied')) (sym same)
-          (record { without_faults = sound.without_faults; inside = record { request = request; is_readied = ready_ok readied' readies; not_last = subst (λ (s : State). s.revision < 2 ^ 64 - 1) (sym present) not_last; room = room } })
+          (record { without_faults = sound.without_faults; inside = record { request = request; is_readied = ready_ok readied' readies; not_last = subst (λ (n : ℕ). n < 2 ^ 64 - 1) (revision_of options journal len capacity stored readied sound) not_last; room = room } })
 
       pub prepared_seen : (readied' : Readied) → ReadiesOrNot request stored stored' (Ok readied')
           → seen_as options journal' stored' (Some readied') ≡ record self { readied = Some request }
@@ -146,9 +160,9 @@ module _ (options : Options) (journal : List Request) (len capacity : ℕ) (stor
       refused_seen = subst (λ (o : Option Readied). seen_as options journal stored o ≡ self → seen_as options journal' stored' o ≡ self) (sym none_readied)
           (λ was. (λ i. record { options = options; journal = same i; readied = None }) ∙ was) seen
 
-      pub prepared_rises : (readied' : Readied) → (state_in self).revision < 2 ^ 64 - 1 → ReadiesOrNot request stored stored' (Ok readied') → stored'.state.revision < 2 ^ 64 - 1
+      pub prepared_rises : (readied' : Readied) → stored.state.revision < 2 ^ 64 - 1 → ReadiesOrNot request stored stored' (Ok readied') → stored'.state.revision < 2 ^ 64 - 1
       prepared_rises readied' not_last readies =
-          subst (λ (n : ℕ). n < 2 ^ 64 - 1) (sym ((ready_ok readied' readies).like.revision ∙ ap (λ (s : State). s.revision) present)) not_last
+          subst (λ (n : ℕ). n < 2 ^ 64 - 1) (revision_of options journal len capacity stored readied sound ∙ sym (ready_ok readied' readies).like.revision) not_last
 
       pub refused_cause : (error : ReadyError) (fault : Fault) (refusal : CommitError) → error ≡ WithFault fault → refusal ≡ Refused (record { revision = stored'.state.revision; fault = fault })
           → ReadiesOrNot request stored stored' (Err error) → IsCause (state_in self) request refusal
@@ -166,6 +180,9 @@ module _ (options : Options) (journal : List Request) (len capacity : ℕ) (stor
   module _ (request : Request) (is_prepared : self.readied ≡ Some request) where
     given : (one : Readied) × (readied ≡ Some one) × (request_of stored.state.identities one.change ≡ request)
     given = some_readied _ readied request (ap (λ (r : Repository). r.readied) seen ∙ is_prepared)
+
+    pub there_is : IsSome readied
+    there_is = subst (λ (o : Option Readied). IsSome o) (sym given.1) refl
 
     module _ (one : Readied) (is : readied ≡ Some one) where
       prepared_now : IsPrepared (state_of options journal) len capacity stored one

@@ -1,5 +1,5 @@
 //! What was prepared is accepted, or withdrawn.
-ghost use Rattle.std.specs.Prelude.{◌≡◌, ◌<◌, ◌+◌, ◌-◌, ◌^◌, ◌≤◌, ◌++◌, ◌∷◌, [], None, Some, false, IfErr, IfOk, OnErr, OnOk};
+ghost use Rattle.std.specs.Prelude.{◌≡◌, ◌+◌, ◌≤◌, ◌++◌, ◌∷◌, [], None, Some, false, IfErr, IfOk, OnErr, OnOk};
 ghost use Rattle.pol_model.specs.After.{after};
 ghost use Rattle.pol_model.specs.Commits.{Commits};
 ghost use Rattle.pol_model.specs.Committed.{committed_of};
@@ -24,15 +24,10 @@ impl Repo {
         ensures new { self.new ≡ record self.old { journal = self.old.journal ++ ready.request ∷ []; readied = None } }
     {
         let Ready { request, done } = ready;
-        match self.readied.take() {
-            Some(readied) => {
-                self.store.carry_out(readied);
-                self.journal.push(request).unwrap();
-                done
-            }
-            // No caller comes here: the request is prepared.
-            None => done,
-        }
+        let readied = self.readied.take().unwrap();
+        self.store.carry_out(readied);
+        self.journal.push(request).unwrap();
+        done
     }
 
     /// Gives up the request that was prepared last. It takes no memory.
@@ -40,11 +35,8 @@ impl Repo {
         requires request { self.old.readied ≡ Some ready.request }
         ensures new { self.new ≡ record self.old { readied = None } }
     {
-        match self.readied.take() {
-            Some(readied) => self.store.take_back(readied),
-            // No caller comes here: a request is prepared.
-            None => (),
-        }
+        let readied = self.readied.take().unwrap();
+        self.store.take_back(readied);
     }
 
     /// Does the request, if it has no fault, and raises the revision by one. The errors are those of `Repo::prepare`; after
@@ -55,7 +47,6 @@ impl Repo {
         steps: &mut Steps<L>,
     ) -> Result<Committed, CommitError>
         requires idle { self.old.readied ≡ None }
-        requires room { (state_in self.old).revision < 2 ^ 64 - 1 }
         requires short { IsShort request }
         ensures committed { IfOk result (λ done. Commits (state_in self.old) (state_in self.new) request done) }
         ensures new { OnOk result (self.new ≡ record self.old { journal = self.old.journal ++ request ∷ [] }) }

@@ -1,5 +1,5 @@
 //! Requests are prepared.
-ghost use Rattle.std.specs.Prelude.{◌≡◌, ◌<◌, ◌+◌, ◌-◌, ◌^◌, ◌≤◌, None, Some, false, IfErr, IfOk, OnErr, OnOk, vec_len};
+ghost use Rattle.std.specs.Prelude.{◌≡◌, ◌<◌, ◌+◌, ◌-◌, ◌^◌, ◌≤◌, None, Some, false, length, IfErr, IfOk, OnErr, OnOk, vec_len};
 ghost use Rattle.std.specs.Vec.{vec_capacity};
 ghost use Rattle.pol_model.specs.After.{after};
 ghost use Rattle.pol_model.specs.Committed.{committed_of};
@@ -35,14 +35,17 @@ fn ready_in<L: Ledger>(
     steps: &mut Steps<L>,
 ) -> Result<Readied, ReadyError>
     requires settled { IsSettled store.old }
-    requires room { store.old.state.revision < 2 ^ 64 - 1 }
+    requires counts { store.old.state.revision ≡ length journal.old.items }
     requires short { IsShort request.now }
     ensures journal { journal.new.items ≡ journal.old.items }
     ensures room { OnOk result (vec_len journal.new < vec_capacity journal.new) }
+    ensures rises { OnOk result (store.old.state.revision < 2 ^ 64 - 1) }
     ensures readied { ReadiesOrNot request.now store.old store.new result }
     ensures cost { is_of_policy request.now ≡ false → steps.new ≤ steps.old + label_selectors store.old.cache.live }
 {
     journal.reserve(1)?;
+    // The call tells that a capacity is a number of 64 bits, and so the revision is below the last one.
+    let _capacity = journal.capacity();
     store.ready(request, steps)
 }
 
@@ -69,7 +72,6 @@ impl Repo {
         steps: &mut Steps<L>,
     ) -> Result<Ready, CommitError>
         requires idle { self.old.readied ≡ None }
-        requires room { (state_in self.old).revision < 2 ^ 64 - 1 }
         requires short { IsShort request }
         ensures request { IfOk result (λ ready. ready.request ≡ request) }
         ensures no_fault { OnOk result (fault_of (state_in self.old) request ≡ None) }

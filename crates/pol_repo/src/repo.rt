@@ -1,5 +1,6 @@
 //! The repository, and what is told at any time.
 ghost use Rattle.std.specs.Prelude.{◌≡◌, [], None, IfOk};
+ghost use Rattle.pol_facts.specs.WithoutFaults.{WithoutFaults};
 ghost use Rattle.pol_repo.specs.Repository.{state_in};
 
 use pol_data::Memory;
@@ -55,9 +56,11 @@ impl Repo {
         })
     }
 
-    /// The requests so far, in the order in which they were accepted.
+    /// The requests so far, in the order in which they were accepted. Each was valid, and had no fault in the state that
+    /// those before it had made.
     pub fn journal(&self) -> &[Request]
         ensures requests { result.now ≡ self.now.journal }
+        ensures without_faults { WithoutFaults self.now.options self.now.journal }
     {
         self.journal.as_slice()
     }

@@ -1,6 +1,6 @@
 use Rattle.std.proofs.Common.{arith, vec_len}
 use Rattle.std.specs.Vec.{vec_capacity}
-use Rattle.pol_repo.proofs.Standing.{few_steps, prepared, prepared_done, prepared_no_fault, prepared_rises, prepared_seen, refused, refused_cause, settled}
+use Rattle.pol_repo.proofs.Standing.{counts, few_steps, prepared, prepared_done, prepared_no_fault, prepared_rises, prepared_seen, refused, refused_cause, settled}
 use Rattle.pol_repo.proofs.repo.Repo.prepare.Goals as goal
 
 pub ready_in-requires-clause-settled : goal.ready_in-requires-clause-settled
@@ -8,12 +8,17 @@ ready_in-requires-clause-settled g c =
     settled c.self.inside.options c.self.inside.journal.items (vec_len c.self.inside.journal) (vec_capacity c.self.inside.journal) c.self.inside.store c.self.inside.readied c.args.self.now
     c.self.view_is c.self.invariant c.requires.idle
 
+pub ready_in-requires-clause-counts : goal.ready_in-requires-clause-counts
+ready_in-requires-clause-counts g c =
+    counts c.self.inside.options c.self.inside.journal.items (vec_len c.self.inside.journal) (vec_capacity c.self.inside.journal) c.self.inside.store c.self.inside.readied c.args.self.now
+    c.self.view_is c.self.invariant
+
 pub answer-done-requires : goal.answer-done-requires
 answer-done-requires g c = record {
   room = prepared_rises c.self.inside.options c.self.inside.journal.items (vec_len c.self.inside.journal) (vec_capacity c.self.inside.journal) c.self.inside.store c.self.inside.readied c.args.self.now
       c.self.view_is c.self.invariant c.requires.idle
       c.args.request c.ready_in.new.journal.items c.ready_in.new.store c.ready_in.ensures.journal
-      c.in-Ok.readied c.requires.room c.in-Ok.ensures.readied;
+      c.in-Ok.readied c.in-Ok.ensures.rises c.in-Ok.ensures.readied;
 }
 
 pub invariant_of-self : goal.invariant_of-self
@@ -21,7 +26,7 @@ invariant_of-self g c =
     prepared c.self.inside.options c.self.inside.journal.items (vec_len c.self.inside.journal) (vec_capacity c.self.inside.journal) c.self.inside.store c.self.inside.readied c.args.self.now
     c.self.view_is c.self.invariant c.requires.idle
     c.args.request c.ready_in.new.journal.items c.ready_in.new.store c.ready_in.ensures.journal
-    c.in-Ok.readied (vec_len c.ready_in.new.journal) (vec_capacity c.ready_in.new.journal) c.requires.room c.in-Ok.ensures.room c.in-Ok.ensures.readied
+    c.in-Ok.readied (vec_len c.ready_in.new.journal) (vec_capacity c.ready_in.new.journal) c.in-Ok.ensures.rises c.in-Ok.ensures.room c.in-Ok.ensures.readied
 
 pub returns-in-Ok-clause-no_fault : goal.returns-in-Ok-clause-no_fault
 returns-in-Ok-clause-no_fault g c =
