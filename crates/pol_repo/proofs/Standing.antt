@@ -1,12 +1,8 @@
 -- What the parts of a repository tell of its state, and of the request that is prepared.
-<<<<<<< HEAD
-use Rattle.std.proofs.Common.{◌≡◌, ℕ, ◌==◌, ◌-◌, ◌<◌, ◌^◌, ◌++◌, ◌&&◌, not, List, [], ◌∷◌, Option, None, Some, option_map, refl, sym, ap, ◌∙◌, subst}
-use Rattle.std.specs.Prelude.{Ok, Err, ◌≤◌}
-=======
 use Rattle.std.proofs.Common.{◌≡◌, ℕ, ◌+◌, ◌==◌, ◌-◌, ◌<◌, ◌^◌, ◌++◌, ◌&&◌, not, true, List, [], ◌∷◌, find, length, map, IsSome, Option, None, Some, option_map, refl, sym, ap, ◌∙◌, subst, arith}
 use Rattle.std.specs.Prelude.{Result, Ok, Err, ◌≤◌}
->>>>>>> a2d79410a97d0d87429e286bc35db957063a3a26
 use Rattle.std.specs.Option.{option_map_or}
+use Rattle.std.specs.List.{list_any}
 use Rattle.pol_labels.specs.declared.label.Label.{Label}
 use Rattle.pol_model.specs.declared.options.Options.{Options}
 use Rattle.pol_model.specs.declared.request.Request.{Request}
@@ -25,14 +21,10 @@ use Rattle.pol_model.specs.declared.limits.TheConstants.{CLUSTER_FIRST}
 use Rattle.pol_model.specs.Identities.{free_number, is_local, labels_held, number_for}
 use Rattle.pol_model.specs.State.{State}
 use Rattle.pol_model.proofs.AscendingStates.{RowsAscend}
-<<<<<<< HEAD
-use Rattle.pol_facts.specs.Holding.{rows_taken}
-=======
 use Rattle.pol_model.proofs.Histories.{state_of-revision}
 use Rattle.pol_facts.specs.Holding.{has_row, row_of, rows_taken}
->>>>>>> a2d79410a97d0d87429e286bc35db957063a3a26
 use Rattle.pol_facts.specs.Keeps.{Keeps}
-use Rattle.pol_facts.specs.WithoutFaults.{MayCommit}
+use Rattle.pol_facts.specs.WithoutFaults.{MayCommit, WithoutFaults}
 use Rattle.pol_facts.proofs.HoldingLaws.{held_has, labels_row_is}
 use Rattle.pol_facts.proofs.KeepsAll.{state_keeps}
 use Rattle.pol_facts.proofs.Lives.{after_append}
@@ -46,7 +38,7 @@ use Rattle.pol_store.specs.Store.{IsSettled, StandsFor, Stored}
 use Rattle.pol_selcache.specs.Live.{AreLive, label_selectors}
 use Rattle.pol_repo.specs.Causes.{IsCause}
 use Rattle.pol_repo.specs.Cost.{label_peers}
-use Rattle.pol_repo.specs.Inside.{IsPrepared, IsSound, labels_of, request_of, seen_as}
+use Rattle.pol_repo.specs.Inside.{IsIn, IsPrepared, IsSound, labels_of, request_of, seen_as}
 use Rattle.pol_repo.specs.Repository.{Repository, state_in}
 use Rattle.pol_repo.proofs.LabelPeers.{selectors_few}
 
@@ -81,12 +73,6 @@ no_readied f (Some x) none = absurd cc
 some_readied : {X Y : Type 0} (f : X → Y) (o : Option X) (y : Y) → option_map f o ≡ Some y → (x : X) × (o ≡ Some x) × (f x ≡ y)
 some_readied f None y some = absurd cc
 some_readied f (Some x) y some = (x, refl, cc)
-
--- before the first request
-pub starts : (options : Options) (journal : List Request) (len capacity : ℕ) (stored : Stored) → journal ≡ [] → StandsFor (start options) stored → IsSound options journal len capacity stored None
-starts options journal len capacity stored none stands =
-    subst (λ (requests : List Request). IsSound options requests len capacity stored None) (sym none)
-    (record { without_faults = tt; inside = stands })
 
 module _ (options : Options) (journal : List Request) (len capacity : ℕ) (stored : Stored) where
   revision_of : (readied : Option Readied) → IsSound options journal len capacity stored readied → stored.state.revision ≡ (state_of options journal).revision

@@ -1,24 +1,12 @@
-<<<<<<< HEAD
-use Rattle.std.proofs.Common.{None, refl, vec_len}
-use Rattle.std.specs.Vec.{vec_capacity}
-use Rattle.pol_model.specs.declared.options.Options.{Options}
-use Rattle.pol_repo.proofs.Standing.{starts}
-=======
 use Rattle.std.proofs.Common.{List, None, refl, subst, sym, vec_len}
 use Rattle.std.specs.Vec.{vec_capacity}
 use Rattle.pol_model.specs.declared.options.Options.{Options}
 use Rattle.pol_model.specs.declared.request.Request.{Request}
 use Rattle.pol_repo.specs.Inside.{IsSound}
->>>>>>> a2d79410a97d0d87429e286bc35db957063a3a26
 use Rattle.pol_repo.proofs.repo.Repo.new.Goals as goal
 
 pub invariant_of-result : goal.invariant_of-result
 invariant_of-result c =
     let options : Options = record { mode = c.args.mode; localhost = c.args.localhost; map_max = None } in
-<<<<<<< HEAD
-    starts options c.new.result.items (vec_len c.new.result) (vec_capacity c.new.result) c.in_ok-new.field-0 c.new.ensures.items
-    (c.in_ok-new.ensures.start options refl)
-=======
     subst (λ (requests : List Request). IsSound options requests (vec_len c.new.result) (vec_capacity c.new.result) c.in_ok-new.field-0 None) (sym c.new.ensures.items)
     (record { without_faults = tt; inside = c.in_ok-new.ensures.start options refl })
->>>>>>> a2d79410a97d0d87429e286bc35db957063a3a26
