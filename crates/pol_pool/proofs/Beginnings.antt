@@ -4,7 +4,7 @@ use Rattle.std.proofs.lemmas.Bool.{cases_Bool, leb-true, leb-false}
 use Rattle.std.proofs.lemmas.List.{length-append, nil_from_length}
 use mathlib.Core.List.{IsPrefix}
 use Rattle.pol_pool.specs.declared.turn.Turn.{Turn}
-use Rattle.pol_pool.specs.History.{longer}
+use Rattle.pol_pool.specs.History.{longer, shorter}
 
 pub begins_itself : (xs : List Turn) → IsPrefix xs xs
 begins_itself xs = ([], append-nil xs)
@@ -52,7 +52,23 @@ module _ (xs ys zs : List Turn) (one : IsPrefix xs zs) (other : IsPrefix ys zs) 
   pub longer_begins : IsPrefix (longer xs ys) zs
   longer_begins = elim (nat_le (length xs) (length ys)) as (λ b. IsPrefix (cond b ys xs) zs) [ true ↦ other | false ↦ one ]
 
+  -- the shorter begins the longer
+  pub shorter_begins : IsPrefix (shorter xs ys) (longer xs ys)
+  shorter_begins =
+      elim (cases_Bool (nat_le (length xs) (length ys))) [
+        | inl few ↦ rw few (begins_other xs ys zs one other (leb-true (length xs) (length ys) few))
+        | inr many ↦ rw many (begins_other ys xs zs other one (let less = leb-false (length xs) (length ys) many in omega (arith, less)))
+      ]
+
   -- where one of two is the whole list, so is the longer one
   pub longer_knows : (xs ≡ zs) ⊎ (ys ≡ zs) → longer xs ys ≡ zs
   longer_knows (inl is) = begins_both (longer xs ys) zs longer_begins (rw (sym is) first_longer)
   longer_knows (inr is) = begins_both (longer xs ys) zs longer_begins (rw (sym is) second_longer)
+
+-- where the shorter begins the longer, each of the two does
+pub each_begins : (xs ys : List Turn) → IsPrefix (shorter xs ys) (longer xs ys) → IsPrefix xs (longer xs ys) × IsPrefix ys (longer xs ys)
+each_begins xs ys =
+    elim (nat_le (length xs) (length ys)) as (λ b. IsPrefix (cond b xs ys) (cond b ys xs) → IsPrefix xs (cond b ys xs) × IsPrefix ys (cond b ys xs)) [
+      | true ↦ λ it. (it, begins_itself ys)
+      | false ↦ λ it. (begins_itself xs, it)
+    ]

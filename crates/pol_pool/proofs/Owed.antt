@@ -2,6 +2,7 @@
 use Rattle.std.proofs.Common.{◌≡◌, ℕ, ◌≤◌, ◌<◌, length, drop, false, true, List, [], ◌∷◌, ◌++◌, refl, sym, ap, ◌∙◌, subst, arith}
 use Rattle.std.specs.Prelude.{◌==◌, slice_get, Some, None}
 use Rattle.std.proofs.lemmas.Option.{none-some, same_Some}
+use mathlib.Core.List.{IsPrefix}
 use mathlib.Core.Option.{none}
 use prog.Atomic.{either}
 use Rattle.atomic_table.specs.Table.{Allows, Me, step}
@@ -13,8 +14,9 @@ use Rattle.pol_pool.specs.declared.turn.Turn.{Turn}
 use Rattle.pol_pool.specs.declared.turn.Turn.TheVariants.{Put, Full, Taken, Empty}
 use Rattle.pol_pool.specs.History.{IsHistory, MayCome, waiting, waiting_after}
 use Rattle.pol_pool.specs.Passes.{IsHintPassOf, room_of}
-use Rattle.pol_pool.specs.Queue.{HasFetched, IsQueue, TellsEmpty, TellsFetched, TellsFull, TellsPut, TellsShare, TellsTaken, list_of, out, standing, with_turn}
+use Rattle.pol_pool.specs.Queue.{HasFetched, IsQueue, TellsEmpty, TellsFetched, TellsFull, TellsPut, TellsJoined, TellsTaken, list_of, of_both, out, standing, with_turn}
 use Rattle.pol_pool.specs.Shares.{IsPart}
+use Rattle.pol_pool.proofs.Beginnings.{each_begins}
 use Rattle.pol_pool.proofs.Histories.{fits, history_more, waiting_more}
 use Rattle.pol_pool.proofs.Steps.{answers, fetches, looks}
 
@@ -25,8 +27,14 @@ module _ (room slots id : ℕ) (me : Me (Buffer ℕ) Standing) (empty_handed : m
   pub fetches_at : me.0.room ≡ room → Allows (IsQueue room) slots id me 0 (λ n. either (n == 0) 1 n) (TellsFetched (step slots 0 0 1 none) me)
   fetches_at same = subst (λ (m : Me (Buffer ℕ) Standing). Allows (IsQueue room) slots id m 0 (λ n. either (n == 0) 1 n) (TellsFetched (step slots 0 0 1 none) m)) bare (fetches room slots id me.0 same part)
 
-  pub looks_at : me.0.holds ≡ false → Allows (IsQueue room) slots id me 0 (λ n. n) (TellsShare (step slots 0 0 0 none) me)
-  looks_at idle = subst (λ (m : Me (Buffer ℕ) Standing). Allows (IsQueue room) slots id m 0 (λ n. n) (TellsShare (step slots 0 0 0 none) m)) bare (looks room slots id me.0 idle part)
+  pub looks_at : me.0.holds ≡ false → Allows (IsQueue room) slots id me 0 (λ n. n) (TellsJoined (step slots 0 0 0 none) me)
+  looks_at idle = subst (λ (m : Me (Buffer ℕ) Standing). Allows (IsQueue room) slots id m 0 (λ n. n) (TellsJoined (step slots 0 0 0 none) m)) bare (looks room slots id me.0 idle part)
+
+-- what either of two passes had seen begins what the pass has seen that both were joined in
+pub joined_begin : (v w : Standing) (carried : List (ℕ × Buffer ℕ)) (me after : Me (Buffer ℕ) Standing) → me ≡ (of_both v w, carried) → after ≡ me → IsPrefix me.0.met me.0.seen → IsPrefix v.seen after.0.seen × IsPrefix w.seen after.0.seen
+joined_begin v w carried me after both same met =
+    let begins = subst (λ (m : Me (Buffer ℕ) Standing). IsPrefix m.0.met m.0.seen) both met in
+    subst (λ (m : Me (Buffer ℕ) Standing). IsPrefix v.seen m.0.seen × IsPrefix w.seen m.0.seen) (sym (same ∙ both)) (each_begins v.seen w.seen begins)
 
 first_of : (hints : List ℕ) (slot : ℕ) → Some slot ≡ slice_get hints 0 → hints ≡ slot ∷ drop 1 hints
 first_of [] slot is = absurd (none-some slot (sym is))

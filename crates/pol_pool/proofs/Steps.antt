@@ -11,7 +11,7 @@ use Rattle.circular_buffer.specs.Buffer.{Buffer, buffer}
 use Rattle.pol_pool.specs.declared.standing.Standing.{Standing}
 use Rattle.pol_pool.specs.declared.turn.Turn.{Turn}
 use Rattle.pol_pool.specs.History.{IsHistory, MayCome, waiting, waiting_after}
-use Rattle.pol_pool.specs.Queue.{AreOf, IsHome, IsOut, IsQueue, TellsFetched, TellsShare, newly_made, of_both, other_half, out, spent, standing, with_half, with_turn}
+use Rattle.pol_pool.specs.Queue.{AreOf, IsHome, IsOut, IsQueue, TellsFetched, TellsJoined, newly_made, of_both, other_half, out, spent, standing, with_half, with_turn}
 use Rattle.pol_pool.specs.Shares.{IsPart}
 use Rattle.pol_pool.proofs.Beginnings.{begins_itself}
 use Rattle.pol_pool.proofs.Histories.{history_more, waiting_more}
@@ -51,7 +51,7 @@ module _ (room slots id : ℕ) (v : Standing) (same : v.room ≡ room) (part : I
         record {
           history = history;
           legal = legal;
-          passes = steps room history views passes id v at history w part (begins_itself history) refl refl refl refl;
+          passes = steps room history views passes id v at history w part (begins_itself history) refl refl refl refl refl;
           list = inr (record {
             words = refl;
             list = refl;
@@ -106,7 +106,7 @@ module _ (room slots id : ℕ) (v : Standing) (list : Buffer ℕ) (turn : Turn) 
           record {
             history = now;
             legal = history_more room history turn legal (subst (λ (l : List Turn). MayCome room (waiting l) turn) mine.1 (rw (sym same) may));
-            passes = steps room history views passes id v at now w part (turn ∷ [], refl) seen refl refl (let more = length-append history (turn ∷ []) in omega (arith, more));
+            passes = steps room history views passes id v at now w part (turn ∷ [], refl) seen refl refl refl (let more = length-append history (turn ∷ []) in omega (arith, more));
             list = inl (record {
               words = refl;
               list = ap (λ (b : Buffer ℕ). some b ∷ []) (is ∙ (λ i. buffer (waiting_after (waiting (mine.1 i)) turn) (same i)) ∙ ap (λ l. buffer l room) (sym (waiting_more history turn)));
@@ -163,5 +163,5 @@ module _ (room slots id : ℕ) (v : Standing) (idle : v.holds ≡ false) (part :
   stays s it at = subst (λ (x : List ℕ × List Standing). IsQueue room (table x.0 s.homes x.1)) (λ i. (sym (set_same s.words 0) i, sym (set_again s.views id v at) i))
       (record { history = it.history; legal = it.legal; passes = it.passes; list = list_stays s it.history s.views (λ j u at. inr at) it.list })
 
-  pub looks : Allows (IsQueue room) slots id (v, []) 0 (λ n. n) (TellsShare (step slots 0 0 0 none) (v, []))
-  looks s it few at small = (v, keeps, tt, stays s it at, (refl, no_more_than_all room it.history s.views it.passes id v at))
+  pub looks : Allows (IsQueue room) slots id (v, []) 0 (λ n. n) (TellsJoined (step slots 0 0 0 none) (v, []))
+  looks s it few at small = (v, keeps, tt, stays s it at, (refl, no_more_than_all room it.history s.views it.passes id v at, (it.passes.each id v at).met))

@@ -11,7 +11,7 @@ use Rattle.pol_pool.specs.declared.turn.Turn.{Turn}
 use Rattle.pol_pool.specs.History.{longer}
 use Rattle.pol_pool.specs.Queue.{AreOf, HasSeen, IsKnown, all_own, newly_made, of_both, other_half, spent, with_half}
 use Rattle.pol_pool.specs.Shares.{AreShares, IsAll, IsPart}
-use Rattle.pol_pool.proofs.Beginnings.{begins_further, longer_begins, longer_knows}
+use Rattle.pol_pool.proofs.Beginnings.{begins_further, longer_begins, longer_knows, shorter_begins}
 use Rattle.pol_pool.proofs.Shares.{all_units, both_part, both_units, doubled, finer, half_part, half_units, no_more, none_units, one_measure, one_more, one_of, some_units}
 
 -- ---- what holds of each pass
@@ -89,12 +89,12 @@ module _ (room : ℕ) (history : List Turn) (views : List Standing) (it : AreOf 
       record { whole = shares.whole; units = mine.mine + mine.rest; least = shares.least; few = omega (arith, sum, few); come = mine.put w mine.mine (rw (sym same) mine.is) }
 
   -- the pass has then seen all of the history, which has gone on to `now`, and each turn more is its own
-  pub steps : (now : List Turn) (w : Standing) → IsPart v.share → IsPrefix history now → w.seen ≡ now → w.room ≡ v.room → v.share ≡ w.share → w.own + length history ≡ v.own + length now → AreOf room now (set views port w)
-  steps now w part later seen same share own = record {
+  pub steps : (now : List Turn) (w : Standing) → IsPart v.share → IsPrefix history now → w.seen ≡ now → w.met ≡ [] → w.room ≡ v.room → v.share ≡ w.share → w.own + length history ≡ v.own + length now → AreOf room now (set views port w)
+  steps now w part later seen unmet same share own = record {
     each =
         each_set (HasSeen room now) views port w
-        (record { fits = λ _. same ∙ (it.each port v at).fits part; past = ([], append-nil w.seen ∙ seen) })
-        (λ j u there. let old = it.each j u there in record { fits = old.fits; past = begins_further u.seen history now old.past later });
+        (record { fits = λ _. same ∙ (it.each port v at).fits part; past = ([], append-nil w.seen ∙ seen); met = (w.seen, ap (λ (l : List Turn). l ++ w.seen) unmet) })
+        (λ j u there. let old = it.each j u there in record { fits = old.fits; past = begins_further u.seen history now old.past later; met = old.met });
     known = record { port = port; by = w; at = at_here views port v w at; part = rw (sym share) part; knows = seen };
     own = (let sum = own_set views port v w at in let before = it.own in omega (arith, sum, before, own));
     shares = same_shares w share;
@@ -126,8 +126,8 @@ module _ (room : ℕ) (history : List Turn) (views : List Standing) (it : AreOf 
       let left = with_half v in
       let known = it.known in
       let mine = it.each port v at in
-      let seen : HasSeen room history left = record { fits = λ _. mine.fits part; past = mine.past } in
-      let seen' : HasSeen room history (other_half v) = record { fits = λ _. mine.fits part; past = mine.past } in
+      let seen : HasSeen room history left = record { fits = λ _. mine.fits part; past = mine.past; met = (v.seen, refl) } in
+      let seen' : HasSeen room history (other_half v) = record { fits = λ _. mine.fits part; past = mine.past; met = (v.seen, refl) } in
       record {
         each = each_more (HasSeen room history) (set views port left) (other_half v) seen' (each_set (HasSeen room history) views port left seen it.each);
         known =
@@ -196,8 +196,10 @@ module _ (room : ℕ) (history : List Turn) (views : List Standing) (it : AreOf 
 
     pub joins : IsPart v.share → IsPart w.share → AreOf room history (set (set views port (of_both v w)) other spent)
     joins part part' =
-        let both : HasSeen room history (of_both v w) = record { fits = λ _. (it.each port v at).fits part; past = longer_begins v.seen w.seen history (it.each port v at).past (it.each other w there).past } in
-        let nothing : HasSeen room history spent = record { fits = λ (none : IsPart spent.share). absurd (let some_part = none.part in omega (arith, some_part)); past = (history, refl) } in
+        let mine = (it.each port v at).past in
+        let theirs = (it.each other w there).past in
+        let both : HasSeen room history (of_both v w) = record { fits = λ _. (it.each port v at).fits part; past = longer_begins v.seen w.seen history mine theirs; met = shorter_begins v.seen w.seen history mine theirs } in
+        let nothing : HasSeen room history spent = record { fits = λ (none : IsPart spent.share). absurd (let some_part = none.part in omega (arith, some_part)); past = (history, refl); met = ([], refl) } in
         record {
           each = each_set (HasSeen room history) (set views port (of_both v w)) other spent nothing (each_set (HasSeen room history) views port (of_both v w) both it.each);
           known = both_known part part';
@@ -210,7 +212,7 @@ module _ (room : ℕ) (history : List Turn) (views : List Standing) (it : AreOf 
 
 pub begins : (room : ℕ) → AreOf room [] (newly_made room ∷ [])
 begins room = record {
-  each = each_more (HasSeen room []) [] (newly_made room) (record { fits = λ _. refl; past = ([], refl) }) (λ j u at. absurd (some-ne-none u (sym at)));
+  each = each_more (HasSeen room []) [] (newly_made room) (record { fits = λ _. refl; past = ([], refl); met = ([], refl) }) (λ j u at. absurd (some-ne-none u (sym at)));
   known = record { port = 0; by = newly_made room; at = refl; part = record { part = omega arith; of = omega arith }; knows = refl };
   own = refl;
   shares = record { whole = 1; units = 1; least = omega arith; few = omega arith; come = (1, 0, record { of = omega arith; is = refl }, refl, refl) };

@@ -51,3 +51,7 @@ hints_taken (Empty ∷ turns) = hints_taken turns
 -- what either of two passes has seen
 abbrev pub longer : List Turn → List Turn → List Turn
 longer a b = if nat_le (length a) (length b) then b else a
+
+-- what both of them have seen
+abbrev pub shorter : List Turn → List Turn → List Turn
+shorter a b = if nat_le (length a) (length b) then a else b

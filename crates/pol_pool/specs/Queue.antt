@@ -9,16 +9,18 @@ use Rattle.pol_pool.specs.declared.standing.Share.{Share}
 use Rattle.pol_pool.specs.declared.standing.Standing.{Standing}
 use Rattle.pol_pool.specs.declared.turn.Turn.{Turn}
 use Rattle.pol_pool.specs.declared.turn.Turn.TheVariants.{Put, Full, Taken, Empty}
-use Rattle.pol_pool.specs.History.{IsHistory, longer, waiting}
+use Rattle.pol_pool.specs.History.{IsHistory, longer, shorter, waiting}
 use Rattle.pol_pool.specs.Shares.{AreShares, IsAll, IsPart, half, no_share, together, whole_share}
 
 abbrev pub standing : ℕ → List Turn → ℕ → Share → Bool → Standing
-standing room seen own share holds = record { room = room; seen = seen; own = own; share = share; holds = holds }
+standing room seen own share holds = record { room = room; seen = seen; met = []; own = own; share = share; holds = holds }
 
--- what a pass knows: a beginning of the history, and the room where it has a share
+-- what a pass knows: a beginning of the history, which goes on from what both of two joined passes had seen; and the room
+-- where it has a share
 pub record HasSeen (room : ℕ) (history : List Turn) (v : Standing) : Type 0 where
   pub fits : IsPart v.share → v.room ≡ room
   pub past : IsPrefix v.seen history
+  pub met : IsPrefix v.met v.seen
 
 -- some pass that has a share has seen all
 pub record IsKnown (history : List Turn) (views : List Standing) : Type 0 where
@@ -110,8 +112,8 @@ TellsTaken s before found after = (slot : ℕ) × (waiting before.0.seen ≡ slo
 abbrev pub TellsEmpty : Step (Buffer ℕ) → Me (Buffer ℕ) Standing → ℕ → Me (Buffer ℕ) Standing → Type 0
 TellsEmpty s before found after = after ≡ with_turn before.0 Empty
 
-abbrev pub TellsShare : Step (Buffer ℕ) → Me (Buffer ℕ) Standing → ℕ → Me (Buffer ℕ) Standing → Type 0
-TellsShare s before found after = (after ≡ before) × (before.0.share.part ≤ before.0.share.of)
+abbrev pub TellsJoined : Step (Buffer ℕ) → Me (Buffer ℕ) Standing → ℕ → Me (Buffer ℕ) Standing → Type 0
+TellsJoined s before found after = (after ≡ before) × (before.0.share.part ≤ before.0.share.of) × IsPrefix before.0.met before.0.seen
 
 -- ---- where passes stand
 
@@ -125,7 +127,7 @@ abbrev pub other_half : Standing → Standing
 other_half v = standing v.room v.seen 0 (half v.share) false
 
 abbrev pub of_both : Standing → Standing → Standing
-of_both v w = standing v.room (longer v.seen w.seen) (v.own + w.own) (together v.share w.share) v.holds
+of_both v w = record { room = v.room; seen = longer v.seen w.seen; met = shorter v.seen w.seen; own = v.own + w.own; share = together v.share w.share; holds = v.holds }
 
 abbrev pub spent : Standing
 spent = standing 0 [] 0 no_share false

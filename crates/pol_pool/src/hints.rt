@@ -1,5 +1,6 @@
 //! A queue of hints.
 ghost use Rattle.std.specs.Prelude.{◌≡◌, ◌≤◌, ◌<◌, [], ◌+◌, length, slice_get, false, IfOk, IfSome, IfNone, OnOk, OnErr, IsTrue};
+ghost use mathlib.Core.List.{IsPrefix};
 ghost use Rattle.pol_pool.specs.declared.turn.Turn.TheVariants.{Put, Full, Taken, Empty};
 ghost use Rattle.pol_pool.specs.History.{longer, waiting};
 ghost use Rattle.pol_pool.specs.Passes.{Adds, IsHintPassOf, IsOnly, own_of, room_of, seen_by, share_of};
@@ -66,12 +67,14 @@ impl Hints {
         Ok(HintPass { seat })
     }
 
-    /// Puts two passes together: this one has then seen what either has, and has the turns and the shares of both. Neither
-    /// was the only one.
+    /// Puts two passes together: this one has then seen what either has, and has the turns and the shares of both. What each
+    /// had seen begins what this one has then seen: their histories are one. Neither was the only one.
     pub fn join<R: Wait>(&self, _rt: &R, pass: &mut HintPass, other: HintPass)
         requires pass { IsHintPassOf self.now pass.old }
         requires other { IsHintPassOf self.now other }
         ensures pass { IsHintPassOf self.now pass.new }
+        ensures past { IsPrefix (seen_by pass.old) (seen_by pass.new) }
+        ensures other_past { IsPrefix (seen_by other) (seen_by pass.new) }
         ensures seen { seen_by pass.new ≡ longer (seen_by pass.old) (seen_by other) }
         ensures own { own_of pass.new ≡ own_of pass.old + own_of other }
         ensures share { share_of pass.new ≡ together (share_of pass.old) (share_of other) }

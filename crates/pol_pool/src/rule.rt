@@ -84,11 +84,11 @@ impl Play<Waiting, Standing> for FindsEmpty {
     ghost then = { TellsEmpty };
 }
 
-/// No share is more than the whole.
+/// No share is more than the whole, and what both of two joined passes had seen begins what either had.
 pub(crate) struct Looks;
 
 impl Play<Waiting, Standing> for Looks {
-    ghost use Rattle.pol_pool.specs.Queue.{TellsShare};
+    ghost use Rattle.pol_pool.specs.Queue.{TellsJoined};
 
-    ghost then = { TellsShare };
+    ghost then = { TellsJoined };
 }

@@ -16,6 +16,8 @@ pub struct Standing {
     pub room: u32,
     /// The history that the pass has seen, the oldest turn first.
     pub seen: LinkedList<Turn>,
+    /// After a join, what both of the joined passes had seen. It is empty again after a split and after a turn.
+    pub met: LinkedList<Turn>,
     /// How many turns of the history are its own, or of passes that were joined to it.
     pub own: u32,
     /// The passes of a queue have no more than the whole together, so one that has it all is the only one.

@@ -3,7 +3,7 @@ use Rattle.atomic_table.specs.Table.{Me}
 use Rattle.circular_buffer.specs.Buffer.{Buffer}
 use Rattle.pol_pool.specs.declared.standing.Standing.{Standing}
 use Rattle.pol_pool.specs.Shares.{IsPart}
-use Rattle.pol_pool.proofs.Owed.{looks_at}
+use Rattle.pol_pool.proofs.Owed.{joined_begin, looks_at}
 use Rattle.pol_pool.proofs.Shares.{both_part}
 use Rattle.pol_pool.proofs.Steps.{merges}
 use Rattle.pol_pool.proofs.hints.Hints.join.Goals as goal
@@ -24,3 +24,9 @@ load-requires g c =
       omega (arith, word),
       looks_at _ _ _ _ (ap (λ (m : Me (Buffer ℕ) Standing). m.1) both ∙ pass.idle.1) (subst (λ (m : Me (Buffer ℕ) Standing). IsPart m.0.share) (sym both) (both_part _ _ pass.part other.part)) (ap (λ (m : Me (Buffer ℕ) Standing). m.0.holds) both ∙ pass.idle.0),
     )
+
+pub returns-clause-past : goal.returns-clause-past
+returns-clause-past g c = let looked = c.load.ensures.2 in (joined_begin c.args.pass.now.seat.me.0 c.args.other.seat.me.0 _ _ _ c.join_seat.ensures.2 looked.0 looked.2).0
+
+pub returns-clause-other_past : goal.returns-clause-other_past
+returns-clause-other_past g c = let looked = c.load.ensures.2 in (joined_begin c.args.pass.now.seat.me.0 c.args.other.seat.me.0 _ _ _ c.join_seat.ensures.2 looked.0 looked.2).1
