@@ -39,7 +39,6 @@ pub fn answer_line(
     reading: Reading,
 ) -> Result<Answer, Memory>
     requires idle { repo.old.readied ≡ None }
-    requires room { (state_in repo.old).revision < 2 ^ 64 - 1 }
     ensures answer { IfOk result (λ answer. answer ≡ answer_in repo.old.options (state_in repo.old) phase reading) }
     ensures state { OnOk result (state_in repo.new ≡ state_then (state_in repo.old) reading) }
     ensures options { OnOk result (repo.new.options ≡ repo.old.options) }
@@ -62,7 +61,6 @@ pub fn answer_line(
 
 fn commit(repo: &mut Repo, request: Request) -> Result<Answer, Memory>
     requires idle { repo.old.readied ≡ None }
-    requires room { (state_in repo.old).revision < 2 ^ 64 - 1 }
     ensures answer { IfOk result (λ answer. answer ≡ commit_answer (state_in repo.old) request) }
     ensures state { OnOk result (state_in repo.new ≡ state_committed (state_in repo.old) request) }
     ensures options { OnOk result (repo.new.options ≡ repo.old.options) }
@@ -92,7 +90,6 @@ fn commit_over<L: Ledger>(
     requires parts { blank.parts ≡ L.parts }
     requires some { blank.parts ≡ 1 }
     requires idle { repo.old.readied ≡ None }
-    requires room { (state_in repo.old).revision < 2 ^ 64 - 1 }
     requires short { IsShort request }
     ensures committed { IfOk result (λ done. Commits (state_in repo.old) (state_in repo.new) request done) }
     ensures options { OnOk result (repo.new.options ≡ repo.old.options) }
