@@ -1,11 +1,12 @@
 -- Lines that were answered in order.
-use Rattle.std.proofs.Common.{◌≡◌, ℕ, suc, List, [], ◌∷◌, length, None, refl, ap, sym, ◌∙◌, subst}
+use Rattle.std.proofs.Common.{◌≡◌, ℕ, suc, List, [], ◌∷◌, length, Option, None, refl, ap, sym, ◌∙◌, subst}
 use Rattle.std.specs.List.{zip}
 use Rattle.pol_model.specs.State.{State}
 use Rattle.pol_model.specs.After.{start}
 use Rattle.pol_model.specs.declared.options.Options.{Options}
 use Rattle.pol_answer.specs.declared.answer.Answer.{Answer}
 use Rattle.pol_gen.specs.Generated.{generated}
+use Rattle.pol_repo.specs.Repository.{Repository}
 use Rattle.pol_run.specs.Run.{IsRun, readings_of}
 use Rattle.pol_run.specs.Serial.{serial_answers, answers_from, state_then}
 use Rattle.pol_run.specs.Spots.{Reading, phase_after, spots_of}
@@ -28,3 +29,12 @@ module _ (options : Options) (readings : List Reading) (answers : List Answer) (
 
   pub one_summary : (n : ℕ) → readings ≡ readings_of (generated n) → summary_text answers ≡ summary options n
   one_summary n same = ap summary_text (in_order ∙ ap (serial_answers options) same)
+
+abbrev with_limit : Options → Option ℕ → Options
+with_limit options limit = record options { map_max = limit }
+
+-- a repository that is made for options without a limit has these options
+pub under_these : (options : Options) (repo : Repository)
+    → repo ≡ record { options = record { mode = options.mode; localhost = options.localhost; map_max = None }; journal = []; readied = None }
+    → options.map_max ≡ None → repo.options ≡ options
+under_these options repo made free = ap (λ (r : Repository). r.options) made ∙ ap (with_limit options) (sym free)
