@@ -4,7 +4,7 @@ ghost use Rattle.pol_model.specs.declared.request.Request.TheVariants.{SetMode};
 ghost use Rattle.pol_model.specs.Sizes.{IsShort};
 ghost use Rattle.pol_selcache.specs.Live.{label_selectors};
 ghost use Rattle.pol_store.specs.Readied.{ReadiesOrNot, is_of_policy};
-ghost use Rattle.pol_store.specs.Store.{IsSettled};
+ghost use Rattle.pol_store.specs.Store.{StandsForSome};
 
 use crate::error::ReadyError;
 use crate::readied::{Change, Readied};
@@ -20,7 +20,7 @@ impl Store {
         mode: Mode,
         steps: &mut Steps<L>,
     ) -> Result<Readied, ReadyError>
-        requires settled { IsSettled self.old }
+        requires stands { StandsForSome self.old }
         requires room { self.old.state.revision < 2 ^ 64 - 1 }
         ensures readied { ReadiesOrNot (SetMode mode) self.old self.new result }
         ensures cost { steps.new ≤ steps.old }
@@ -42,7 +42,7 @@ impl Store {
         request: &Request,
         steps: &mut Steps<L>,
     ) -> Result<Readied, ReadyError>
-        requires settled { IsSettled self.old }
+        requires stands { StandsForSome self.old }
         requires room { self.old.state.revision < 2 ^ 64 - 1 }
         requires short { IsShort request.now }
         ensures readied { ReadiesOrNot request.now self.old self.new result }

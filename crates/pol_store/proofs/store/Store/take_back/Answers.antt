@@ -23,10 +23,10 @@ returns-in-Named c = record {
 
 pub take_back_policy-requires : goal.take_back_policy-requires
 take_back_policy-requires c = record {
-  referred = policy_may_give_back c.in-Policy.new c.in-Policy.field-1 c.in-Policy.taken c.in-Policy.field-3 c.args.self.now c.args.readied c.in-Policy.is c.requires.ready;
+  referred = policy_may_give_back c.in-Policy.stamped c.in-Policy.key c.in-Policy.taken c.in-Policy.given_up c.args.self.now c.args.readied c.in-Policy.is c.requires.ready;
 }
 
 pub returns-in-Policy : goal.returns-in-Policy
 returns-in-Policy c = record {
-  back = policy_back c.in-Policy.new c.in-Policy.field-1 c.in-Policy.taken c.in-Policy.field-3 c.args.self.now c.take_back_policy.new.self c.args.readied c.in-Policy.is c.take_back_policy.ensures.back;
+  back = policy_back c.in-Policy.stamped c.in-Policy.key c.in-Policy.taken c.in-Policy.given_up c.args.self.now c.take_back_policy.new.self c.args.readied c.in-Policy.is c.take_back_policy.ensures.back;
 }
