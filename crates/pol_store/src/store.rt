@@ -3,8 +3,10 @@ ghost use Rattle.std.specs.Prelude.{◌≡◌, IfOk};
 ghost use Rattle.std.specs.List.{AllByRecursion};
 ghost use Rattle.pol_model.specs.declared.options.Options.{Options as AllOptions};
 ghost use Rattle.pol_model.specs.After.{start};
+ghost use Rattle.pol_selcache.specs.Cache.{IsSound};
 ghost use Rattle.pol_selcache.specs.Live.{AreLive};
 ghost use Rattle.pol_model.specs.Sizes.{IsShortPolicy};
+ghost use Rattle.pol_numbers.specs.Held.{nothing_held};
 ghost use Rattle.pol_store.specs.Store.{StandsFor};
 
 use pol_data::Memory;
@@ -56,6 +58,7 @@ impl Store {
     /// The state before the first request, in this mode. The one error is want of memory.
     pub fn new(alloc: Global, mode: Mode) -> Result<Store, Memory>
         ensures start { IfOk result (λ store. (options : AllOptions) → options.mode ≡ mode → StandsFor (start options) store) }
+        ensures nothing { IfOk result (λ store. store.cache ≡ nothing_held.cache) }
     {
         Ok(Store {
             alloc,
@@ -101,6 +104,7 @@ impl Store {
     pub fn horizon(&self) -> u64
         ensures horizon { result ≡ self.now.cache.log.horizon }
         ensures live { AreLive self.now.cache.live }
+        ensures sound { IsSound self.now.cache }
     {
         self.numbers.horizon()
     }
