@@ -24,6 +24,7 @@ use Rattle.pol_changes.specs.Recorded.{KeepsLast}
 use Rattle.pol_changes.specs.Sets.{IsMove}
 use Rattle.pol_changes.proofs.LogLemmas.{logs_keep_last}
 use Rattle.pol_peers.specs.Numbering.{GainsSelectors, LosesSelectors}
+use Rattle.pol_peers.proofs.Numbering.{fresh_less}
 use Rattle.pol_peers.proofs.Distinct.{is_listed as live_is_listed}
 use Rattle.pol_selcache.specs.Cache.{Cache, all_recorded}
 use Rattle.pol_selcache.specs.Live.{AreLive, Live, number_of}
@@ -172,6 +173,17 @@ chain_stays options journal old new nexts was stands are gains chained = record 
         let listed = live_listed (peers_of (state_of options journal).policies) new.cache.live stands.refs are p number is in
         let one = listed_live (peers_of (state_of options journal).policies) old.cache.live was.refs p listed in
         one.1 ∙ sym (gains.kept p one.0 one.1) ∙ is
+
+-- selectors came for a request that is given up
+pub gains_undone : (s : State) (old new : Stored) (mid : Cache) → StandsFor s old → StandsFor s new → AreLive old.cache.live → GainsSelectors old.cache mid → LosesSelectors mid new.cache → GainsSelectors old.cache new.cache
+gains_undone s old new mid was stands are gains loses = record {
+  kept = λ p number is.
+      let listed = live_listed (peers_of s.policies) old.cache.live was.refs are p number is in
+      let one = listed_live (peers_of s.policies) new.cache.live stands.refs p listed in
+      one.1 ∙ sym (loses.kept p one.0 one.1) ∙ gains.kept p number is;
+  fresh = fresh_less old.cache mid new.cache gains.fresh loses.next loses.kept;
+  log = loses.log ∙ gains.log ∙ ap (λ (log : Log). record old.cache.log { spare = log.spare }) (sym loses.log);
+}
 
 -- ---- what is told
 pub chain_horizon : (options : Options) (journal : List Request) (nexts : List ℕ) (cache : Cache) → IsChained options journal nexts cache → cache.log.horizon ≡ horizon_of options journal

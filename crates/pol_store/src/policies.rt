@@ -135,6 +135,8 @@ impl Store {
         ensures readied { ReadiesOrNot (Apply policy.now) self.old self.new result }
         ensures selectors { GainsSelectors self.old.cache self.new.cache }
     {
+        // The call tells that the selectors fit together.
+        let _known = self.horizon();
         self.reserve_policy()?;
         let new = self.new_policy(policy)?;
         self.refer(policy, steps)?;

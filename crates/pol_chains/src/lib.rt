@@ -1,0 +1,7 @@
+//! Since which revision a peer is listed, and what its set was then, as the selectors and the log of changes tell.
+//!
+//! Each law is the contract of a function that does nothing (`laws`). `specs/Changes` counts the changes of sets that a
+//! journal makes, and `specs/Chained` says what a repository has to keep to tell them.
+#![tactic(auto)]
+
+pub mod laws;
