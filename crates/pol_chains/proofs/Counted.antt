@@ -1,5 +1,5 @@
 -- A plan has as many changes as sets of listed peers change with its revision.
-use Rattle.std.proofs.Common.{◌≡◌, ℕ, ◌+◌, ◌≤◌, ◌==◌, ◌&&◌, not, nat_eq, Bool, true, false, cond, List, [], ◌∷◌, ◌++◌, count_by, filter, length, map, Option, Some, None, refl, sym, ap, ◌∙◌, inl, inr, subst, arith}
+use Rattle.std.proofs.Common.{suc, ◌≡◌, ℕ, ◌+◌, ◌≤◌, ◌==◌, ◌&&◌, not, nat_eq, Bool, true, false, cond, List, [], ◌∷◌, ◌++◌, count_by, filter, length, map, Option, Some, None, refl, sym, ap, ◌∙◌, inl, inr, subst, arith}
 use Rattle.std.specs.Cmp.Lexicographic.{bytes_decides, pointwise}
 use Rattle.std.specs.List.{cons_option, filter_map, list_any}
 use Rattle.std.specs.List.Sorted.{IsStrictlySortedBy}
@@ -43,6 +43,12 @@ abbrev moves : List ℕ → List ℕ → Bool
 moves old new = not (pointwise nat_eq old new)
 
 -- ---- one selector's change
+none_more : (n : ℕ) → n ≡ 0 + n
+none_more n = omega arith
+
+one_more : (n : ℕ) → suc n ≡ 1 + n
+one_more n = omega arith
+
 module _ (set : List ℕ) (s : Live) (sorted : IsStrictlySortedBy nat_cmp s.set) (set_sorts : IsStrictlySortedBy nat_cmp set) where
   one_change : (rest : List Planned) → length (cons_option (change_to set s) rest) ≡ weight (moves s.set set) + length rest
   one_change rest = by (is_empty (without set s.set) && is_empty (without s.set set)) refl
@@ -51,10 +57,10 @@ module _ (set : List ℕ) (s : Live) (sorted : IsStrictlySortedBy nat_cmp s.set)
       it = record { selector = s.number; gained = without set s.set; lost = without s.set set; set = set }
 
       by : (b : Bool) → (is_empty (without set s.set) && is_empty (without s.set set)) ≡ b → length (cons_option (cond b None (Some it)) rest) ≡ weight (moves s.set set) + length rest
-      by true still = ap (λ b. weight (not b) + length rest) (sym ((bytes_decides s.set set).1 (unmoved s.set set sorted set_sorts still)))
+      by true still = none_more (length rest) ∙ ap (λ b. weight (not b) + length rest) (sym ((bytes_decides s.set set).1 (unmoved s.set set sorted set_sorts still)))
       by false moved = elim (cases_Bool (pointwise nat_eq s.set set)) [
         | inl same ↦ absurd (let wrong : true ≡ false = sym (same_lists s.set set same) ∙ moved in cc)
-        | inr other ↦ ap (λ b. weight (not b) + length rest) (sym other)
+        | inr other ↦ one_more (length rest) ∙ ap (λ b. weight (not b) + length rest) (sym other)
       ]
 
 changes_counted : (rows before : List IdentityRow) → RowsAscend rows → RowsAscend before → (live : List Live) → AreExact before live
