@@ -1,5 +1,5 @@
 -- What becomes of the selectors in the steps of a policy's request.
-use Rattle.std.proofs.Common.{◌≡◌, List, ap, sym, subst, ◌∙◌}
+use Rattle.std.proofs.Common.{◌≡◌, List, ap, sym, subst}
 use Rattle.pol_rule.specs.declared.policy.Peer.{Peer}
 use Rattle.pol_changes.specs.Log.{Log}
 use Rattle.pol_selcache.specs.Cache.{Cache, with_room}
