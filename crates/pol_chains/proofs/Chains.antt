@@ -25,18 +25,18 @@ use Rattle.pol_changes.specs.Sets.{IsMove}
 use Rattle.pol_changes.proofs.LogLemmas.{logs_keep_last}
 use Rattle.pol_peers.specs.Numbering.{GainsSelectors, LosesSelectors}
 use Rattle.pol_peers.proofs.Numbering.{fresh_less}
-use Rattle.pol_peers.proofs.Distinct.{is_listed as live_is_listed}
+use Rattle.pol_peers.proofs.Found.{is_of}
 use Rattle.pol_selcache.specs.Cache.{Cache, all_recorded}
 use Rattle.pol_selcache.specs.Live.{AreLive, Live, number_of}
 use Rattle.pol_selcache.proofs.Retold.{tells_difference}
 use Rattle.pol_numbers.specs.Held.{nothing_held}
 use Rattle.pol_store.specs.Readied.{peers_with}
 use Rattle.pol_store.specs.Store.{StandsFor, Stored, peers_of}
-use Rattle.pol_chains.specs.Changes.{IsListedSince, changes_between, horizon_of, is_listed, listed_in, revision_before, revisions_until, set_in, state_at}
+use Rattle.pol_chains.specs.Changes.{IsListedSince, changes_between, horizon_of, is_listed, revision_before, revisions_until, set_in, state_at}
 use Rattle.pol_chains.specs.Chained.{IsChained, LeadsOn, selector_in}
 use Rattle.pol_chains.proofs.Counted.{plan_counted}
 use Rattle.pol_chains.proofs.Cuts.{at_earlier, at_last, at_present, longer, one_longer}
-use Rattle.pol_chains.proofs.Listing.{listed_in_both, listed_live, live_listed, numbers_stay, selector_of_peer}
+use Rattle.pol_chains.proofs.Listing.{listed_in_both, listed_live, live_listed, live_where, numbers_stay}
 use Rattle.pol_chains.proofs.Numbers.{listed_on, live_since, next_rises}
 use Rattle.pol_chains.proofs.Recorded.{all_with, horizon_by_revisions, keeps_all, revisions_with}
 use Rattle.pol_chains.proofs.Retold.{told_as, told_too}
@@ -82,33 +82,29 @@ module _ (options : Options) (journal : List Request) (request : Request) (old n
   abbrev mid : Cache
   mid = lead.mid.cache
 
-  -- each selector is of a listed peer
-  lists : (s : Live) → In s mid.live → list_any (peers.ghosts.eq s.peer) both ≡ true
-  lists s there = listed_in_both then request s.peer (live_is_listed (peers_with then request) mid.live lead.is_readied.refs lead.sound.live s there)
+  -- a selector is live for each peer that is listed before or after the request, and for no other
+  lists : (p : Peer) (number : ℕ) → number_of p mid.live ≡ Some number → list_any (peers.ghosts.eq p) both ≡ true
+  lists p number is = listed_in_both then request p (live_listed (peers_with then request) mid.live lead.is_readied.refs lead.sound.live p number is)
 
-  live_in_mid : (p : Peer) (number : ℕ) → number_of p mid.live ≡ Some number → (s : Live) × In s mid.live × (s.peer ≡ p)
-  live_in_mid p number is = let one = selector_of_peer then.identities mid.live lead.is_readied.exact p number is in (one.0, one.1, one.2)
-
-  -- and each listed peer has one
-  lives : (p : Peer) → list_any (peers.ghosts.eq p) both ≡ true → (s : Live) × In s mid.live × (s.peer ≡ p)
+  lives : (p : Peer) → list_any (peers.ghosts.eq p) both ≡ true → (number : ℕ) × (number_of p mid.live ≡ Some number)
   lives p there =
       let one = In-list_any (peers.ghosts.eq p) both there in
       elim (In-append one.0 (peers_of then.policies) (peers_of now.policies) one.1) [
         | inl before ↦
             let was = listed_live (peers_of then.policies) old.cache.live stands.refs p (list_any-In (peers.ghosts.eq p) one.0 (peers_of then.policies) before one.2) in
-            live_in_mid p was.0 (lead.gains.kept p was.0 was.1)
+            (was.0, lead.gains.kept p was.0 was.1)
         | inr later ↦
             let is = listed_live (peers_of now.policies) new.cache.live lead.stands.refs p (list_any-In (peers.ghosts.eq p) one.0 (peers_of now.policies) later one.2) in
-            live_in_mid p is.0 (mid_from_new p is.0 is.1)
+            (is.0, sym (numbers_stay lead.readied.plan.changes p mid.live) ∙ lead.loses.kept p is.0 is.1)
       ]
-    where
-      mid_from_new : (p : Peer) (number : ℕ) → number_of p new.cache.live ≡ Some number → number_of p mid.live ≡ Some number
-      mid_from_new p number is = sym (numbers_stay lead.readied.plan.changes p mid.live) ∙ lead.loses.kept p number is
+
+  found_where_listed : (p : Peer) → list_any (is_of p) mid.live ≡ list_any (peers.ghosts.eq p) both
+  found_where_listed p = live_where p mid.live both (lists p) (lives p)
 
   as_many : length lead.readied.plan.changes ≡ changes_between then now
   as_many =
       plan_counted then.identities now.identities (state_keeps options journal without_faults).identities.numbers mid lead.sound.live lead.readied.plan lead.is_readied.plan.fits
-      lead.is_readied.exact lead.is_readied.plan.exact both lists lives
+      lead.is_readied.exact lead.is_readied.plan.exact both found_where_listed
 
   -- the changes of earlier requests are the same
   earlier_changes : (revision : ℕ) → revision ≤ length journal → revisions_until options (longer options journal request) revision ≡ revisions_until options journal revision

@@ -4,11 +4,17 @@ use Rattle.std.specs.Cmp.Lexicographic.{bytes_decides, pointwise}
 use Rattle.std.specs.List.{cons_option, filter_map, list_any}
 use Rattle.std.specs.List.Sorted.{IsStrictlySortedBy}
 use Rattle.std.specs.Ordering.{nat_cmp}
+use Rattle.std.specs.Set.{distinct_count}
 use Rattle.std.proofs.lemmas.Bool.{cases_Bool}
+use Rattle.std.proofs.lemmas.List.{length-map}
+use Rattle.std.proofs.lemmas.List.Sums.{length-filter}
+use Rattle.std.proofs.lemmas.Map.Made.{length-from_keys}
+use Rattle.std.proofs.lemmas.Map.Views.{any-filter_same}
 use Rattle.pol_data.proofs.Counts.{count_by-cons}
 use Rattle.pol_data.proofs.Filters.{filter-none}
 use Rattle.pol_data.proofs.Members.{In, every-in}
-use Rattle.pol_facts.proofs.Membership.{In-append, In-list_any, In-map, list_any-In, map-In}
+use Rattle.pol_facts.proofs.Distinct.{differ_filtered}
+use Rattle.pol_facts.proofs.Membership.{list_any-map, map-In}
 use Rattle.pol_rule.specs.contracts.policy.PeerPartialEq.TheImpl as peers
 use Rattle.pol_rule.specs.declared.policy.Peer.{Peer}
 use Rattle.pol_rule.proofs.Equality.{peer_eq-Decides}
@@ -16,12 +22,10 @@ use Rattle.pol_model.specs.declared.row.IdentityRow.{IdentityRow}
 use Rattle.pol_model.specs.Selects.{set_at}
 use Rattle.pol_model.proofs.AscendingStates.{RowsAscend}
 use Rattle.pol_changes.specs.Ids.{has, without}
-use Rattle.pol_peers.specs.Listed.{distinct_peers}
-use Rattle.pol_peers.specs.References.{RefsOf}
-use Rattle.pol_peers.proofs.Distinct.{distinct_apart, distinct_has, distinct_of, no_more, weight}
-use Rattle.pol_peers.proofs.Found.{peer_itself}
+use Rattle.pol_peers.proofs.Equality.{equal_peers}
+use Rattle.pol_peers.proofs.Found.{is_of}
 use Rattle.pol_selcache.specs.Cache.{Cache, IsPlanFor}
-use Rattle.pol_selcache.specs.Live.{AreExact, AreLive, Live, number_of}
+use Rattle.pol_selcache.specs.Live.{AreExact, AreLive, Live}
 use Rattle.pol_selcache.specs.Plan.{Plan, Planned, after_changes, change_to, changed, changes_for, is_empty}
 use Rattle.pol_selcache.proofs.Exact.{plan_makes_exact, unmoved}
 use Rattle.pol_selcache.proofs.Numbers.{has-In}
@@ -38,6 +42,10 @@ nothing_without xs = ap is_empty (filter-none (λ n. not (has n xs)) xs (none_be
 same_lists : (xs ys : List ℕ) → pointwise nat_eq xs ys ≡ true → (is_empty (without ys xs) && is_empty (without xs ys)) ≡ true
 same_lists xs ys same =
     subst (λ zs. (is_empty (without zs xs) && is_empty (without xs zs)) ≡ true) ((bytes_decides xs ys).0 same) (λ i. nothing_without xs i && nothing_without xs i)
+
+-- how much a change counts
+abbrev weight : Bool → ℕ
+weight b = cond b 1 0
 
 abbrev moves : List ℕ → List ℕ → Bool
 moves old new = not (pointwise nat_eq old new)
@@ -77,13 +85,6 @@ count_alike p q [] alike = refl
 count_alike p q (x ∷ xs) alike =
     count_by-cons p x xs ∙ (λ i. weight (alike x (inl refl) i) + count_alike p q xs (λ y later. alike y (inr later)) i) ∙ sym (count_by-cons q x xs)
 
-count_map : {X Y : Type 0} (f : X → Y) (p : Y → Bool) (xs : List X) → count_by (λ x. p (f x)) xs ≡ count_by p (map f xs)
-count_map f p [] = refl
-count_map f p (x ∷ xs) = count_by-cons (λ x. p (f x)) x xs ∙ ap (λ (n : ℕ). weight (p (f x)) + n) (count_map f p xs) ∙ sym (count_by-cons p (f x) (map f xs))
-
-equal : (a b : ℕ) → a ≤ b → b ≤ a → a ≡ b
-equal a b below above = omega (arith, below, above)
-
 -- ---- the plan's changes
 module _ (before after : List IdentityRow) (before_ascend : RowsAscend before) (cache : Cache) (are : AreLive cache.live) (plan : Plan) (fits : IsPlanFor plan cache)
     (exact : AreExact before cache.live) (exact_after : AreExact after (changed plan.changes cache.live)) where
@@ -96,29 +97,29 @@ module _ (before after : List IdentityRow) (before_ascend : RowsAscend before) (
       sym (every-in (λ x. x.set ≡ set_at fits.rows x.peer) (changed plan.changes cache.live) made_by (after_changes plan.changes s) own)
       ∙ every-in (λ x. x.set ≡ set_at after x.peer) (changed plan.changes cache.live) exact_after (after_changes plan.changes s) own
 
-  -- the listed peers are those of the selectors
-  module _ (listed : List Peer) (lists : (s : Live) → In s cache.live → list_any (peers.ghosts.eq s.peer) listed ≡ true)
-      (lives : (p : Peer) → list_any (peers.ghosts.eq p) listed ≡ true → (s : Live) × In s cache.live × (s.peer ≡ p)) where
-    abbrev peers_live : List Peer
-    peers_live = map (λ (s : Live). s.peer) cache.live
+  -- a listed peer is that of a selector, and each selector's is listed
+  module _ (listed : List Peer) (lives : (p : Peer) → list_any (is_of p) cache.live ≡ list_any (peers.ghosts.eq p) listed) where
+    abbrev test : Peer → Bool
+    test p = moves (set_at before p) (set_at after p)
 
-    all_listed : (p : Peer) → In p peers_live → list_any (peers.ghosts.eq p) (distinct_peers listed) ≡ true
-    all_listed p there =
-        let one = In-map (λ (s : Live). s.peer) p cache.live there in
-        distinct_has p listed (subst (λ q. list_any (peers.ghosts.eq q) listed ≡ true) one.2 (lists one.0 one.1))
+    abbrev moved : Live → Bool
+    moved s = test s.peer
 
-    all_live : (p : Peer) → In p (distinct_peers listed) → list_any (peers.ghosts.eq p) peers_live ≡ true
-    all_live p there =
-        let one = lives p (list_any-In (peers.ghosts.eq p) p listed (distinct_of p listed there) (peer_itself p)) in
-        list_any-In (peers.ghosts.eq p) one.0.peer peers_live (map-In (λ (s : Live). s.peer) one.0 cache.live one.1) (subst (λ q. peers.ghosts.eq p q ≡ true) (sym one.2) (peer_itself p))
+    same_test : (p q : Peer) → peers.ghosts.eq p q ≡ true → test q ≡ test p
+    same_test p q same = ap test (sym ((peer_eq-Decides p q).0 same))
 
-    pub plan_counted : length plan.changes ≡ count_by (λ p. moves (set_at before p) (set_at after p)) (distinct_peers listed)
+    same_peers : (p : Peer) → list_any (peers.ghosts.eq p) (map (λ (s : Live). s.peer) (filter moved cache.live)) ≡ list_any (peers.ghosts.eq p) (filter test listed)
+    same_peers p =
+        list_any-map (λ (s : Live). s.peer) (peers.ghosts.eq p) (filter moved cache.live)
+        ∙ any-filter_same (is_of p) moved (test p) (λ s is. same_test p s.peer is) cache.live
+        ∙ ap (λ b. test p && b) (lives p)
+        ∙ sym (any-filter_same (peers.ghosts.eq p) test (test p) (λ q is. same_test p q is) listed)
+
+    pub plan_counted : length plan.changes ≡ distinct_count peers.ghosts.eq (filter test listed)
     plan_counted =
-        let test : Peer → Bool = λ p. moves (set_at before p) (set_at after p) in
         ap length fits.changes
         ∙ changes_counted fits.rows before fits.ascend before_ascend cache.live exact
-        ∙ count_alike (λ (s : Live). moves (set_at before s.peer) (set_at fits.rows s.peer)) (λ (s : Live). test s.peer) cache.live (λ s there. ap (moves (set_at before s.peer)) (sets_after s there))
-        ∙ count_map (λ (s : Live). s.peer) test cache.live
-        ∙ equal (count_by test peers_live) (count_by test (distinct_peers listed))
-        (no_more peers.ghosts.eq peer_eq-Decides test peers_live (distinct_peers listed) are.apart all_listed)
-        (no_more peers.ghosts.eq peer_eq-Decides test (distinct_peers listed) peers_live (distinct_apart listed) all_live)
+        ∙ count_alike (λ (s : Live). moves (set_at before s.peer) (set_at fits.rows s.peer)) moved cache.live (λ s there. ap (moves (set_at before s.peer)) (sets_after s there))
+        ∙ sym (length-filter moved cache.live)
+        ∙ sym (length-map (filter moved cache.live) (λ (s : Live). s.peer))
+        ∙ length-from_keys equal_peers (map (λ (s : Live). s.peer) (filter moved cache.live)) (filter test listed) (differ_filtered (λ (s : Live). s.peer) peer_eq-Decides moved cache.live are.apart) same_peers

@@ -5,3 +5,4 @@ pub mod Recorded
 pub mod Numbers
 pub mod Retold
 pub mod Chains
+pub mod MoveLaws

@@ -1,10 +1,10 @@
 -- The peers that are listed are those of live selectors.
 use Rattle.std.proofs.Common.{◌≡◌, ℕ, ◌+◌, ◌<◌, ◌≤◌, Bool, true, false, if◌then◌else◌, List, [], ◌∷◌, ◌++◌, find, Option, Some, None, option_map, refl, sym, ap, ◌∙◌, inl, inr, subst, arith}
 use Rattle.std.specs.List.{list_any}
-use Rattle.std.proofs.lemmas.Bool.{cases_Bool, true_from_ne_false}
+use Rattle.std.proofs.lemmas.Bool.{cases_Bool, false_from_ne_true, true_from_ne_false}
 use Rattle.pol_data.proofs.Counts.{count_by-none, count_by-some}
 use Rattle.pol_data.proofs.Members.{In, every-in}
-use Rattle.pol_facts.proofs.Membership.{In-append, In-left, In-right, In-list_any, find-In, list_any-In}
+use Rattle.pol_facts.proofs.Membership.{In-append, In-left, In-right, In-list_any, find-In, find-none, list_any-In}
 use Rattle.pol_rule.specs.contracts.policy.PeerPartialEq.TheImpl as peers
 use Rattle.pol_rule.specs.declared.policy.Peer.{Peer}
 use Rattle.pol_rule.proofs.Equality.{peer_eq-Decides}
@@ -41,6 +41,22 @@ listed_live listed live referred p there = by (find (is_of p) live) refl
     by : (o : Option Live) → find (is_of p) live ≡ o → (number : ℕ) × (number_of p live ≡ Some number)
     by None none = absurd (omega (arith, some, ap refs none))
     by (Some s) found = (s.number, ap (option_map (λ (x : Live). x.number)) found)
+
+-- a peer has a live selector just where a test says so
+pub live_where : (p : Peer) (live : List Live) (listed : List Peer) → ((number : ℕ) → number_of p live ≡ Some number → list_any (peers.ghosts.eq p) listed ≡ true)
+    → (list_any (peers.ghosts.eq p) listed ≡ true → (number : ℕ) × (number_of p live ≡ Some number)) → list_any (is_of p) live ≡ list_any (peers.ghosts.eq p) listed
+live_where p live listed lists lives = by (find (is_of p) live) refl
+  where
+    none_is_some : (number : ℕ) → number_of p live ≡ Some number → find (is_of p) live ≡ None → ⊥
+    none_is_some number some none = (let wrong : None ≡ Some number = sym (ap (option_map (λ (x : Live). x.number)) none) ∙ some in cc)
+
+    by : (o : Option Live) → find (is_of p) live ≡ o → list_any (is_of p) live ≡ list_any (peers.ghosts.eq p) listed
+    by None none =
+        find-none (is_of p) live none
+        ∙ sym (false_from_ne_true (list_any (peers.ghosts.eq p) listed) (λ there. let one = lives there in none_is_some one.0 one.1 none))
+    by (Some s) found =
+        let at = find-In (is_of p) s live found in
+        list_any-In (is_of p) s live at.0 at.1 ∙ sym (lists s.number (ap (option_map (λ (x : Live). x.number)) found))
 
 -- a peer's selector, and its set
 pub selector_of_peer : (rows : List IdentityRow) (live : List Live) → AreExact rows live → (p : Peer) (number : ℕ) → number_of p live ≡ Some number

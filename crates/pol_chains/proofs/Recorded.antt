@@ -2,14 +2,15 @@
 use Rattle.std.proofs.Common.{zero, suc, ◌≡◌, ℕ, ◌+◌, ◌≤◌, List, [], ◌∷◌, ◌++◌, fold, length, map, replicate, slice_get, Option, Some, None, refl, sym, ap, ◌∙◌, arith}
 use Rattle.std.specs.Prelude.{option_map}
 use Rattle.std.specs.Option.{option_map_or}
-use Rattle.std.proofs.lemmas.Option.{same_Some, slice_get-map}
+use Rattle.std.proofs.lemmas.Option.{slice_get-map}
 use Rattle.pol_changes.specs.declared.change.Change.{Change}
-use Rattle.pol_changes.specs.Log.{InOrder, Log, newest, newest_of, recorded}
+use Rattle.pol_changes.specs.Log.{Log, newest, recorded}
 use Rattle.pol_changes.specs.Log.{IsSound as IsLog}
 use Rattle.pol_changes.specs.Recorded.{KeepsLast, horizon_of as horizon_of_changes}
 use Rattle.pol_changes.proofs.LogLemmas.{logs_keep_last, recorded_sound}
 use Rattle.pol_selcache.specs.Cache.{all_recorded, change_at}
 use Rattle.pol_selcache.specs.Plan.{Plan, Planned}
+use Rattle.pol_selcache.proofs.Retold.{horizon_rises as rises_with}
 use Rattle.pol_chains.specs.Changes.{revision_before}
 
 -- all changes, and those of a plan in front of them
@@ -45,26 +46,6 @@ horizon_by_revisions all = by (slice_get all 65536) ∙ ap (λ (o : Option ℕ).
     by (Some c) = refl
 
 -- ---- the horizon
-newest_above : (horizon : ℕ) (cs : List Change) → InOrder horizon cs → horizon ≤ newest_of horizon cs
-newest_above horizon [] in_order = omega arith
-newest_above horizon (c ∷ cs) in_order = let rest = newest_above horizon cs in_order.1 in let first = in_order.0 in omega arith
-
-kept_above : (horizon : ℕ) (cs : List Change) (k : ℕ) (d : Change) → InOrder horizon cs → slice_get cs k ≡ Some d → horizon ≤ d.revision
-kept_above horizon [] k d in_order at = absurd (let wrong : ⊥ = cc in wrong)
-kept_above horizon (c ∷ cs) zero d in_order at =
-    let rest = newest_above horizon cs in_order.1 in
-    let first = in_order.0 in
-    let same : c.revision ≡ d.revision = ap (λ (e : Change). e.revision) (same_Some c d at) in
-    omega arith
-kept_above horizon (c ∷ cs) (suc k) d in_order at = kept_above horizon cs k d in_order.1 at
-
-rises_with : (log : Log) (c : Change) (many : ℕ) → IsLog log → log.horizon ≤ option_map_or (λ (d : Change). d.revision) (slice_get (c ∷ log.kept) (suc many)) log.horizon
-rises_with log c many sound = by (slice_get log.kept many) refl
-  where
-    by : (o : Option Change) → slice_get log.kept many ≡ o → log.horizon ≤ option_map_or (λ (d : Change). d.revision) o log.horizon
-    by None is = omega arith
-    by (Some d) is = kept_above log.horizon log.kept many d sound.in_order is
-
 rises_each : (revision : ℕ) (changes : List Planned) (log : Log) → IsLog log → newest log ≤ revision
     → log.horizon ≤ (fold (λ log change. recorded log (change_at revision change)) log changes).horizon
 rises_each revision [] log sound before = omega arith

@@ -46,3 +46,11 @@ pub record LeadsOn (s : State) (request : Request) (old : Cache) (new : Stored) 
   pub loses : LosesSelectors (carried readied.plan mid.cache) new.cache
   pub stands : StandsFor (after s request) new
   pub new_sound : IsSound new.cache
+
+-- The list is that of selectors to which some came since then, for a request that is prepared.
+pub record IsChainedBefore (options : Options) (journal : List Request) (nexts : List ℕ) (cache : Cache) : Type 0 where
+  pub old : Stored
+  pub stands : StandsFor (state_of options journal) old
+  pub sound : IsSound old.cache
+  pub chained : IsChained options journal nexts old.cache
+  pub gains : GainsSelectors old.cache cache

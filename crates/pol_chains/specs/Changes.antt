@@ -1,8 +1,9 @@
 -- The changes of sets that the requests of a journal make, and from which revision on they are kept ('profile').
-use Rattle.std.specs.Prelude.{ℕ, zero, suc, ◌≡◌, ◌≤◌, not, nat_eq, Bool, true, List, [], ◌++◌, count_by, length, replicate, slice_get, take}
+use Rattle.std.specs.Prelude.{ℕ, zero, suc, ◌≡◌, ◌≤◌, not, nat_eq, Bool, true, List, [], ◌++◌, filter, length, replicate, slice_get, take}
 use Rattle.std.specs.Cmp.Lexicographic.{pointwise}
 use Rattle.std.specs.List.{list_any}
 use Rattle.std.specs.Option.{option_map_or}
+use Rattle.std.specs.Set.{distinct_count}
 use Rattle.pol_rule.specs.contracts.policy.PeerPartialEq.TheImpl as peer
 use Rattle.pol_rule.specs.declared.policy.Peer.{Peer}
 use Rattle.pol_model.specs.declared.options.Options.{Options}
@@ -10,7 +11,6 @@ use Rattle.pol_model.specs.declared.request.Request.{Request}
 use Rattle.pol_model.specs.After.{state_of}
 use Rattle.pol_model.specs.Selects.{set_at}
 use Rattle.pol_model.specs.State.{State}
-use Rattle.pol_peers.specs.Listed.{distinct_peers}
 use Rattle.pol_store.specs.Store.{peers_of}
 
 -- the state after so many of the requests
@@ -29,13 +29,9 @@ set_in s p = set_at s.identities p
 abbrev pub differs : State → State → Peer → Bool
 differs s t p = not (pointwise nat_eq (set_in s p) (set_in t p))
 
--- the distinct peers that policies list in one of two states
-abbrev pub listed_in : State → State → List Peer
-listed_in s t = distinct_peers (peers_of s.policies ++ peers_of t.policies)
-
--- how many of their sets change from the one state to the other
+-- how many sets change from the one state to the other, of the distinct peers that policies list in either
 abbrev pub changes_between : State → State → ℕ
-changes_between s t = count_by (differs s t) (listed_in s t)
+changes_between s t = distinct_count peer.ghosts.eq (filter (differs s t) (peers_of s.policies ++ peers_of t.policies))
 
 -- the revisions of the changes that the first requests make, newest first
 abbrev pub revisions_until : Options → List Request → ℕ → List ℕ

@@ -1,8 +1,10 @@
 //! Laws of the changes of sets since a revision, over the definitions alone. Each function does nothing: its contract is
 //! the law.
-ghost use Rattle.std.specs.Prelude.{◌≡◌, ◌≤◌, ◌++◌, ◌∷◌, [], ℕ, List, Some, length};
+ghost use Rattle.std.specs.Prelude.{◌≡◌, ◌≤◌, ◌++◌, ◌∷◌, [], ℕ, List, Some, length, slice_get};
+ghost use Rattle.std.specs.List.{AllByRecursion};
 ghost use Rattle.pol_rule.specs.declared.policy.Peer.{Peer};
 ghost use Rattle.pol_sets.specs.declared.sets.Move.{Move as OneMove};
+ghost use Rattle.pol_sets.specs.declared.sets.SetRow.{SetRow as OneRow};
 ghost use Rattle.pol_model.specs.declared.options.Options.{Options as AllOptions};
 ghost use Rattle.pol_model.specs.declared.request.Request.{Request as OneRequest};
 ghost use Rattle.pol_model.specs.After.{state_of};
@@ -17,6 +19,7 @@ ghost use Rattle.pol_numbers.specs.Held.{nothing_held};
 ghost use Rattle.pol_store.specs.Store.{StandsFor, Stored};
 ghost use Rattle.pol_chains.specs.Chained.{IsChained, LeadsOn};
 ghost use Rattle.pol_chains.specs.Changes.{IsListedSince, horizon_of, set_in, state_at};
+ghost use Rattle.pol_chains.specs.Moves.{TellsMoves, moves_of};
 
 /// Before the first request no selector is live and no set has changed.
 pub fn chains_start()
@@ -45,4 +48,8 @@ pub fn chains_tell()
         → (revision : ℕ) → revision ≤ length journal → cache.log.horizon ≤ revision
         → (p : Peer) (number : ℕ) → number_of p cache.live ≡ Some number → IsListedSince options journal revision p
         → (m : OneMove) × (since cache.log number revision ≡ Some m) × IsMove (set_in (state_at options journal revision) p) (set_in (state_of options journal) p) m }
+    ensures rows { (options : AllOptions) (journal : List OneRequest) (nexts : List ℕ) (cache : Cache) → IsChained options journal nexts cache
+        → (revision next : ℕ) → revision ≤ length journal → slice_get nexts revision ≡ Some next
+        → (rows : List OneRow) → AllByRecursion (λ row. number_of row.peer cache.live ≡ Some row.selector) rows
+        → TellsMoves options journal revision rows (moves_of cache.log next revision rows) }
 {}

@@ -5,4 +5,4 @@ pub mod Sections
 pub mod Kept
 pub mod Costs
 pub mod Numbering
-pub mod Distinct
+pub mod Equality

@@ -1,8 +1,7 @@
 -- The peers that a policy lists (Cilium, Network Policy, "Layer 3 Examples"). That each place of a peer in the document
 -- is a reference of its own is 'profile'.
-use Rattle.std.specs.Prelude.{not, List, [], ◌∷◌, filter}
+use Rattle.std.specs.Prelude.{List, []}
 use Rattle.std.specs.List.{flat_map}
-use Rattle.pol_rule.specs.contracts.policy.PeerPartialEq.TheImpl as peer
 use Rattle.pol_rule.specs.declared.policy.Entry.{Entry}
 use Rattle.pol_rule.specs.declared.policy.Peer.{Peer}
 use Rattle.pol_rule.specs.declared.policy.Peers.{Peers}
@@ -26,8 +25,3 @@ rule_peers rule = section_peers (rule_entries rule)
 -- in document order, a peer as often as it stands there
 abbrev pub listed_peers : Policy → List Peer
 listed_peers policy = flat_map rule_peers policy.rules
-
--- each peer once, where it stands first
-abbrev pub distinct_peers : List Peer → List Peer
-distinct_peers [] = []
-distinct_peers (p ∷ others) = p ∷ filter (λ q. not (peer.ghosts.eq p q)) (distinct_peers others)

@@ -13,6 +13,7 @@ use pol_data::Memory;
 use pol_ident::Identities;
 use pol_model::{Endpoint, Mode, Stamped};
 use pol_numbers::Numbers;
+use pol_selcache::SelectorCache;
 use pol_tables::{Endpoints, Named, Policies};
 use std::alloc::Global;
 use std::marker::Model;
@@ -98,6 +99,13 @@ impl Store {
         ensures short { AllByRecursion (λ stamped. IsShortPolicy stamped.policy) self.now.state.policies }
     {
         self.policies.as_slice()
+    }
+
+    /// The selectors with their sets, and the changes of these.
+    pub fn selectors(&self) -> &SelectorCache
+        ensures cache { result.now ≡ self.now.cache }
+    {
+        self.numbers.selectors()
     }
 
     /// The revision of the newest change of a set that was dropped, 0 if none was.
