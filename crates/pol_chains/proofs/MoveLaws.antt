@@ -65,5 +65,5 @@ module _ (options : Options) (journal : List Request) (nexts : List ℕ) (cache 
       by true below = subst (λ h. revision < h) same (ltb-true revision cache.log.horizon below)
       by false above =
           let kept : cache.log.horizon ≤ revision = ltb-false revision cache.log.horizon above in
-          let each : AreMovesOf options journal revision rows (flat_map of rows) = (of, refl, all_moves kept rows) in
+          let each : AreMovesOf options journal revision rows (flat_map of rows) = (of, refl, all_moves kept rows are) in
           (subst (λ h. h ≤ revision) same kept, each)
