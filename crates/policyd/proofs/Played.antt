@@ -35,6 +35,6 @@ with_limit options limit = record options { map_max = limit }
 
 -- a repository that is made for options without a limit has these options
 pub under_these : (options : Options) (repo : Repository)
-    → repo ≡ record { options = record { mode = options.mode; localhost = options.localhost; map_max = None }; journal = []; readied = None }
+    → repo ≡ record { options = record { mode = options.mode; localhost = options.localhost; map_max = None }; journal = []; prepared = None }
     → options.map_max ≡ None → repo.options ≡ options
 under_these options repo made free = ap (λ (r : Repository). r.options) made ∙ ap (with_limit options) (sym free)

@@ -38,11 +38,11 @@ pub fn answer_line(
     phase: u64,
     reading: Reading,
 ) -> Result<Answer, Memory>
-    requires idle { repo.old.readied ≡ None }
+    requires idle { repo.old.prepared ≡ None }
     ensures answer { IfOk result (λ answer. answer ≡ answer_in repo.old.options (state_in repo.old) phase reading) }
     ensures state { OnOk result (state_in repo.new ≡ state_then (state_in repo.old) reading) }
     ensures options { OnOk result (repo.new.options ≡ repo.old.options) }
-    ensures idle { OnOk result (repo.new.readied ≡ None) }
+    ensures idle { OnOk result (repo.new.prepared ≡ None) }
 {
     match reading {
         Err(fault) => Ok(Answer::BadLine(fault)),
@@ -60,11 +60,11 @@ pub fn answer_line(
 }
 
 fn commit(repo: &mut Repo, request: Request) -> Result<Answer, Memory>
-    requires idle { repo.old.readied ≡ None }
+    requires idle { repo.old.prepared ≡ None }
     ensures answer { IfOk result (λ answer. answer ≡ commit_answer (state_in repo.old) request) }
     ensures state { OnOk result (state_in repo.new ≡ state_committed (state_in repo.old) request) }
     ensures options { OnOk result (repo.new.options ≡ repo.old.options) }
-    ensures idle { OnOk result (repo.new.readied ≡ None) }
+    ensures idle { OnOk result (repo.new.prepared ≡ None) }
 {
     // A place has no numbers for a list so long.
     if !request.is_short() {
@@ -89,11 +89,11 @@ fn commit_over<L: Ledger>(
     requires name { blank.name ≡ L.name }
     requires parts { blank.parts ≡ L.parts }
     requires some { blank.parts ≡ 1 }
-    requires idle { repo.old.readied ≡ None }
+    requires idle { repo.old.prepared ≡ None }
     requires short { IsShort request }
     ensures committed { IfOk result (λ done. Commits (state_in repo.old) (state_in repo.new) request done) }
     ensures options { OnOk result (repo.new.options ≡ repo.old.options) }
-    ensures idle { OnOk result (repo.new.readied ≡ None) }
+    ensures idle { OnOk result (repo.new.prepared ≡ None) }
     ensures cause { IfErr result (IsCause (state_in repo.old) request) }
     ensures stays { OnErr result (repo.new ≡ repo.old) }
 {
@@ -102,7 +102,7 @@ fn commit_over<L: Ledger>(
 }
 
 fn look(repo: &Repo, query: &Query) -> Answer
-    requires idle { repo.now.readied ≡ None }
+    requires idle { repo.now.prepared ≡ None }
     ensures answer { result ≡ look_answer repo.now.options (state_in repo.now) query.now }
 {
     match verdict(repo, query) {
@@ -115,7 +115,7 @@ fn look(repo: &Repo, query: &Query) -> Answer
 }
 
 fn trace(alloc: Global, repo: &Repo, query: &Query) -> Result<Answer, Memory>
-    requires idle { repo.now.readied ≡ None }
+    requires idle { repo.now.prepared ≡ None }
     ensures answer { IfOk result (λ answer. answer ≡ trace_answer repo.now.options (state_in repo.now) query.now) }
 {
     match explain(alloc, repo, query) {

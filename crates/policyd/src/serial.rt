@@ -51,7 +51,7 @@ fn answers_over(
     readings: Vec<Reading>,
 ) -> Result<Vec<Answer>, Memory>
     requires first { repo.old.journal ≡ [] }
-    requires idle { repo.old.readied ≡ None }
+    requires idle { repo.old.prepared ≡ None }
     ensures answers { IfOk result (λ answers. answers.items ≡ serial_answers repo.old.options readings.items) }
 {
     let mut phase = 1u64;

@@ -8,6 +8,6 @@ use Rattle.policyd.proofs.serial.answers_over.Given as goal
 abbrev pub invariant-loop-reading : goal.invariant-loop-reading
 invariant-loop-reading l = record {
   options : l.repo.options ≡ l.fn.repo.options;
-  idle : l.repo.readied ≡ None;
+  idle : l.repo.prepared ≡ None;
   played : IsPlayed l.fn.repo.options (start l.fn.repo.options) l.yielded (state_in l.repo) l.phase l.answers.items;
 }
