@@ -1,10 +1,8 @@
 -- What tells the changes of sets since a revision goes on with each request.
-use Rattle.std.proofs.Common.{zero, suc, ◌≡◌, ℕ, ◌+◌, ◌<◌, ◌≤◌, true, List, [], ◌∷◌, ◌++◌, length, map, replicate, slice_get, Some, None, refl, sym, ap, ◌∙◌, inl, inr, subst, arith}
-use Rattle.std.specs.Prelude.{◌↔◌}
+use Rattle.std.proofs.Common.{zero, suc, ◌≡◌, ℕ, ◌+◌, ◌≤◌, true, List, [], ◌∷◌, ◌++◌, length, map, replicate, Some, None, refl, sym, ap, ◌∙◌, inl, inr, subst, arith}
 use Rattle.std.specs.List.{list_any}
 use Rattle.std.proofs.lemmas.List.{length-append}
 use Rattle.pol_data.proofs.Every.{every-append, every-weaker}
-use Rattle.pol_data.proofs.Members.{In}
 use Rattle.pol_facts.proofs.KeepsAll.{state_keeps}
 use Rattle.pol_facts.proofs.Membership.{In-append, In-list_any, list_any-In}
 use Rattle.pol_facts.proofs.StateLaws.{commits-more}
@@ -27,17 +25,17 @@ use Rattle.pol_peers.specs.Numbering.{GainsSelectors, LosesSelectors}
 use Rattle.pol_peers.proofs.Numbering.{fresh_less}
 use Rattle.pol_peers.proofs.Found.{is_of}
 use Rattle.pol_selcache.specs.Cache.{Cache, all_recorded}
-use Rattle.pol_selcache.specs.Live.{AreLive, Live, number_of}
+use Rattle.pol_selcache.specs.Live.{AreLive, number_of}
 use Rattle.pol_selcache.proofs.Retold.{tells_difference}
 use Rattle.pol_numbers.specs.Held.{nothing_held}
 use Rattle.pol_store.specs.Readied.{peers_with}
 use Rattle.pol_store.specs.Store.{StandsFor, Stored, peers_of}
-use Rattle.pol_chains.specs.Changes.{IsListedSince, changes_between, horizon_of, is_listed, revision_before, revisions_until, set_in, state_at}
+use Rattle.pol_chains.specs.Changes.{IsListedSince, changes_between, horizon_of, revision_before, revisions_until, set_in, state_at}
 use Rattle.pol_chains.specs.Chained.{IsChained, LeadsOn, selector_in}
 use Rattle.pol_chains.proofs.Counted.{plan_counted}
 use Rattle.pol_chains.proofs.Cuts.{at_earlier, at_last, at_present, longer, one_longer}
 use Rattle.pol_chains.proofs.Listing.{listed_in_both, listed_live, live_listed, live_where, numbers_stay}
-use Rattle.pol_chains.proofs.Numbers.{listed_on, live_since, next_rises}
+use Rattle.pol_chains.proofs.Numbers.{listed_on, next_rises}
 use Rattle.pol_chains.proofs.Recorded.{all_with, horizon_by_revisions, keeps_all, revisions_with}
 use Rattle.pol_chains.proofs.Retold.{told_as, told_too}
 

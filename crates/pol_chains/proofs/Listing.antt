@@ -1,5 +1,5 @@
 -- The peers that are listed are those of live selectors.
-use Rattle.std.proofs.Common.{◌≡◌, ℕ, ◌+◌, ◌<◌, ◌≤◌, Bool, true, false, if◌then◌else◌, List, [], ◌∷◌, ◌++◌, find, Option, Some, None, option_map, refl, sym, ap, ◌∙◌, inl, inr, subst, arith}
+use Rattle.std.proofs.Common.{◌≡◌, ℕ, ◌+◌, ◌<◌, ◌≤◌, true, false, if◌then◌else◌, List, [], ◌∷◌, ◌++◌, find, Option, Some, None, option_map, refl, sym, ap, ◌∙◌, inl, inr, arith}
 use Rattle.std.specs.List.{list_any}
 use Rattle.std.proofs.lemmas.Bool.{cases_Bool, false_from_ne_true, true_from_ne_false}
 use Rattle.pol_data.proofs.Counts.{count_by-none, count_by-some}
@@ -17,7 +17,7 @@ use Rattle.pol_model.specs.Policies.{applied, is_of_key}
 use Rattle.pol_model.specs.Selects.{set_at}
 use Rattle.pol_model.specs.State.{State}
 use Rattle.pol_peers.specs.Listed.{listed_peers}
-use Rattle.pol_peers.specs.References.{RefsOf, references_of, times_in}
+use Rattle.pol_peers.specs.References.{RefsOf, references_of}
 use Rattle.pol_peers.proofs.Found.{found_of, is_of, refs}
 use Rattle.pol_selcache.specs.Live.{AreExact, AreLive, Live, number_of}
 use Rattle.pol_selcache.specs.Plan.{Planned, after_changes, changed}

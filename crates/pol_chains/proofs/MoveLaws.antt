@@ -3,18 +3,16 @@ use Rattle.std.proofs.Common.{◌≡◌, ℕ, ◌<◌, ◌≤◌, nat_lt, Bool, 
 use Rattle.std.specs.List.{AllByRecursion, cons_option, flat_map}
 use Rattle.std.proofs.lemmas.Bool.{cond-false, le-ltb, ltb-false, ltb-true}
 use Rattle.std.proofs.lemmas.Option.{same_Some}
-use Rattle.pol_rule.specs.declared.policy.Peer.{Peer}
 use Rattle.pol_sets.specs.declared.sets.Move.{Move}
 use Rattle.pol_sets.specs.declared.sets.SetRow.{SetRow}
 use Rattle.pol_model.specs.declared.options.Options.{Options}
 use Rattle.pol_model.specs.declared.request.Request.{Request}
-use Rattle.pol_model.specs.After.{state_of}
 use Rattle.pol_changes.specs.Log.{Log, is_later_of, since}
 use Rattle.pol_changes.specs.Net.{net}
 use Rattle.pol_selcache.specs.Cache.{Cache}
 use Rattle.pol_selcache.specs.Live.{number_of}
 use Rattle.pol_chains.specs.Chained.{IsChained}
-use Rattle.pol_chains.specs.Changes.{IsListedSince, horizon_of}
+use Rattle.pol_chains.specs.Changes.{horizon_of}
 use Rattle.pol_chains.specs.Moves.{AreMovesOf, IsMoveOf, TellsMoves, move_since, moves_of}
 use Rattle.pol_chains.proofs.Chains.{chain_horizon, chain_moves}
 

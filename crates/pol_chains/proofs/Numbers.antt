@@ -1,5 +1,5 @@
 -- The numbers of selectors tell since which revision their peers are listed, also after one request more.
-use Rattle.std.proofs.Common.{zero, suc, ◌≡◌, ℕ, ◌+◌, ◌<◌, ◌≤◌, true, List, [], ◌∷◌, ◌++◌, length, slice_get, Option, Some, None, refl, sym, ap, ◌∙◌, ◌⊎◌, inl, inr, subst, arith}
+use Rattle.std.proofs.Common.{zero, suc, ◌≡◌, ℕ, ◌<◌, ◌≤◌, true, List, [], ◌∷◌, ◌++◌, length, slice_get, Some, None, refl, sym, ap, ◌∙◌, ◌⊎◌, inl, inr, subst, arith}
 use Rattle.std.specs.Prelude.{◌↔◌}
 use Rattle.std.specs.List.{AllByRecursion}
 use Rattle.std.proofs.lemmas.Option.{same_Some, slice_get_within}
@@ -14,7 +14,7 @@ use Rattle.pol_peers.proofs.Found.{found_of, is_of}
 use Rattle.pol_selcache.specs.Cache.{Cache}
 use Rattle.pol_selcache.specs.Live.{number_of}
 use Rattle.pol_store.specs.Store.{StandsFor, Stored, peers_of}
-use Rattle.pol_chains.specs.Changes.{IsListedSince, is_listed, state_at}
+use Rattle.pol_chains.specs.Changes.{IsListedSince, is_listed}
 use Rattle.pol_chains.specs.Chained.{IsChained, LeadsOn}
 use Rattle.pol_chains.proofs.Cuts.{at_present, listed_earlier, listed_further, listed_last, longer}
 use Rattle.pol_chains.proofs.Listing.{listed_live, live_listed, numbers_stay}
@@ -73,12 +73,12 @@ module _ (options : Options) (journal : List Request) (request : Request) (old n
       → (p : Peer) (number : ℕ) → number_of p new.cache.live ≡ Some number → (number < next) ↔ IsListedSince options (longer options journal request) since p
   earlier since next reached within was p number is = (
     (λ below.
-    let before = lead.gains.fresh.lived p number (in_mid p number is) (omega (arith, below, reached)) in
-    listed_further options journal request since p ((was p number before).0 below) (is_listed_now p number is)),
+        let before = lead.gains.fresh.lived p number (in_mid p number is) (omega (arith, below, reached)) in
+        listed_further options journal request since p ((was p number before).0 below) (is_listed_now p number is)),
     (λ listed.
-    let listed_before = listed_earlier options journal request since p listed in
-    let one = live_since options journal old stands since p within listed_before in
-    subst (λ n. n < next) (one_number p one.0 number one.1 is) ((was p one.0 one.1).1 listed_before)),
+        let listed_before = listed_earlier options journal request since p listed in
+        let one = live_since options journal old stands since p within listed_before in
+        subst (λ n. n < next) (one_number p one.0 number one.1 is) ((was p one.0 one.1).1 listed_before)),
   )
 
   pub listed_on : (nexts : List ℕ) → IsChained options journal nexts old.cache → (since next : ℕ) → slice_get (nexts ++ new.cache.next ∷ []) since ≡ Some next

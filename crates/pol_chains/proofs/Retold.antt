@@ -1,5 +1,5 @@
 -- What sets were stays told, also after one request more.
-use Rattle.std.proofs.Common.{◌≡◌, ℕ, ◌+◌, ◌<◌, ◌≤◌, List, ◌∷◌, [], ◌++◌, filter, length, Some, refl, sym, ap, ◌∙◌, inl, inr, subst, arith}
+use Rattle.std.proofs.Common.{◌≡◌, ℕ, ◌+◌, ◌<◌, ◌≤◌, List, filter, length, Some, sym, ap, ◌∙◌, inl, inr, subst, arith}
 use Rattle.std.proofs.lemmas.Bool.{cases_lt}
 use Rattle.pol_data.proofs.Members.{Contains-from_In, every-in}
 use Rattle.pol_facts.proofs.Membership.{map-In}
@@ -78,13 +78,13 @@ module _ (options : Options) (journal : List Request) (request : Request) (old n
         let s_number : s.number ≡ number = one.3 in
         let s_set : s.set ≡ set_in then p = one.4 in
         let at_mid : WasAt since before s mid.log = told_as since before (selector_in then p number) s old.cache.log mid.log s_number s_set
-            (ap (λ (log : Log). log.kept) lead.gains.log) (ap (λ (log : Log). log.horizon) lead.gains.log) was in
+        (ap (λ (log : Log). log.kept) lead.gains.log) (ap (λ (log : Log). log.horizon) lead.gains.log) was in
         let newer : since < plan.revision = omega (arith, within, revision_is) in
         let on : WasAt since before (after_changes plan.changes s) (carried plan mid).log =
-            told_on since before s plan mid lead.sound lead.sound.log lead.is_readied.plan.fits (Contains-from_In mid.live s one.1) newer low_carried at_mid in
+        told_on since before s plan mid lead.sound lead.sound.log lead.is_readied.plan.fits (Contains-from_In mid.live s one.1) newer low_carried at_mid in
         let set_now : (after_changes plan.changes s).set ≡ set_in now p =
-            every-in (λ x. x.set ≡ set_at now.identities x.peer) (changed plan.changes mid.live) lead.is_readied.plan.exact (after_changes plan.changes s) (map-In (after_changes plan.changes) s mid.live one.1)
-            ∙ ap (set_at now.identities) one.2 in
+        every-in (λ x. x.set ≡ set_at now.identities x.peer) (changed plan.changes mid.live) lead.is_readied.plan.exact (after_changes plan.changes s) (map-In (after_changes plan.changes) s mid.live one.1)
+        ∙ ap (set_at now.identities) one.2 in
         told_as since before (after_changes plan.changes s) (selector_in now p number) (carried plan mid).log new.cache.log (sym s_number) (sym set_now)
         (ap (λ (log : Log). log.kept) lead.loses.log) (ap (λ (log : Log). log.horizon) lead.loses.log) on
 
