@@ -14,7 +14,7 @@ invariant_of-result c =
     (
       subst (λ (requests : List Request). IsSound options requests (vec_len c.new.result) (vec_capacity c.new.result) store None) (sym c.new.ensures.items)
           (record { without_faults = tt; inside = c.in_ok-new.ensures.start options refl }),
-      subst (λ (requests : List Request). IsChained options requests c.push.new.nexts.items store.cache) (sym c.new.ensures.items)
+      subst (λ (requests : List Request). IsChained options requests c.push.new.self.items store.cache) (sym c.new.ensures.items)
           (subst (λ (nexts : List ℕ). IsChained options [] nexts store.cache) (sym (c.in_ok-push.ensures.items ∙ ap (λ (items : List ℕ). items ++ 0 ∷ []) c.new-nexts.ensures.items))
           (chain_starts options store.cache c.in_ok-new.ensures.nothing)),
     )
