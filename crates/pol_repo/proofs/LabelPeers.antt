@@ -1,5 +1,5 @@
 -- There are as many selectors of labels as distinct peers of labels.
-use Rattle.std.proofs.Common.{◌≡◌, ℕ, ◌<◌, ◌&&◌, Bool, true, false, List, map, filter, find, Option, None, Some, sym, ap, ◌∙◌, inl, inr, subst, arith, length}
+use Rattle.std.proofs.Common.{◌≡◌, ◌<◌, ◌&&◌, Bool, true, List, map, filter, find, Option, None, Some, refl, sym, ap, ◌∙◌, inl, inr, arith}
 use Rattle.std.specs.Cmp.{IsEquivalence}
 use Rattle.std.specs.List.{IsDistinct, list_any}
 use Rattle.std.proofs.lemmas.Bool.{both_ways, cases_Bool, false_from_ne_true}
@@ -15,7 +15,7 @@ use Rattle.pol_rule.proofs.Equality.{peer_eq-Decides}
 use Rattle.pol_rule.specs.contracts.policy.PeerPartialEq.TheImpl as peers
 use Rattle.pol_rule.specs.declared.policy.Peer.{Peer}
 use Rattle.pol_model.specs.declared.row.Stamped.{Stamped}
-use Rattle.pol_peers.specs.References.{RefsOf, references_of, times_in}
+use Rattle.pol_peers.specs.References.{RefsOf, references_of}
 use Rattle.pol_peers.proofs.Found.{is_of, peer_itself, refs}
 use Rattle.pol_selcache.specs.Live.{AreLive, Live, is_label_peer, label_selectors}
 use Rattle.pol_store.specs.Store.{peers_of}

@@ -8,9 +8,7 @@ ghost use Rattle.pol_trace.specs.Parts.{parts_of, word_of};
 use crate::selects::covers_packet;
 use pol_ident::Identities;
 use pol_mapkey::Word;
-use pol_model::{
-    Endpoint, HOST_IDENTITY, Mode, Query, Stamped, allow_section, deny_section,
-};
+use pol_model::{Endpoint, HOST_IDENTITY, Mode, Query, Stamped, allow_section, deny_section};
 use pol_ports::Direction;
 use pol_rule::{Rule, Section};
 

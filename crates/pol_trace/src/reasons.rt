@@ -65,7 +65,9 @@ pub(crate) fn explain_at(
     requires short { AllByRecursion (λ stamped. IsShortPolicy stamped.policy) policies.now }
     ensures trace { IfOk result (λ trace. trace ≡ trace_of localhost (parts_of mode policies.now identities.now) query.now endpoint.now number) }
 {
-    let word = verdict_at(localhost, mode, policies, identities, endpoint, number, query);
+    let word = verdict_at(
+        localhost, mode, policies, identities, endpoint, number, query,
+    );
     let denies = deny_places(alloc, policies, identities, endpoint, number, query)?;
     let allows = allow_places(alloc, policies, identities, endpoint, number, query)?;
     Ok(Trace {

@@ -49,8 +49,8 @@ returns-in-Ok-clause-done g c =
     c.args.request c.ready_in.new.journal.items c.ready_in.new.store c.ready_in.ensures.journal
     c.in-Ok.readied c.answer-done.result c.in-Ok.ensures.readied c.answer-done.ensures.answer
 
-pub returns-in-Ok-clause-readied : goal.returns-in-Ok-clause-readied
-returns-in-Ok-clause-readied g c =
+pub returns-in-Ok-clause-prepared : goal.returns-in-Ok-clause-prepared
+returns-in-Ok-clause-prepared g c =
     prepared_seen c.self.inside.options c.self.inside.journal.items (vec_len c.self.inside.journal) (vec_capacity c.self.inside.journal) c.self.inside.store c.self.inside.prepared c.args.self.now
     c.self.view_is c.self.invariant.0 c.requires.idle
     c.args.request c.ready_in.new.journal.items c.ready_in.new.store c.ready_in.ensures.journal

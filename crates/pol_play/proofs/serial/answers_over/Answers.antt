@@ -4,7 +4,7 @@ use Rattle.pol_model.specs.declared.options.Options.{Options}
 use Rattle.pol_repo.specs.Repository.{state_in}
 use Rattle.pol_run.specs.Serial.{answer_in}
 use Rattle.pol_run.proofs.SerialRuns.{one_more_played}
-use Rattle.policyd.proofs.serial.answers_over.Goals as goal
+use Rattle.pol_play.proofs.serial.answers_over.Goals as goal
 
 pub loop-reading-preserved : goal.loop-reading-preserved
 loop-reading-preserved c =

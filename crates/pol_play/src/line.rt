@@ -21,7 +21,7 @@ use std::sync::ledger::{Blank, Ledger};
 pub type Reading = Result<Command, LineFault>;
 
 /// The phase of the next line.
-pub fn next_phase(phase: u64, reading: &Reading) -> u64
+pub(crate) fn next_phase(phase: u64, reading: &Reading) -> u64
     requires { phase < 2 ^ 64 - 1 }
     ensures { result ≡ phase_after phase reading.now }
 {
@@ -32,7 +32,7 @@ pub fn next_phase(phase: u64, reading: &Reading) -> u64
 }
 
 /// Answers a line. A request that has no fault is committed.
-pub fn answer_line(
+pub(crate) fn answer_line(
     alloc: Global,
     repo: &mut Repo,
     phase: u64,

@@ -6,7 +6,7 @@ ghost use Rattle.pol_gen.specs.Generated.{generated};
 ghost use Rattle.pol_run.specs.Run.{IsRun, readings_of};
 ghost use Rattle.pol_run.specs.Serial.{serial_answers};
 ghost use Rattle.pol_run.specs.Spots.{spots_of};
-ghost use Rattle.policyd.specs.Summary.{summary, summary_text};
+ghost use Rattle.pol_play.specs.Summary.{summary, summary_text};
 
 use crate::line::{Reading, answer_line, next_phase};
 use pol_answer::Answer;

@@ -2,7 +2,7 @@ use Rattle.std.proofs.Common.{◌≡◌, None}
 use Rattle.pol_model.specs.After.{start}
 use Rattle.pol_repo.specs.Repository.{state_in}
 use Rattle.pol_run.proofs.SerialRuns.{IsPlayed}
-use Rattle.policyd.proofs.serial.answers_over.Given as goal
+use Rattle.pol_play.proofs.serial.answers_over.Given as goal
 
 -- the lines so far are answered, one after another
 abbrev pub invariant-loop-reading : goal.invariant-loop-reading

@@ -1,5 +1,5 @@
-use Rattle.policyd.proofs.Fields.{five_fields}
-use Rattle.policyd.proofs.summary.push_summary.Goals as goal
+use Rattle.pol_play.proofs.Fields.{five_fields}
+use Rattle.pol_play.proofs.summary.push_summary.Goals as goal
 
 pub returns : goal.returns
 returns c = five_fields c.push_newline.result _ _ _ _ _ _ _ _ _ _ _ _ _ _ _ _ _ _

@@ -2,7 +2,7 @@
 ghost use Rattle.std.specs.Prelude.{◌≡◌, ◌++◌, codes, IfOk, OnOk};
 ghost use Rattle.std.specs.Fmt.{decimal};
 ghost use Rattle.std.specs.String.{string_bytes};
-ghost use Rattle.policyd.specs.Summary.{count_of, is_of, summary_text};
+ghost use Rattle.pol_play.specs.Summary.{count_of, is_of, summary_text};
 
 use pol_answer::Answer;
 use pol_data::Memory;
@@ -94,7 +94,7 @@ fn push_summary(out: &mut String, answers: &[Answer]) -> Result<(), Memory>
 }
 
 /// The line that tells them, with its newline byte. The one error is want of memory.
-pub fn summary_text(alloc: Global, answers: &[Answer]) -> Result<Vec<u8>, Memory>
+pub(crate) fn summary_text(alloc: Global, answers: &[Answer]) -> Result<Vec<u8>, Memory>
     ensures { IfOk result (λ text. text.items ≡ summary_text answers.now) }
 {
     let mut out = String::new(alloc);

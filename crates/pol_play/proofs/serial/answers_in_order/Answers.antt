@@ -2,8 +2,8 @@ use Rattle.std.proofs.Common.{ap, ◌∙◌}
 use Rattle.std.proofs.lemmas.Result.{IfOk-weaker}
 use Rattle.pol_model.specs.declared.options.Options.{Options}
 use Rattle.pol_run.specs.Serial.{serial_answers}
-use Rattle.policyd.proofs.Played.{under_these}
-use Rattle.policyd.proofs.serial.answers_in_order.Goals as goal
+use Rattle.pol_play.proofs.Played.{under_these}
+use Rattle.pol_play.proofs.serial.answers_in_order.Goals as goal
 
 pub returns : goal.returns
 returns c =

@@ -1,6 +1,6 @@
 use Rattle.std.proofs.lemmas.Result.{IfOk-weaker}
-use Rattle.policyd.proofs.Played.{is_run, one_each}
-use Rattle.policyd.proofs.serial.play_lines.Goals as goal
+use Rattle.pol_play.proofs.Played.{is_run, one_each}
+use Rattle.pol_play.proofs.serial.play_lines.Goals as goal
 
 pub returns-clause-one_each : goal.returns-clause-one_each
 returns-clause-one_each c =

@@ -1,6 +1,6 @@
 use Rattle.std.proofs.Common.{◌≡◌, ◌≤◌, count_by, take}
-use Rattle.policyd.specs.Summary.{is_of}
-use Rattle.policyd.proofs.summary.count_of.Given as goal
+use Rattle.pol_play.specs.Summary.{is_of}
+use Rattle.pol_play.proofs.summary.count_of.Given as goal
 
 -- how many of the answers so far are of the kind
 abbrev pub invariant-loop-answer : goal.invariant-loop-answer

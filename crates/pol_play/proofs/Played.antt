@@ -12,7 +12,7 @@ use Rattle.pol_run.specs.Serial.{serial_answers, answers_from, state_then}
 use Rattle.pol_run.specs.Spots.{Reading, phase_after, spots_of}
 use Rattle.pol_run.proofs.SerialAnswers.{serial_answers_lines}
 use Rattle.pol_run.proofs.SerialLaw.{serial_run}
-use Rattle.policyd.specs.Summary.{summary, summary_text}
+use Rattle.pol_play.specs.Summary.{summary, summary_text}
 
 one_each_from : (options : Options) (s : State) (phase : ℕ) (readings : List Reading) → length (answers_from options s phase readings) ≡ length readings
 one_each_from options s phase [] = refl

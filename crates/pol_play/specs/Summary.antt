@@ -6,8 +6,8 @@ use Rattle.pol_model.specs.declared.options.Options.{Options}
 use Rattle.pol_answer.specs.declared.answer.Answer.{Answer}
 use Rattle.pol_answer.specs.declared.answer.Answer.TheVariants as answer
 use Rattle.pol_gen.specs.Generated.{generated}
-use Rattle.policyd.specs.declared.summary.Kind.{Kind}
-use Rattle.policyd.specs.declared.summary.Kind.TheVariants as kind
+use Rattle.pol_play.specs.declared.summary.Kind.{Kind}
+use Rattle.pol_play.specs.declared.summary.Kind.TheVariants as kind
 use Rattle.pol_run.specs.Run.{readings_of}
 use Rattle.pol_run.specs.Serial.{serial_answers}
 
