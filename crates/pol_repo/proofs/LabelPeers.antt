@@ -1,8 +1,8 @@
 -- There are no more selectors of labels than distinct peers of labels.
-use Rattle.std.proofs.Common.{◌≡◌, ℕ, ◌+◌, ◌≤◌, ◌<◌, Bool, true, false, not, cond, List, [], ◌∷◌, count_by, filter, map, find, Option, Some, None, refl, sym, ap, ◌∙◌, inl, inr, subst, arith}
+use Rattle.std.proofs.Common.{◌≡◌, ℕ, ◌+◌, ◌≤◌, ◌<◌, Bool, true, false, not, cond, List, [], ◌∷◌, count_by, filter, map, refl, sym, ap, ◌∙◌, inl, inr, subst, arith}
 use Rattle.std.specs.Bool.{Decides}
-use Rattle.std.specs.List.{AllByRecursion, IsDistinct, list_any}
-use Rattle.std.proofs.lemmas.Bool.{both_ways, cases_Bool, or_cases}
+use Rattle.std.specs.List.{IsDistinct, list_any}
+use Rattle.std.proofs.lemmas.Bool.{both_ways, cases_Bool}
 use Rattle.pol_data.proofs.Counts.{count_by-cons, count_by-none}
 use Rattle.pol_data.proofs.Filters.{list_any-filter}
 use Rattle.pol_data.proofs.Members.{In, every-in}
@@ -11,7 +11,7 @@ use Rattle.pol_rule.proofs.Equality.{peer_eq-Decides}
 use Rattle.pol_rule.specs.contracts.policy.PeerPartialEq.TheImpl as peers
 use Rattle.pol_rule.specs.declared.policy.Peer.{Peer}
 use Rattle.pol_model.specs.declared.row.Stamped.{Stamped}
-use Rattle.pol_peers.specs.References.{RefsOf, references_of, times_in}
+use Rattle.pol_peers.specs.References.{RefsOf, references_of}
 use Rattle.pol_peers.proofs.Found.{is_of, refs}
 use Rattle.pol_selcache.specs.Live.{AreLive, Live, is_label_peer, label_selectors}
 use Rattle.pol_store.specs.Store.{peers_of}

@@ -1,8 +1,7 @@
 -- What the parts of a repository tell of its state, and of the request that is prepared.
-use Rattle.std.proofs.Common.{◌≡◌, ℕ, ◌+◌, ◌==◌, ◌-◌, ◌<◌, ◌^◌, ◌++◌, ◌&&◌, not, true, List, [], ◌∷◌, find, length, map, IsSome, Option, None, Some, option_map, refl, sym, ap, ◌∙◌, subst, arith}
-use Rattle.std.specs.Prelude.{Result, Ok, Err, ◌≤◌}
+use Rattle.std.proofs.Common.{◌≡◌, ℕ, ◌==◌, ◌-◌, ◌<◌, ◌^◌, ◌++◌, ◌&&◌, not, List, [], ◌∷◌, length, IsSome, Option, None, Some, option_map, refl, sym, ap, ◌∙◌, subst}
+use Rattle.std.specs.Prelude.{Ok, Err, ◌≤◌}
 use Rattle.std.specs.Option.{option_map_or}
-use Rattle.std.specs.List.{list_any}
 use Rattle.pol_labels.specs.declared.label.Label.{Label}
 use Rattle.pol_model.specs.declared.options.Options.{Options}
 use Rattle.pol_model.specs.declared.request.Request.{Request}
@@ -22,9 +21,9 @@ use Rattle.pol_model.specs.Identities.{free_number, is_local, labels_held, numbe
 use Rattle.pol_model.specs.State.{State}
 use Rattle.pol_model.proofs.AscendingStates.{RowsAscend}
 use Rattle.pol_model.proofs.Histories.{state_of-revision}
-use Rattle.pol_facts.specs.Holding.{has_row, row_of, rows_taken}
+use Rattle.pol_facts.specs.Holding.{rows_taken}
 use Rattle.pol_facts.specs.Keeps.{Keeps}
-use Rattle.pol_facts.specs.WithoutFaults.{MayCommit, WithoutFaults}
+use Rattle.pol_facts.specs.WithoutFaults.{MayCommit}
 use Rattle.pol_facts.proofs.HoldingLaws.{held_has, labels_row_is}
 use Rattle.pol_facts.proofs.KeepsAll.{state_keeps}
 use Rattle.pol_facts.proofs.Lives.{after_append}
@@ -38,7 +37,7 @@ use Rattle.pol_store.specs.Store.{IsSettled, StandsFor, Stored}
 use Rattle.pol_selcache.specs.Live.{AreLive, label_selectors}
 use Rattle.pol_repo.specs.Causes.{IsCause}
 use Rattle.pol_repo.specs.Cost.{label_peers}
-use Rattle.pol_repo.specs.Inside.{IsIn, IsPrepared, IsSound, labels_of, request_of, seen_as}
+use Rattle.pol_repo.specs.Inside.{IsPrepared, IsSound, labels_of, request_of, seen_as}
 use Rattle.pol_repo.specs.Repository.{Repository, state_in}
 use Rattle.pol_repo.proofs.LabelPeers.{selectors_few}
 

@@ -18,12 +18,7 @@ impl Repo {
     /// the moves of the sets since then, so `moves` is None in each.
     ///
     /// `Gone` comes exactly where no live endpoint has the slot. `Memory` is want of memory.
-    pub fn take(
-        &self,
-        alloc: Global,
-        slot: u32,
-        since: Option<u64>,
-    ) -> Result<Taken, TakeError>
+    pub fn take(&self, alloc: Global, slot: u32, since: Option<u64>) -> Result<Taken, TakeError>
         requires idle { self.now.readied ≡ None }
         requires since { IfSome since (λ revision. revision ≤ (state_in self.now).revision) }
         ensures taken { IfOk result (IsTakenOf self.now.options (state_in self.now) slot) }

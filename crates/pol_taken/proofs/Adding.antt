@@ -1,12 +1,12 @@
 -- Rows for one peer more, and what rows for all peers of filters tell.
-use Rattle.std.proofs.Common.{◌≡◌, ℕ, ◌==◌, ◌||◌, Bool, true, false, cond, nat_eq, List, [], ◌∷◌, ◌++◌, map, find, IsTrue, Some, option_map, Result, Ok, Err, OnOk, inl, inr, refl, sym, ap, ◌∙◌, subst}
+use Rattle.std.proofs.Common.{◌≡◌, ℕ, ◌==◌, ◌||◌, Bool, true, false, cond, nat_eq, List, [], ◌∷◌, ◌++◌, map, find, IsTrue, Some, option_map, Result, Ok, Err, OnOk, inl, refl, sym, ap, ◌∙◌, subst}
 use Rattle.std.specs.Arc.{arc_value}
 use Rattle.std.specs.Bool.{Decides}
 use Rattle.std.specs.List.{AllByRecursion, Contains, IsDistinct, list_any}
-use Rattle.std.proofs.lemmas.Bool.{both_ways, eq-eqb, eqb-true, false_from_ne_true, or_left, or_right}
+use Rattle.std.proofs.lemmas.Bool.{both_ways, eq-eqb, eqb-true, false_from_ne_true}
 use Rattle.std.proofs.lemmas.Option.{same_Some}
 use Rattle.pol_data.proofs.Every.{every-append, every-weaker}
-use Rattle.pol_data.proofs.Members.{Contains-from_In, In, In-from_Contains, every-in}
+use Rattle.pol_data.proofs.Members.{Contains-from_In, In-from_Contains, every-in}
 use Rattle.pol_rule.specs.contracts.policy.PeerPartialEq.TheImpl as peers
 use Rattle.pol_rule.specs.declared.policy.Peer.{Peer}
 use Rattle.pol_rule.specs.declared.policy.Peers.{Peers}
@@ -21,7 +21,7 @@ use Rattle.pol_sets.specs.declared.sets.SetRow.{SetRow}
 use Rattle.pol_sets.specs.Sets.{has_set, is_row_of}
 use Rattle.pol_l4.specs.declared.filter.Filter.{Filter}
 use Rattle.pol_l4.specs.declared.filter.Filters.{Filters}
-use Rattle.pol_distill.specs.Sorted.{HaveSets, ListHasSets, PeersHaveSets}
+use Rattle.pol_distill.specs.Sorted.{ListHasSets, PeersHaveSets}
 use Rattle.pol_selcache.specs.Live.{AreExact, AreLive, Live, number_of, selector_of}
 use Rattle.pol_peers.specs.Listed.{peers_in}
 use Rattle.pol_peers.proofs.Found.{found_of, is_of}
@@ -126,11 +126,12 @@ module _ (live : List Live) (are : AreLive live) where
   others_differ : (row : SetRow) (rows : List SetRow) → IsLiveRow live row → AllByRecursion (IsLiveRow live) rows
       → AllByRecursion (λ m. nat_eq row.selector m ≡ false) (map (λ r. r.selector) rows) → AllByRecursion (λ q. peers.ghosts.eq row.peer q ≡ false) (map (λ r. r.peer) rows)
   others_differ row [] is all apart = tt
-  others_differ row (r ∷ rows) is all apart =
-      ( false_from_ne_true (peers.ghosts.eq row.peer r.peer) (λ same.
+  others_differ row (r ∷ rows) is all apart = (
+    false_from_ne_true (peers.ghosts.eq row.peer r.peer) (λ same.
         let one : Some row.selector ≡ Some r.selector = sym is.selector ∙ ap (λ p. number_of p live) ((peer_eq-Decides row.peer r.peer).0 same) ∙ all.0.selector in
-        both_ways (nat_eq row.selector r.selector) apart.0 (eq-eqb row.selector r.selector (same_Some row.selector r.selector one)))
-      , others_differ row rows is all.1 apart.1 )
+        both_ways (nat_eq row.selector r.selector) apart.0 (eq-eqb row.selector r.selector (same_Some row.selector r.selector one))),
+    others_differ row rows is all.1 apart.1,
+  )
 
   peers_differ : (rows : List SetRow) → AllByRecursion (IsLiveRow live) rows → IsDistinct nat_eq (map (λ r. r.selector) rows) → IsDistinct peers.ghosts.eq (map (λ r. r.peer) rows)
   unfolding IsDistinct

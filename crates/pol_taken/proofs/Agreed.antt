@@ -1,7 +1,7 @@
 -- What is taken gives the filters' peers the sets of the state, and so the endpoint's policy map.
-use Rattle.std.proofs.Common.{◌≡◌, ℕ, ◌==◌, Bool, List, [], map, filter, find, IsTrue, sym, ap, ◌∙◌, subst}
+use Rattle.std.proofs.Common.{◌≡◌, ℕ, ◌==◌, Bool, List, [], map, filter, IsTrue, ap, ◌∙◌, subst}
 use Rattle.std.specs.Arc.{arc_value}
-use Rattle.std.specs.List.{AllByRecursion, Contains}
+use Rattle.std.specs.List.{AllByRecursion}
 use Rattle.std.specs.Option.{option_map_or}
 use Rattle.pol_data.proofs.Every.{every-kept, every-map, every-weaker}
 use Rattle.pol_data.proofs.Members.{Contains-from_In, every-in}

@@ -1,5 +1,5 @@
 -- One row of a set for each peer that filters list.
-use Rattle.std.specs.Prelude.{ℕ, ◌≡◌, ◌==◌, ◌++◌, nat_eq, Bool, List, map, Option, Some, IsTrue, option_map}
+use Rattle.std.specs.Prelude.{ℕ, ◌≡◌, ◌==◌, ◌++◌, nat_eq, Bool, List, map, Some, IsTrue, option_map}
 use Rattle.std.specs.Arc.{arc_value}
 use Rattle.std.specs.HashSet.{HashSet, contains}
 use Rattle.std.specs.List.{AllByRecursion, Contains, IsDistinct, flat_map, list_any}

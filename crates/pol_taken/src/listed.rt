@@ -36,10 +36,7 @@ fn push_filters<'a>(out: &mut Vec<&'a Peer>, filters: &'a [Filter]) -> Result<()
 }
 
 /// The peers that the filters list, each as often as it stands there.
-pub(crate) fn listed_peers<'a>(
-    alloc: Global,
-    filters: &'a Filters,
-) -> Result<Vec<&'a Peer>, Memory>
+pub(crate) fn listed_peers<'a>(alloc: Global, filters: &'a Filters) -> Result<Vec<&'a Peer>, Memory>
     ensures { IfOk result (λ listed. map (λ p. p.now) listed.items ≡ filter_peers filters.now) }
 {
     let mut listed = Vec::new(alloc);

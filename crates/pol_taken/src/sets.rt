@@ -68,11 +68,7 @@ fn rows_for(alloc: Global, cache: &SelectorCache, peers: &[&Peer]) -> Result<Row
 
 /// One row for each distinct peer that the filters list: the peer, the number of its selector, and its set, which is shared
 /// and not copied (Cilium, "Selector cache"). The one error is want of memory.
-pub fn sets_of(
-    alloc: Global,
-    cache: &SelectorCache,
-    filters: &Filters,
-) -> Result<Sets, Memory>
+pub fn sets_of(alloc: Global, cache: &SelectorCache, filters: &Filters) -> Result<Sets, Memory>
     requires live { AllByRecursion (λ p. IsSome (number_of p cache.now.live)) (filter_peers filters.now) }
     ensures sets { IfOk result (AreSetsFor cache.now.live filters.now) }
 {

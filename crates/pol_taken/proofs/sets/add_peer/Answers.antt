@@ -1,4 +1,4 @@
-use Rattle.std.proofs.Common.{sym, ◌∙◌, ap, Some, false, ◌≡◌, subst}
+use Rattle.std.proofs.Common.{sym, ◌∙◌, ap, false, ◌≡◌, subst}
 use Rattle.pol_taken.specs.PeerRows.{AreRowsFor, has_selector}
 use Rattle.pol_taken.proofs.Adding.{on_ok, row_comes, row_stays}
 use Rattle.pol_taken.proofs.sets.add_peer.Goals as goal

@@ -1,9 +1,7 @@
-use Rattle.std.proofs.Common.{IfOk, sym, ap, subst, vec_len}
+use Rattle.std.proofs.Common.{sym, ap, subst, vec_len}
 use Rattle.std.specs.Vec.{vec_capacity}
 use Rattle.pol_facts.specs.WithoutFaults.{WithoutFaults}
-use Rattle.pol_store.specs.Store.{StandsFor}
-use Rattle.pol_taken.specs.OfState.{IsTakenOf}
-use Rattle.pol_repo.specs.Repository.{Repository, state_in}
+use Rattle.pol_repo.specs.Repository.{Repository}
 use Rattle.pol_repo.proofs.Standing.{stands}
 use Rattle.pol_repo.proofs.Taking.{gone_here, map_here, refs_of, taken_here}
 use Rattle.pol_repo.proofs.repo.Repo.take.Goals as goal
