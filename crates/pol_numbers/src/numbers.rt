@@ -70,22 +70,19 @@ impl Numbers {
         self.prefixes.find(address)
     }
 
+    /// The selectors with their sets, and the changes of these. It takes no memory.
+    pub fn selectors(&self) -> &SelectorCache
+        ensures cache { result.now ≡ self.now.cache }
+    {
+        &self.selectors
+    }
+
     /// The revision of the newest change of a set that was dropped, 0 if none was.
     pub fn horizon(&self) -> u64
         ensures horizon { result ≡ self.now.cache.log.horizon }
         ensures sound { IsSound self.now.cache }
     {
         self.selectors.horizon()
-    }
-
-    /// The selectors, with their sets. It takes no memory.
-    pub fn selectors(&self) -> &SelectorCache
-        ensures selectors { result.now ≡ self.now.cache }
-        ensures sound { IsSound self.now.cache }
-    {
-        // The call tells that the selectors fit together.
-        let _horizon = self.selectors.horizon();
-        &self.selectors
     }
 
     /// The numbers of the held prefixes, as they are now. The one error is want of memory.

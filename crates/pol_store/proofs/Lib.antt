@@ -15,3 +15,4 @@ pub mod PolicyRefs
 pub mod PolicySteps
 pub mod PolicyMoves
 pub mod Taking
+pub mod Selectors
