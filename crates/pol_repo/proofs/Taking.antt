@@ -1,5 +1,11 @@
 -- What is taken of the store of a repository is what is taken of its state.
-use Rattle.std.proofs.Common.{◌≡◌, ℕ, Bool, ◌↔◌, List, None, Result, IfOk, sym, subst}
+use Rattle.std.proofs.Common.{◌≡◌, ℕ, Bool, true, ◌↔◌, List, Option, None, Some, Result, IfOk, sym, subst}
+use Rattle.std.specs.List.{AllByRecursion}
+use Rattle.pol_data.proofs.Every.{every-weaker}
+use Rattle.pol_sets.specs.declared.sets.Move.{Move}
+use Rattle.pol_sets.specs.declared.sets.SetRow.{SetRow}
+use Rattle.pol_selcache.specs.Live.{Live, is_live, number_of}
+use Rattle.pol_peers.proofs.Found.{number_lives}
 use Rattle.std.specs.Arc.{arc_value}
 use Rattle.pol_model.specs.declared.options.Options.{Options}
 use Rattle.pol_model.specs.declared.row.Endpoint.{Endpoint}
@@ -34,3 +40,21 @@ module _ (stored : Stored) (self : Repository) (stands : StandsFor (state_in sel
 
   pub gone_here : (slot : ℕ) (X : Type 0) → (X ↔ (endpoint_in slot stored.state.endpoints ≡ None)) → X ↔ (endpoint_in slot (state_in self).endpoints ≡ None)
   gone_here slot X gone = subst (λ (endpoints : List Endpoint). X ↔ (endpoint_in slot endpoints ≡ None)) stands.like.endpoints gone
+
+-- what is taken is so with any moves
+pub with_moves : (options : Options) (s : State) (slot : ℕ) (taken : Taken) (moves : Option (List Move)) → IsTakenOf options s slot taken → IsTakenOf options s slot (record taken { moves = moves })
+with_moves options s slot taken moves is = record {
+  revision = is.revision;
+  endpoint = is.endpoint;
+  filters = is.filters;
+  every = is.every;
+  listed = is.listed;
+  apart = is.apart;
+  selectors = is.selectors;
+  sets = is.sets;
+  addresses = is.addresses;
+}
+
+-- rows of live selectors
+pub rows_live : (live : List Live) (rows : List SetRow) → AllByRecursion (λ row. number_of row.peer live ≡ Some row.selector) rows → AllByRecursion (λ row. is_live row.selector live ≡ true) rows
+rows_live live rows are = every-weaker (λ row. number_of row.peer live ≡ Some row.selector) (λ row. is_live row.selector live ≡ true) (λ row is. number_lives row.peer live row.selector is) rows are

@@ -1,23 +1,28 @@
 -- What the selectors tell of earlier revisions, while a request is prepared, done or given up.
-use Rattle.std.proofs.Common.{◌≡◌, ℕ, ◌<◌, ◌++◌, List, [], ◌∷◌, Option, None, Some, sym, subst}
-use Rattle.std.specs.Prelude.{Err}
+use Rattle.std.proofs.Common.{◌≡◌, ℕ, ◌+◌, ◌<◌, ◌≤◌, ◌++◌, List, [], ◌∷◌, length, Option, None, Some, sym, subst, arith}
+use Rattle.std.specs.Prelude.{Err, IfSome}
+use Rattle.std.specs.List.{AllByRecursion}
+use Rattle.pol_sets.specs.declared.sets.Move.{Move}
+use Rattle.pol_sets.specs.declared.sets.SetRow.{SetRow}
 use Rattle.pol_model.specs.declared.options.Options.{Options}
 use Rattle.pol_model.specs.declared.request.Request.{Request}
 use Rattle.pol_model.specs.After.{after, state_of}
 use Rattle.pol_model.specs.State.{State}
 use Rattle.pol_facts.specs.Keeps.{Keeps}
 use Rattle.pol_selcache.specs.Cache.{IsSound as AreSound, carried}
-use Rattle.pol_selcache.specs.Live.{AreLive}
+use Rattle.pol_selcache.specs.Live.{AreLive, number_of}
 use Rattle.pol_peers.specs.Numbering.{GainsSelectors, LosesSelectors}
 use Rattle.pol_store.specs.declared.readied.Readied.{Readied}
 use Rattle.pol_store.specs.declared.error.ReadyError.{ReadyError}
 use Rattle.pol_store.specs.Readied.{IsReadied, ReadiesOrNot, TakesBack}
 use Rattle.pol_store.specs.Store.{StandsFor, Stored}
 use Rattle.pol_chains.specs.Chained.{IsChained, IsChainedBefore}
+use Rattle.pol_chains.specs.Moves.{TellsMovesSince, moves_by}
+use Rattle.pol_chains.proofs.MoveLaws.{moves_told_since}
 use Rattle.pol_chains.proofs.Chains.{chain_goes_on, chain_stays, gains_undone}
 use Rattle.pol_repo.specs.Inside.{IsSound, IsTold, seen_as}
-use Rattle.pol_repo.specs.Repository.{Repository}
-use Rattle.pol_repo.proofs.Standing.{keeps_now, none_readied, readied_now, stands_now}
+use Rattle.pol_repo.specs.Repository.{Repository, state_in}
+use Rattle.pol_repo.proofs.Standing.{counts, keeps_now, none_readied, readied_now, revision_is, stands_now}
 
 module _ (options : Options) (journal : List Request) (len capacity : ℕ) (stored : Stored) (readied : Option Readied) (self : Repository)
     (seen : seen_as options journal stored readied ≡ self) (sound : IsSound options journal len capacity stored readied)
@@ -32,6 +37,27 @@ module _ (options : Options) (journal : List Request) (len capacity : ℕ) (stor
         let idly : IsTold options journal nexts many room stored None =
             subst (λ (o : Option Readied). IsTold options journal nexts many room stored o) (none_readied options journal len capacity stored readied self seen sound idle) told in
         idly
+
+    -- ---- what is told since a revision
+    since_known : (known : Option ℕ) → IfSome known (λ revision. revision ≤ (state_in self).revision) → IfSome known (λ revision. revision ≤ length journal)
+    since_known None within = tt
+    since_known (Some revision) within =
+        omega (arith, within, revision_is options journal len capacity stored readied self seen sound, counts options journal len capacity stored readied self seen sound)
+
+    since_listed : (known : Option ℕ) → IfSome known (λ revision. revision ≤ length journal) → IfSome known (λ revision. revision < length nexts)
+    since_listed None within = tt
+    since_listed (Some revision) within = omega (arith, within, chained_now.counted)
+
+    pub since_within : (known : Option ℕ) → IfSome known (λ revision. revision ≤ (state_in self).revision) → IfSome known (λ revision. revision < length nexts)
+    since_within known within = since_listed known (since_known known within)
+
+    pub moves_are : (known : Option ℕ) → IfSome known (λ revision. revision ≤ (state_in self).revision) → (rows : List SetRow)
+        → AllByRecursion (λ row. number_of row.peer stored.cache.live ≡ Some row.selector) rows → (moves : Option (List Move)) → moves ≡ moves_by stored.cache.log nexts known rows
+        → TellsMovesSince self.options self.journal known rows moves
+    moves_are known within rows are moves is =
+        subst (λ (r : Repository). TellsMovesSince r.options r.journal known rows moves) seen
+        (subst (λ (ms : Option (List Move)). TellsMovesSince options journal known rows ms) (sym is)
+        (moves_told_since options journal nexts stored.cache chained_now known (since_known known within) rows are))
 
     module _ (journal' : List Request) (nexts' : List ℕ) (many' room' : ℕ) (stored' : Stored) (same : journal' ≡ journal) (same_nexts : nexts' ≡ nexts)
         (gains : GainsSelectors stored.cache stored'.cache) where

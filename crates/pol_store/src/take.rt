@@ -71,6 +71,7 @@ impl Store {
         requires refs { RefsOf (peers_of self.now.state.policies) self.now.cache.live }
         ensures taken { IfOk result (λ taken. (options : AllOptions) (s : State) (slot : ℕ) → options.localhost ≡ localhost → StandsFor s self.now
             → endpoint_in slot s.endpoints ≡ Some endpoint.now → IsTakenOf options s slot taken) }
+        ensures selectors { IfOk result (λ taken. AllByRecursion (λ row. number_of row.peer self.now.cache.live ≡ Some row.selector) taken.sets) }
     {
         let filters = self.filters_of(alloc, endpoint, localhost)?;
         let sets = self.sets_for(alloc, &filters)?;
@@ -91,6 +92,7 @@ impl Store {
     pub fn take(&self, alloc: Global, slot: u32, localhost: bool) -> Result<Taken, TakeError>
         requires refs { RefsOf (peers_of self.now.state.policies) self.now.cache.live }
         ensures taken { IfOk result (λ taken. (options : AllOptions) (s : State) → options.localhost ≡ localhost → StandsFor s self.now → IsTakenOf options s slot taken) }
+        ensures selectors { IfOk result (λ taken. AllByRecursion (λ row. number_of row.peer self.now.cache.live ≡ Some row.selector) taken.sets) }
         ensures gone { IsErrOf result TakeError.Gone ↔ (endpoint_in slot self.now.state.endpoints ≡ None) }
     {
         match self.endpoints.at_slot(slot) {
