@@ -35,7 +35,7 @@ module _ (options : Options) (journal : List Request) (len capacity : ℕ) (stor
     pub chained_now : IsChained options journal nexts stored.cache
     chained_now =
         let idly : IsTold options journal nexts many room stored None =
-            subst (λ (o : Option Readied). IsTold options journal nexts many room stored o) (none_readied options journal len capacity stored readied self seen sound idle) told in
+        subst (λ (o : Option Readied). IsTold options journal nexts many room stored o) (none_readied options journal len capacity stored readied self seen sound idle) told in
         idly
 
     -- ---- what is told since a revision

@@ -10,8 +10,7 @@ use Rattle.pol_repo.proofs.repo.Repo.new.Goals as goal
 pub invariant_of-result : goal.invariant_of-result
 invariant_of-result c =
     let options : Options = record { mode = c.args.mode; localhost = c.args.localhost; map_max = None } in
-    let store = c.in_ok-new.field-0 in
-    (
+    let store = c.in_ok-new.field-0 in (
       subst (λ (requests : List Request). IsSound options requests (vec_len c.new.result) (vec_capacity c.new.result) store None) (sym c.new.ensures.items)
           (record { without_faults = tt; inside = c.in_ok-new.ensures.start options refl }),
       subst (λ (requests : List Request). IsChained options requests c.push.new.self.items store.cache) (sym c.new.ensures.items)

@@ -23,17 +23,16 @@ answer-done-requires g c = record {
 }
 
 pub invariant_of-self : goal.invariant_of-self
-invariant_of-self g c =
-    (
-    prepared c.self.inside.options c.self.inside.journal.items (vec_len c.self.inside.journal) (vec_capacity c.self.inside.journal) c.self.inside.store c.self.inside.prepared c.args.self.now
-    c.self.view_is c.self.invariant.0 c.requires.idle
-    c.args.request c.ready_in.new.journal.items c.ready_in.new.store c.ready_in.ensures.journal
-    c.in-Ok.readied (vec_len c.ready_in.new.journal) (vec_capacity c.ready_in.new.journal) c.in-Ok.ensures.rises c.in-Ok.ensures.room c.in-Ok.ensures.readied,
-    told_prepared c.self.inside.options c.self.inside.journal.items (vec_len c.self.inside.journal) (vec_capacity c.self.inside.journal) c.self.inside.store c.self.inside.prepared c.args.self.now
-    c.self.view_is c.self.invariant.0 c.self.inside.nexts.items (vec_len c.self.inside.nexts) (vec_capacity c.self.inside.nexts) c.self.invariant.1 c.requires.idle
-    c.ready_in.new.journal.items c.ready_in.new.nexts.items (vec_len c.ready_in.new.nexts) (vec_capacity c.ready_in.new.nexts) c.ready_in.new.store c.ready_in.ensures.journal c.ready_in.ensures.nexts c.ready_in.ensures.selectors
-    c.ready_in.ensures.before c.in-Ok.readied c.in-Ok.ensures.more,
-    )
+invariant_of-self g c = (
+  prepared c.self.inside.options c.self.inside.journal.items (vec_len c.self.inside.journal) (vec_capacity c.self.inside.journal) c.self.inside.store c.self.inside.prepared c.args.self.now
+      c.self.view_is c.self.invariant.0 c.requires.idle
+      c.args.request c.ready_in.new.journal.items c.ready_in.new.store c.ready_in.ensures.journal
+      c.in-Ok.readied (vec_len c.ready_in.new.journal) (vec_capacity c.ready_in.new.journal) c.in-Ok.ensures.rises c.in-Ok.ensures.room c.in-Ok.ensures.readied,
+  told_prepared c.self.inside.options c.self.inside.journal.items (vec_len c.self.inside.journal) (vec_capacity c.self.inside.journal) c.self.inside.store c.self.inside.prepared c.args.self.now
+      c.self.view_is c.self.invariant.0 c.self.inside.nexts.items (vec_len c.self.inside.nexts) (vec_capacity c.self.inside.nexts) c.self.invariant.1 c.requires.idle
+      c.ready_in.new.journal.items c.ready_in.new.nexts.items (vec_len c.ready_in.new.nexts) (vec_capacity c.ready_in.new.nexts) c.ready_in.new.store c.ready_in.ensures.journal c.ready_in.ensures.nexts c.ready_in.ensures.selectors
+      c.ready_in.ensures.before c.in-Ok.readied c.in-Ok.ensures.more,
+)
 
 pub returns-in-Ok-clause-no_fault : goal.returns-in-Ok-clause-no_fault
 returns-in-Ok-clause-no_fault g c =
@@ -66,17 +65,16 @@ returns-in-Ok-clause-cost g c = λ other.
     )
 
 pub invariant_of-self-in-Err-Fault : goal.invariant_of-self-in-Err-Fault
-invariant_of-self-in-Err-Fault g c =
-    (
-    refused c.self.inside.options c.self.inside.journal.items (vec_len c.self.inside.journal) (vec_capacity c.self.inside.journal) c.self.inside.store c.self.inside.prepared c.args.self.now
-    c.self.view_is c.self.invariant.0 c.requires.idle
-    c.args.request c.ready_in.new.journal.items c.ready_in.new.store c.ready_in.ensures.journal
-    c.in-Err-Fault.field-0 (vec_len c.ready_in.new.journal) (vec_capacity c.ready_in.new.journal) c.in-Err-Fault.ensures.readied,
-    told_refused c.self.inside.options c.self.inside.journal.items (vec_len c.self.inside.journal) (vec_capacity c.self.inside.journal) c.self.inside.store c.self.inside.prepared c.args.self.now
-    c.self.view_is c.self.invariant.0 c.self.inside.nexts.items (vec_len c.self.inside.nexts) (vec_capacity c.self.inside.nexts) c.self.invariant.1 c.requires.idle
-    c.ready_in.new.journal.items c.ready_in.new.nexts.items (vec_len c.ready_in.new.nexts) (vec_capacity c.ready_in.new.nexts) c.ready_in.new.store c.ready_in.ensures.journal c.ready_in.ensures.nexts c.ready_in.ensures.selectors
-    c.args.request c.in-Err-Fault.field-0 c.in-Err-Fault.ensures.readied c.ready_in.ensures.sound.live,
-    )
+invariant_of-self-in-Err-Fault g c = (
+  refused c.self.inside.options c.self.inside.journal.items (vec_len c.self.inside.journal) (vec_capacity c.self.inside.journal) c.self.inside.store c.self.inside.prepared c.args.self.now
+      c.self.view_is c.self.invariant.0 c.requires.idle
+      c.args.request c.ready_in.new.journal.items c.ready_in.new.store c.ready_in.ensures.journal
+      c.in-Err-Fault.field-0 (vec_len c.ready_in.new.journal) (vec_capacity c.ready_in.new.journal) c.in-Err-Fault.ensures.readied,
+  told_refused c.self.inside.options c.self.inside.journal.items (vec_len c.self.inside.journal) (vec_capacity c.self.inside.journal) c.self.inside.store c.self.inside.prepared c.args.self.now
+      c.self.view_is c.self.invariant.0 c.self.inside.nexts.items (vec_len c.self.inside.nexts) (vec_capacity c.self.inside.nexts) c.self.invariant.1 c.requires.idle
+      c.ready_in.new.journal.items c.ready_in.new.nexts.items (vec_len c.ready_in.new.nexts) (vec_capacity c.ready_in.new.nexts) c.ready_in.new.store c.ready_in.ensures.journal c.ready_in.ensures.nexts c.ready_in.ensures.selectors
+      c.args.request c.in-Err-Fault.field-0 c.in-Err-Fault.ensures.readied c.ready_in.ensures.sound.live,
+)
 
 pub returns-in-Err-Fault-clause-cause : goal.returns-in-Err-Fault-clause-cause
 returns-in-Err-Fault-clause-cause g c =
@@ -95,17 +93,16 @@ returns-in-Err-Fault-clause-cost g c = λ other.
     )
 
 pub invariant_of-self-in-Err-Memory : goal.invariant_of-self-in-Err-Memory
-invariant_of-self-in-Err-Memory g c =
-    (
-    refused c.self.inside.options c.self.inside.journal.items (vec_len c.self.inside.journal) (vec_capacity c.self.inside.journal) c.self.inside.store c.self.inside.prepared c.args.self.now
-    c.self.view_is c.self.invariant.0 c.requires.idle
-    c.args.request c.ready_in.new.journal.items c.ready_in.new.store c.ready_in.ensures.journal
-    c.in-Err-Memory.field-0 (vec_len c.ready_in.new.journal) (vec_capacity c.ready_in.new.journal) c.in-Err-Memory.ensures.readied,
-    told_refused c.self.inside.options c.self.inside.journal.items (vec_len c.self.inside.journal) (vec_capacity c.self.inside.journal) c.self.inside.store c.self.inside.prepared c.args.self.now
-    c.self.view_is c.self.invariant.0 c.self.inside.nexts.items (vec_len c.self.inside.nexts) (vec_capacity c.self.inside.nexts) c.self.invariant.1 c.requires.idle
-    c.ready_in.new.journal.items c.ready_in.new.nexts.items (vec_len c.ready_in.new.nexts) (vec_capacity c.ready_in.new.nexts) c.ready_in.new.store c.ready_in.ensures.journal c.ready_in.ensures.nexts c.ready_in.ensures.selectors
-    c.args.request c.in-Err-Memory.field-0 c.in-Err-Memory.ensures.readied c.ready_in.ensures.sound.live,
-    )
+invariant_of-self-in-Err-Memory g c = (
+  refused c.self.inside.options c.self.inside.journal.items (vec_len c.self.inside.journal) (vec_capacity c.self.inside.journal) c.self.inside.store c.self.inside.prepared c.args.self.now
+      c.self.view_is c.self.invariant.0 c.requires.idle
+      c.args.request c.ready_in.new.journal.items c.ready_in.new.store c.ready_in.ensures.journal
+      c.in-Err-Memory.field-0 (vec_len c.ready_in.new.journal) (vec_capacity c.ready_in.new.journal) c.in-Err-Memory.ensures.readied,
+  told_refused c.self.inside.options c.self.inside.journal.items (vec_len c.self.inside.journal) (vec_capacity c.self.inside.journal) c.self.inside.store c.self.inside.prepared c.args.self.now
+      c.self.view_is c.self.invariant.0 c.self.inside.nexts.items (vec_len c.self.inside.nexts) (vec_capacity c.self.inside.nexts) c.self.invariant.1 c.requires.idle
+      c.ready_in.new.journal.items c.ready_in.new.nexts.items (vec_len c.ready_in.new.nexts) (vec_capacity c.ready_in.new.nexts) c.ready_in.new.store c.ready_in.ensures.journal c.ready_in.ensures.nexts c.ready_in.ensures.selectors
+      c.args.request c.in-Err-Memory.field-0 c.in-Err-Memory.ensures.readied c.ready_in.ensures.sound.live,
+)
 
 pub returns-clause-cost : goal.returns-clause-cost
 returns-clause-cost g c = λ other.
