@@ -87,8 +87,8 @@ impl Store {
     }
 
     /// What the policy map of the endpoint of that slot is made of, with or without leave for the local host (Cilium,
-    /// `--allow-localhost`). No moves of sets are told yet. `Gone` comes exactly where no live endpoint has the slot, and
-    /// `Memory` is want of memory.
+    /// `--allow-localhost`). It tells no moves of sets, which follow from the journal. `Gone` comes exactly where no live
+    /// endpoint has the slot, and `Memory` is want of memory.
     pub fn take(&self, alloc: Global, slot: u32, localhost: bool) -> Result<Taken, TakeError>
         requires refs { RefsOf (peers_of self.now.state.policies) self.now.cache.live }
         ensures taken { IfOk result (λ taken. (options : AllOptions) (s : State) → options.localhost ≡ localhost → StandsFor s self.now → IsTakenOf options s slot taken) }
