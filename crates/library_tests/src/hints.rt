@@ -3,7 +3,7 @@
 ghost use Rattle.std.specs.Prelude.{◌≡◌, true, Some, None, IfOk};
 ghost use Rattle.pol_pool.specs.Passes.{IsHintPassOf};
 
-use crate::{Calls, Gate, HintPass, Hints, HintsFull, Job, Over, work};
+use pol_pool::{Calls, Gate, HintPass, Hints, HintsFull, Job, Over, work};
 use std::alloc::{AllocError as Memory, Global};
 use std::sync::Wait;
 use std::sync::atomic::{AtomicBool, AtomicU32, Ordering};

@@ -1,5 +1,5 @@
 use Rattle.pol_pool.specs.Passes.{IsHintPassOf}
-use Rattle.pol_pool.proofs.tests.Yard.put_half.Given as goal
+use Rattle.library_tests.proofs.hints.Yard.put_half.Given as goal
 
 -- the pass stays one of the queue
 abbrev pub invariant-loop : goal.invariant-loop
