@@ -19,7 +19,7 @@ impl Repo {
     ///
     /// `Gone` comes exactly where no live endpoint has the slot. `Memory` is want of memory.
     pub fn take(&self, alloc: Global, slot: u32, since: Option<u64>) -> Result<Taken, TakeError>
-        requires idle { self.now.readied ≡ None }
+        requires idle { self.now.prepared ≡ None }
         requires since { IfSome since (λ revision. revision ≤ (state_in self.now).revision) }
         ensures taken { IfOk result (IsTakenOf self.now.options (state_in self.now) slot) }
         ensures map { IfOk result (λ taken. distilled (arc_value taken.filters) taken.sets ≡ policy_map self.now.options (state_in self.now) taken.endpoint) }

@@ -9,13 +9,13 @@ use Rattle.pol_repo.proofs.repo.Repo.take.Goals as goal
 pub take-requires : goal.take-requires
 take-requires c = record {
   refs = refs_of c.self.inside.store c.args.self.now
-      (stands c.self.inside.options c.self.inside.journal.items (vec_len c.self.inside.journal) (vec_capacity c.self.inside.journal) c.self.inside.store c.self.inside.readied c.args.self.now
+      (stands c.self.inside.options c.self.inside.journal.items (vec_len c.self.inside.journal) (vec_capacity c.self.inside.journal) c.self.inside.store c.self.inside.prepared c.args.self.now
       c.self.view_is c.self.invariant c.requires.idle);
 }
 
 pub returns : goal.returns
 returns c =
-    let standing = stands c.self.inside.options c.self.inside.journal.items (vec_len c.self.inside.journal) (vec_capacity c.self.inside.journal) c.self.inside.store c.self.inside.readied c.args.self.now
+    let standing = stands c.self.inside.options c.self.inside.journal.items (vec_len c.self.inside.journal) (vec_capacity c.self.inside.journal) c.self.inside.store c.self.inside.prepared c.args.self.now
     c.self.view_is c.self.invariant c.requires.idle in
     let taken = taken_here c.self.inside.store c.args.self.now standing c.args.slot c.take.result c.self.inside.options.localhost
     (ap (λ (r : Repository). r.options.localhost) (sym c.self.view_is)) c.take.ensures.taken in
