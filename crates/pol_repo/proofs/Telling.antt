@@ -1,5 +1,5 @@
 -- What the selectors tell of earlier revisions, while a request is prepared, done or given up.
-use Rattle.std.proofs.Common.{◌≡◌, ℕ, ◌+◌, ◌<◌, ◌≤◌, ◌++◌, List, [], ◌∷◌, length, Option, None, Some, sym, subst, arith}
+use Rattle.std.proofs.Common.{◌≡◌, ℕ, ◌<◌, ◌≤◌, ◌++◌, List, [], ◌∷◌, length, Option, None, Some, sym, subst, arith}
 use Rattle.std.specs.Prelude.{Err, IfSome}
 use Rattle.std.specs.List.{AllByRecursion}
 use Rattle.pol_sets.specs.declared.sets.Move.{Move}
