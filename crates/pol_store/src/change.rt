@@ -4,6 +4,8 @@ ghost use Rattle.pol_model.specs.declared.request.Request.{Request as OneRequest
 ghost use Rattle.pol_model.specs.After.{after};
 ghost use Rattle.pol_model.specs.State.{State};
 ghost use Rattle.pol_facts.specs.Keeps.{Keeps};
+ghost use Rattle.pol_peers.specs.Numbering.{LosesSelectors};
+ghost use Rattle.pol_selcache.specs.Cache.{carried};
 ghost use Rattle.pol_store.specs.Readied.{CanBeDone, Changes, IsReadied, MayChange, TakesBack};
 ghost use Rattle.pol_store.specs.Store.{StandsFor};
 
@@ -23,6 +25,7 @@ impl Store {
     fn change_mode(&mut self, mode: Mode)
         requires may { MayChange self.old (Change.Mode mode) }
         ensures done { Changes self.old (Change.Mode mode) self.new }
+        ensures sets { self.new.cache ≡ self.old.cache }
     {
         self.set_mode(mode);
     }
@@ -31,6 +34,7 @@ impl Store {
     fn change(&mut self, change: Change)
         requires may { MayChange self.old change }
         ensures done { Changes self.old change self.new }
+        ensures selectors { LosesSelectors self.old.cache self.new.cache }
     {
         match change {
             Change::Endpoint(endpoint, name) => self.place_endpoint(endpoint, name),
@@ -48,6 +52,7 @@ impl Store {
         requires ready { CanBeDone self.old readied }
         requires room { self.old.state.revision < 2 ^ 64 - 1 }
         ensures done { (s : State) (request : OneRequest) → Keeps s → IsReadied s request self.old readied → StandsFor (after s request) self.new }
+        ensures selectors { LosesSelectors (carried readied.plan self.old.cache) self.new.cache }
     {
         let Readied { plan, change } = readied;
         self.begin(plan);
@@ -58,6 +63,7 @@ impl Store {
     pub fn take_back(&mut self, readied: Readied)
         requires ready { CanBeDone self.old readied }
         ensures back { TakesBack self.old readied self.new }
+        ensures selectors { LosesSelectors self.old.cache self.new.cache }
     {
         let Readied {
             plan: _plan,

@@ -12,7 +12,8 @@ ghost use Rattle.pol_model.specs.Sizes.{IsShortPolicy};
 ghost use Rattle.pol_selcache.specs.Cache.{with_room};
 ghost use Rattle.pol_selcache.specs.Live.{AreExact};
 ghost use Rattle.pol_peers.specs.Listed.{listed_peers};
-ghost use Rattle.pol_peers.specs.References.{HasRefs, IsMoreBy};
+ghost use Rattle.pol_peers.specs.Numbering.{TakesFreshNumbers};
+ghost use Rattle.pol_peers.specs.References.{HasRefs, IsMoreBy, KeepsNumbers};
 ghost use Rattle.pol_numbers.specs.Held.{AreApart, IsSettled as SetsAreSettled, Readies, RefersTo};
 ghost use Rattle.pol_store.specs.Parts.{numbers_of};
 ghost use Rattle.pol_store.specs.PolicyParts.{listed_of, with_cache, with_policies, with_rows};
@@ -46,6 +47,9 @@ impl Store {
         ensures same { self.new ≡ with_cache self.new.cache self.old }
         ensures ok { OnOk result (RefersTo (listed_peers policy.now) self.old.state.identities self.old.cache self.new.cache) }
         ensures err { OnErr result (RefersTo [] self.old.state.identities self.old.cache self.new.cache) }
+        ensures kept { KeepsNumbers self.old.cache.live self.new.cache.live }
+        ensures fresh { TakesFreshNumbers self.old.cache self.new.cache }
+        ensures log { self.new.cache.log ≡ self.old.cache.log }
     {
         self.numbers.refer(policy, steps)
     }
@@ -56,6 +60,8 @@ impl Store {
         ensures same { self.new ≡ with_cache self.new.cache self.old }
         ensures peers { IsMoreBy (listed_peers policy.now) self.new.cache.live self.old.cache.live }
         ensures exact { (rows : List OneRow) → AreExact rows self.old.cache.live → AreExact rows self.new.cache.live }
+        ensures kept { KeepsNumbers self.new.cache.live self.old.cache.live }
+        ensures next { self.new.cache.next ≡ self.old.cache.next }
         ensures log { self.new.cache.log ≡ self.old.cache.log }
     {
         self.numbers.unrefer(policy);
@@ -67,6 +73,8 @@ impl Store {
         ensures same { self.new ≡ with_cache self.new.cache self.old }
         ensures peers { IsMoreBy (listed_of old) self.new.cache.live self.old.cache.live }
         ensures exact { (rows : List OneRow) → AreExact rows self.old.cache.live → AreExact rows self.new.cache.live }
+        ensures kept { KeepsNumbers self.new.cache.live self.old.cache.live }
+        ensures next { self.new.cache.next ≡ self.old.cache.next }
         ensures log { self.new.cache.log ≡ self.old.cache.log }
     {
         if let Some(stamped) = old {
