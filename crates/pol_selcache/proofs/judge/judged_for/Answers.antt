@@ -12,7 +12,7 @@ returns-in-Cidr-clause-set c =
     let rows = c.args.identities.now in
     let p = c.args.peer.now in
     let set : filter (selects_held rows p) (numbers_with_prefix rows) ≡ set_at rows p =
-        subst (λ (p : Peer). filter (selects_held rows p) (numbers_with_prefix rows) ≡ set_at rows p) (sym c.in-Cidr.is) (prefixed_selected rows _ _ c.numbers_with_prefix.ensures.sound.numbers) in
+    subst (λ (p : Peer). filter (selects_held rows p) (numbers_with_prefix rows) ≡ set_at rows p) (sym c.in-Cidr.is) (prefixed_selected rows _ _ c.numbers_with_prefix.ensures.sound.numbers) in
     IfOk-weaker c.numbers_with_prefix.result (λ numbers. numbers.items ≡ numbers_with_prefix rows) (λ numbers. filter (selects_held rows p) numbers.items ≡ set_at rows p)
     (λ numbers is. ap (filter (selects_held rows p)) is ∙ set) c.numbers_with_prefix.ensures.numbers
 
