@@ -41,7 +41,12 @@ impl Store {
             Change::NoEndpoint(name, number) => self.take_out_endpoint(name, number),
             Change::Named(name, number) => self.place_identity(name, number),
             Change::NotNamed(name, number) => self.take_out_identity(name, number),
-            Change::Policy(new, key, taken, given_up) => self.put_policy(new, key, taken, given_up),
+            Change::Policy {
+                stamped,
+                key,
+                taken,
+                given_up,
+            } => self.put_policy(stamped, key, taken, given_up),
             Change::NoPolicy(key, given_up) => self.take_out_policy(key, given_up),
             Change::Mode(mode) => self.change_mode(mode),
         }
@@ -72,7 +77,9 @@ impl Store {
         match change {
             Change::Endpoint(endpoint, _) => self.release(endpoint.identity),
             Change::Named(_, number) => self.release(number),
-            Change::Policy(new, _, taken, _) => self.take_back_policy(&new.policy, &taken),
+            Change::Policy { stamped, taken, .. } => {
+                self.take_back_policy(&stamped.policy, &taken)
+            }
             Change::NoEndpoint(_, _)
             | Change::NotNamed(_, _)
             | Change::NoPolicy(_, _)

@@ -8,7 +8,7 @@ ghost use Rattle.pol_selcache.specs.Cache.{with_room};
 ghost use Rattle.pol_selcache.specs.Live.{label_selectors};
 ghost use Rattle.pol_store.specs.Parts.{endpoint_fault};
 ghost use Rattle.pol_store.specs.Readied.{Changes, MayChange, ReadiesOrNot};
-ghost use Rattle.pol_store.specs.Store.{IsSettled};
+ghost use Rattle.pol_store.specs.Store.{StandsForSome};
 
 use crate::error::ReadyError;
 use crate::readied::{Change, Readied};
@@ -34,7 +34,7 @@ impl Store {
 
     /// The fault of a new endpoint, but for numbers that ran out.
     fn endpoint_fault(&self, name: &str, labels: &LabelSet, address: Addr) -> Option<Fault>
-        ensures fault { result ≡ endpoint_fault name.now labels.now address self.now.state.endpoints }
+        ensures fault { result ≡ endpoint_fault self.now.state name.now labels.now address }
     {
         if has_reserved(labels) && !is_init(labels) {
             Some(Fault::ReservedLabel)
@@ -97,7 +97,7 @@ impl Store {
         address: Addr,
         steps: &mut Steps<L>,
     ) -> Result<Readied, ReadyError>
-        requires settled { IsSettled self.old }
+        requires stands { StandsForSome self.old }
         requires room { self.old.state.revision < 2 ^ 64 - 1 }
         ensures readied { ReadiesOrNot (AddEndpoint name.now labels.now address) self.old self.new result }
         ensures sets { self.new.cache ≡ with_room self.new.cache.log.spare self.old.cache }
@@ -128,7 +128,7 @@ impl Store {
         name: &Text,
         steps: &mut Steps<L>,
     ) -> Result<Readied, ReadyError>
-        requires settled { IsSettled self.old }
+        requires stands { StandsForSome self.old }
         requires room { self.old.state.revision < 2 ^ 64 - 1 }
         ensures readied { ReadiesOrNot (RemoveEndpoint name.now) self.old self.new result }
         ensures sets { self.new.cache ≡ with_room self.new.cache.log.spare self.old.cache }

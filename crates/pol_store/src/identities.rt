@@ -5,7 +5,7 @@ ghost use Rattle.pol_selcache.specs.Cache.{with_room};
 ghost use Rattle.pol_selcache.specs.Live.{label_selectors};
 ghost use Rattle.pol_tables.specs.Tables.{number_named};
 ghost use Rattle.pol_store.specs.Readied.{Changes, MayChange, ReadiesOrNot};
-ghost use Rattle.pol_store.specs.Store.{IsSettled};
+ghost use Rattle.pol_store.specs.Store.{StandsForSome};
 
 use crate::error::ReadyError;
 use crate::readied::{Change, Readied};
@@ -32,7 +32,7 @@ impl Store {
         labels: &LabelSet,
         steps: &mut Steps<L>,
     ) -> Result<Readied, ReadyError>
-        requires settled { IsSettled self.old }
+        requires stands { StandsForSome self.old }
         requires room { self.old.state.revision < 2 ^ 64 - 1 }
         ensures readied { ReadiesOrNot (AddIdentity name.now labels.now) self.old self.new result }
         ensures sets { self.new.cache ≡ with_room self.new.cache.log.spare self.old.cache }
@@ -62,7 +62,7 @@ impl Store {
         name: &Text,
         steps: &mut Steps<L>,
     ) -> Result<Readied, ReadyError>
-        requires settled { IsSettled self.old }
+        requires stands { StandsForSome self.old }
         requires room { self.old.state.revision < 2 ^ 64 - 1 }
         ensures readied { ReadiesOrNot (RemoveIdentity name.now) self.old self.new result }
         ensures sets { self.new.cache ≡ with_room self.new.cache.log.spare self.old.cache }

@@ -13,7 +13,7 @@ ghost use Rattle.pol_peers.specs.References.{HasRefs};
 ghost use Rattle.pol_selcache.specs.Cache.{with_room};
 ghost use Rattle.pol_store.specs.PolicyParts.{policy_error};
 ghost use Rattle.pol_store.specs.Readied.{Changes, IsCause, IsReadied, MayChange, ReadiesOrNot};
-ghost use Rattle.pol_store.specs.Store.{IsSettled, StandsFor};
+ghost use Rattle.pol_store.specs.Store.{StandsFor, StandsForSome};
 ghost use Rattle.pol_store.specs.declared.readied.Readied.{Readied as OneReadied};
 
 use crate::error::ReadyError;
@@ -129,7 +129,7 @@ impl Store {
         policy: &Policy,
         steps: &mut Steps<L>,
     ) -> Result<Readied, ReadyError>
-        requires settled { IsSettled self.old }
+        requires stands { StandsForSome self.old }
         requires room { self.old.state.revision < 2 ^ 64 - 1 }
         requires short { IsShortPolicy policy.now }
         ensures readied { ReadiesOrNot (Apply policy.now) self.old self.new result }
@@ -143,7 +143,12 @@ impl Store {
         match self.hold_prefixes(new.taken.as_slice(), new.given_up.as_slice(), steps) {
             Ok(plan) => Ok(Readied {
                 plan,
-                change: Change::Policy(new.stamped, new.key, new.taken, new.given_up),
+                change: Change::Policy {
+                    stamped: new.stamped,
+                    key: new.key,
+                    taken: new.taken,
+                    given_up: new.given_up,
+                },
             }),
             Err(error) => {
                 self.unrefer(policy);
@@ -158,7 +163,7 @@ impl Store {
         key: &PolicyKey,
         steps: &mut Steps<L>,
     ) -> Result<Readied, ReadyError>
-        requires settled { IsSettled self.old }
+        requires stands { StandsForSome self.old }
         requires room { self.old.state.revision < 2 ^ 64 - 1 }
         ensures readied { ReadiesOrNot (Remove key.now) self.old self.new result }
         ensures sets { self.new.cache ≡ with_room self.new.cache.log.spare self.old.cache }

@@ -6,7 +6,7 @@ ghost use Rattle.pol_peers.specs.Numbering.{GainsSelectors};
 ghost use Rattle.pol_selcache.specs.Cache.{with_room};
 ghost use Rattle.pol_selcache.specs.Live.{label_selectors};
 ghost use Rattle.pol_store.specs.Readied.{ReadiesOrNot, is_of_policy};
-ghost use Rattle.pol_store.specs.Store.{IsSettled};
+ghost use Rattle.pol_store.specs.Store.{StandsForSome};
 
 use crate::error::ReadyError;
 use crate::readied::{Change, Readied};
@@ -22,7 +22,7 @@ impl Store {
         mode: Mode,
         steps: &mut Steps<L>,
     ) -> Result<Readied, ReadyError>
-        requires settled { IsSettled self.old }
+        requires stands { StandsForSome self.old }
         requires room { self.old.state.revision < 2 ^ 64 - 1 }
         ensures readied { ReadiesOrNot (SetMode mode) self.old self.new result }
         ensures sets { self.new.cache ≡ with_room self.new.cache.log.spare self.old.cache }
@@ -45,7 +45,7 @@ impl Store {
         request: &Request,
         steps: &mut Steps<L>,
     ) -> Result<Readied, ReadyError>
-        requires settled { IsSettled self.old }
+        requires stands { StandsForSome self.old }
         requires room { self.old.state.revision < 2 ^ 64 - 1 }
         requires short { IsShort request.now }
         ensures readied { ReadiesOrNot request.now self.old self.new result }

@@ -25,8 +25,8 @@ fn fill_policies<L: Ledger>(
     count: u32,
     steps: &mut Steps<L>,
 ) -> Result<()>
-    requires idle { repo.old.readied ≡ None }
-    ensures idle { repo.new.readied ≡ None }
+    requires idle { repo.old.prepared ≡ None }
+    ensures idle { repo.new.prepared ≡ None }
 {
     for number in 0..count {
         commit(repo, filling(alloc, number)?, steps)?;
@@ -40,8 +40,8 @@ fn fill_identities<L: Ledger>(
     count: u32,
     steps: &mut Steps<L>,
 ) -> Result<()>
-    requires idle { repo.old.readied ≡ None }
-    ensures idle { repo.new.readied ≡ None }
+    requires idle { repo.old.prepared ≡ None }
+    ensures idle { repo.new.prepared ≡ None }
 {
     for number in 0..count {
         commit(repo, identity(alloc, number, "default")?, steps)?;
@@ -56,8 +56,8 @@ fn fill_endpoints<L: Ledger>(
     count: u32,
     steps: &mut Steps<L>,
 ) -> Result<()>
-    requires idle { repo.old.readied ≡ None }
-    ensures idle { repo.new.readied ≡ None }
+    requires idle { repo.old.prepared ≡ None }
+    ensures idle { repo.new.prepared ≡ None }
 {
     for number in BATCH..count {
         commit(repo, endpoint(alloc, number, "default")?, steps)?;
@@ -72,8 +72,8 @@ pub(crate) fn fill<L: Ledger>(
     sizes: Sizes,
     steps: &mut Steps<L>,
 ) -> Result<()>
-    requires idle { repo.old.readied ≡ None }
-    ensures idle { repo.new.readied ≡ None }
+    requires idle { repo.old.prepared ≡ None }
+    ensures idle { repo.new.prepared ≡ None }
 {
     fill_identities(alloc, repo, sizes.identities, steps)?;
     fill_policies(alloc, repo, sizes.policies, steps)?;

@@ -28,7 +28,7 @@ fn measure_in<R: Clock + Eprint + AllocGlobal, L: Ledger>(
     before: Row,
     steps: &mut Steps<L>,
 ) -> Result<Row>
-    requires idle { repo.old.readied ≡ None }
+    requires idle { repo.old.prepared ≡ None }
 {
     fill(rt.alloc(), repo, sizes, steps)?;
     tell_all(rt, repo, before, steps)

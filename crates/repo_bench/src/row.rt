@@ -45,8 +45,8 @@ fn tell<R: Clock + Eprint + AllocGlobal, L: Ledger>(
     before: Figures,
     steps: &mut Steps<L>,
 ) -> Result<Figures>
-    requires idle { repo.old.readied ≡ None }
-    ensures idle { repo.new.readied ≡ None }
+    requires idle { repo.old.prepared ≡ None }
+    ensures idle { repo.new.prepared ≡ None }
 {
     let now = time_runs(rt, repo, kind, steps)?;
     let told = text(rt.alloc(), now, before)?;
@@ -61,8 +61,8 @@ pub(crate) fn tell_all<R: Clock + Eprint + AllocGlobal, L: Ledger>(
     before: Row,
     steps: &mut Steps<L>,
 ) -> Result<Row>
-    requires idle { repo.old.readied ≡ None }
-    ensures idle { repo.new.readied ≡ None }
+    requires idle { repo.old.prepared ≡ None }
+    ensures idle { repo.new.prepared ≡ None }
 {
     let mut row = before;
     row.identity = tell(rt, repo, Kind::Identity, "identity", before.identity, steps)?;

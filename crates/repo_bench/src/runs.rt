@@ -20,8 +20,8 @@ pub(crate) fn commit<L: Ledger>(
     request: Request,
     steps: &mut Steps<L>,
 ) -> Result<(), CommitError>
-    requires idle { repo.old.readied ≡ None }
-    ensures idle { repo.new.readied ≡ None }
+    requires idle { repo.old.prepared ≡ None }
+    ensures idle { repo.new.prepared ≡ None }
 {
     if request.is_short() {
         repo.commit(request, steps)?;
@@ -35,8 +35,8 @@ fn commit_all<L: Ledger>(
     requests: Vec<Request>,
     steps: &mut Steps<L>,
 ) -> Result<(), CommitError>
-    requires idle { repo.old.readied ≡ None }
-    ensures idle { repo.new.readied ≡ None }
+    requires idle { repo.old.prepared ≡ None }
+    ensures idle { repo.new.prepared ≡ None }
 {
     for request in requests {
         commit(repo, request, steps)?;
@@ -51,8 +51,8 @@ fn time_all<R: Clock, L: Ledger>(
     requests: Vec<Request>,
     steps: &mut Steps<L>,
 ) -> Result<u128>
-    requires idle { repo.old.readied ≡ None }
-    ensures idle { repo.new.readied ≡ None }
+    requires idle { repo.old.prepared ≡ None }
+    ensures idle { repo.new.prepared ≡ None }
 {
     let start = Instant::now(rt)?;
     commit_all(repo, requests, steps)?;
@@ -68,8 +68,8 @@ fn time_step<R: Clock + AllocGlobal, L: Ledger>(
     run: u32,
     steps: &mut Steps<L>,
 ) -> Result<u128>
-    requires idle { repo.old.readied ≡ None }
-    ensures idle { repo.new.readied ≡ None }
+    requires idle { repo.old.prepared ≡ None }
+    ensures idle { repo.new.prepared ≡ None }
 {
     let requests = requests(rt.alloc(), kind, step, run)?;
     let took = time_all(rt, repo, requests, steps)?;
@@ -85,8 +85,8 @@ fn time_run<R: Clock + AllocGlobal, L: Ledger>(
     run: u32,
     steps: &mut Steps<L>,
 ) -> Result<Figures>
-    requires idle { repo.old.readied ≡ None }
-    ensures idle { repo.new.readied ≡ None }
+    requires idle { repo.old.prepared ≡ None }
+    ensures idle { repo.new.prepared ≡ None }
 {
     let mut figures = crate::figures::none();
     match kind {
@@ -114,8 +114,8 @@ pub(crate) fn time_runs<R: Clock + AllocGlobal, L: Ledger>(
     kind: Kind,
     steps: &mut Steps<L>,
 ) -> Result<Figures>
-    requires idle { repo.old.readied ≡ None }
-    ensures idle { repo.new.readied ≡ None }
+    requires idle { repo.old.prepared ≡ None }
+    ensures idle { repo.new.prepared ≡ None }
 {
     let mut least = time_run(rt, repo, kind, 0, steps)?;
     for run in 1..RUNS {

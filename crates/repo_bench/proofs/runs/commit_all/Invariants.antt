@@ -5,4 +5,4 @@ abbrev pub invariant-loop-request : goal.invariant-loop-request
 invariant-loop-request g l =
     (goal.iterator-loop-request g).can_next l.request-iterator ×
     (goal.iterator-loop-request g).is_finite l.request-iterator ×
-    (l.repo.readied ≡ None)
+    (l.repo.prepared ≡ None)

@@ -18,7 +18,7 @@ hold_prefixes-requires-clause-once g c =
 
 pub hold_prefixes-requires-clause-apart : goal.hold_prefixes-requires-clause-apart
 hold_prefixes-requires-clause-apart g c =
-    may_give_up c.as_slice.result.now c.as_slice-2.result.now c.args.policy.now.key c.args.self.now c.reserve_policy.new.self c.refer.new.self c.requires.settled
+    may_give_up c.as_slice.result.now c.as_slice-2.result.now c.args.policy.now.key c.args.self.now c.reserve_policy.new.self c.refer.new.self c.requires.stands
     c.reserve_policy.ensures.same c.refer.ensures.same (c.as_slice-2.ensures ∙ c.in_ok-new.ensures.given_up)
 
 pub returns-in-Ok-clause-readied : goal.returns-in-Ok-clause-readied

@@ -30,9 +30,9 @@ returns-in-Named-clause-selectors c = loses_none c.args.self.now.cache c.release
 
 pub take_back_policy-requires : goal.take_back_policy-requires
 take_back_policy-requires c = record {
-  referred = policy_may_give_back c.in-Policy.new c.in-Policy.field-1 c.in-Policy.taken c.in-Policy.field-3 c.args.self.now c.args.readied c.in-Policy.is c.requires.ready;
+  referred = policy_may_give_back c.in-Policy.stamped c.in-Policy.key c.in-Policy.taken c.in-Policy.given_up c.args.self.now c.args.readied c.in-Policy.is c.requires.ready;
 }
 
 pub returns-in-Policy-clause-back : goal.returns-in-Policy-clause-back
 returns-in-Policy-clause-back c =
-    policy_back c.in-Policy.new c.in-Policy.field-1 c.in-Policy.taken c.in-Policy.field-3 c.args.self.now c.take_back_policy.new.self c.args.readied c.in-Policy.is c.take_back_policy.ensures.back
+    policy_back c.in-Policy.stamped c.in-Policy.key c.in-Policy.taken c.in-Policy.given_up c.args.self.now c.take_back_policy.new.self c.args.readied c.in-Policy.is c.take_back_policy.ensures.back
