@@ -3,7 +3,7 @@ ghost use Rattle.std.specs.Prelude.{◌≡◌, Some, IsSome, IsNone};
 ghost use Rattle.std.specs.Borrow.{Lends, sem};
 ghost use Rattle.pol_arena.specs.Slots.{value_of};
 
-use std::mem;
+use std::mem::{replace, size_of};
 
 /// The value of a node, or where the node is free the one that was taken before it. So a slot takes the bytes of its
 /// value and a tag, and the free nodes need no room of their own.
@@ -12,6 +12,9 @@ pub(crate) enum Slot<T> {
     Used(T),
     Free(u32),
 }
+
+// A value of 12 bytes takes 16.
+const _: () = prove!(size_of::<Slot<[u32; 3]>>() == 16);
 
 impl<T> Slot<T> {
     ghost use Rattle.pol_arena.specs.contracts.slot.Slot.{the_row};
@@ -45,7 +48,7 @@ impl<T> Slot<T> {
         ensures next { self.old ≡ Slot.Free result }
         ensures slot { self.new ≡ Slot.Used value }
     {
-        match mem::replace(self, Slot::Used(value)) {
+        match replace(self, Slot::Used(value)) {
             Slot::Free(next) => next,
             Slot::Used(_) => unreachable!(),
         }
@@ -57,7 +60,7 @@ impl<T> Slot<T> {
         ensures value { self.old ≡ Slot.Used result }
         ensures slot { self.new ≡ Slot.Free next }
     {
-        match mem::replace(self, Slot::Free(next)) {
+        match replace(self, Slot::Free(next)) {
             Slot::Used(value) => value,
             Slot::Free(_) => unreachable!(),
         }
