@@ -1,8 +1,8 @@
 -- What a change of a pool's slots does to what a contract sees.
-use Rattle.std.proofs.Common.{◌≡◌, ◌≢◌, ℕ, zero, suc, ◌+◌, ◌-◌, ◌^◌, ◌<◌, ◌≤◌, Bool, true, false, List, [], ◌∷◌, ◌++◌, map, length, get_or, set, None, IsSome, cond, count_by, refl, sym, ap, ◌∙◌, inl, inr, arith, eqb}
+use Rattle.std.proofs.Common.{◌≡◌, ◌≢◌, ℕ, zero, suc, ◌+◌, ◌-◌, ◌^◌, ◌<◌, ◌≤◌, Bool, true, false, List, ◌∷◌, map, length, get_or, set, None, IsSome, cond, count_by, refl, sym, ap, ◌∙◌, inl, inr, arith, eqb}
 use Rattle.std.proofs.lemmas.Bool.{eq-eqb}
 use Rattle.std.proofs.lemmas.Bool.Decides.{eqb_tells}
-use Rattle.std.proofs.lemmas.List.{get_or-set_same, get_or-set_other, get_or_default, length-map, map_push, map-set}
+use Rattle.std.proofs.lemmas.List.{get_or-set_same, get_or-set_other, get_or_default, length-map, map-set}
 use Rattle.std.proofs.lemmas.List.Sums.{sum_by-cons}
 use Rattle.std.proofs.Math.ListN.{get_or-map}
 use Rattle.pol_arena.specs.Pool.{IsInUse, nodes_in_use, next_node, after_put, after_take, with_value, IsSound, Updates}
@@ -52,10 +52,6 @@ module _ {T : Type 0} where
             rw (get_or-set_other slots at first slot (Free 0) (λ e. differs.1 (sym e)))
             (ap (λ rest. first ∷ rest) (free_from-set count (named_by (slot_at slots first)) slots at slot (omega (arith, rw differs.0 at counted))))
       ]
-
-  -- a new slot at the end, where no node is free
-  pub put_new : (slots : List (Slot T)) (first spare : ℕ) (value : T) → pool_of (slots ++ Used value ∷ []) first 0 (spare - 1) ≡ after_put (pool_of slots first 0 spare) value
-  put_new slots first spare value = ap (λ vs. record { slots = vs; free = []; spare = spare - 1 }) (map_push value_of slots (Used value))
 
   -- the first free node gets a value, and the one that its slot named is the first
   pub put_again : (slots : List (Slot T)) (first free spare next : ℕ) (value : T) → IsSound (pool_of slots first free spare) → free ≢ 0 → slot_at slots first ≡ Free next → pool_of (set slots first (Used value)) next (free - 1) (spare - 1) ≡ after_put (pool_of slots first free spare) value

@@ -21,7 +21,7 @@ module _ {T : Type 0} where
   free_from (suc count) first slots =
       first ∷ free_from count (named_by (slice_index_or slots first (Free 0))) slots
 
-  -- what a contract sees of these slots, so many free nodes from the first on, and the spare ones
+  -- what a contract sees of these slots, where so many nodes are free, from the first on, and of the spare ones
   abbrev pub pool_of : List (Slot T) → ℕ → ℕ → ℕ → Pool T
   pool_of slots first free spare =
       record { slots = map value_of slots; free = free_from free first slots; spare = spare }
