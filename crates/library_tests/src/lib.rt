@@ -13,6 +13,8 @@ mod data;
 #[cfg(test)]
 mod held_prefixes;
 #[cfg(test)]
+mod hints;
+#[cfg(test)]
 mod labels;
 #[cfg(test)]
 mod policies;

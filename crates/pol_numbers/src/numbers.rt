@@ -67,6 +67,13 @@ impl Numbers {
         self.prefixes.find(address)
     }
 
+    /// The selectors with their sets, and the changes of these. It takes no memory.
+    pub fn selectors(&self) -> &SelectorCache
+        ensures cache { result.now ≡ self.now.cache }
+    {
+        &self.selectors
+    }
+
     /// The revision of the newest change of a set that was dropped, 0 if none was.
     pub fn horizon(&self) -> u64
         ensures horizon { result ≡ self.now.cache.log.horizon }

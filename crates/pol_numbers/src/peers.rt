@@ -2,6 +2,7 @@
 ghost use Rattle.std.specs.Prelude.{◌≡◌, ◌+◌, ◌≤◌, List, [], OnOk, OnErr, length};
 ghost use Rattle.pol_model.specs.declared.row.IdentityRow.{IdentityRow as OneRow};
 ghost use Rattle.pol_selcache.specs.Live.{AreExact};
+ghost use Rattle.pol_peers.specs.Numbering.{TakesFreshNumbers};
 ghost use Rattle.pol_peers.specs.Listed.{listed_peers};
 ghost use Rattle.pol_peers.specs.References.{HasRefs, IsMoreBy, KeepsNumbers, steps_to_hold};
 ghost use Rattle.pol_numbers.specs.Held.{RefersTo};
@@ -22,6 +23,7 @@ impl Numbers {
         ensures err { OnErr result (RefersTo [] self.old.rows self.old.cache self.new.cache) }
         ensures kept { KeepsNumbers self.old.cache.live self.new.cache.live }
         ensures log { self.new.cache.log ≡ self.old.cache.log }
+        ensures fresh { TakesFreshNumbers self.old.cache self.new.cache }
         ensures cost { steps.new ≤ steps.old + steps_to_hold (listed_peers policy.now) (length self.old.rows) }
     {
         hold_peers(
@@ -42,6 +44,7 @@ impl Numbers {
         ensures kept { KeepsNumbers self.new.cache.live self.old.cache.live }
         ensures exact { (rows : List OneRow) → AreExact rows self.old.cache.live → AreExact rows self.new.cache.live }
         ensures log { self.new.cache.log ≡ self.old.cache.log }
+        ensures next { self.new.cache.next ≡ self.old.cache.next }
     {
         let _ = &self.identities;
         drop_peers(&mut self.selectors, policy);

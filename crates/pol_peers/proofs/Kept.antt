@@ -31,7 +31,7 @@ module _ (number : ℕ) (change : Live → Live) (keeps_peer : (s : Live) → (c
       by true = keeps_number s
       by false = refl
 
-  numbers_changed : (q : Peer) (live : List Live) → number_of q (map (where_number number change) live) ≡ number_of q live
+  pub numbers_changed : (q : Peer) (live : List Live) → number_of q (map (where_number number change) live) ≡ number_of q live
   numbers_changed q live = ap (option_map (λ s. s.number)) (found_changed number change keeps_peer q live) ∙ number_kept (find (is_of q) live)
 
 -- ---- those that are left

@@ -4,3 +4,5 @@ pub mod Holds
 pub mod Sections
 pub mod Kept
 pub mod Costs
+pub mod Numbering
+pub mod Equality

@@ -17,6 +17,7 @@ pub(crate) fn drop_peer(cache: &mut SelectorCache, peer: &Peer)
     ensures kept { KeepsNumbers cache.new.live cache.old.live }
     ensures exact { (rows : List OneRow) → AreExact rows cache.old.live → AreExact rows cache.new.live }
     ensures log { cache.new.log ≡ cache.old.log }
+    ensures next { cache.new.next ≡ cache.old.next }
     ensures sound { IsSound cache.new }
 {
     match cache.selector_of(peer) {
@@ -31,6 +32,7 @@ fn drop_list(cache: &mut SelectorCache, peers: &[Peer])
     ensures kept { KeepsNumbers cache.new.live cache.old.live }
     ensures exact { (rows : List OneRow) → AreExact rows cache.old.live → AreExact rows cache.new.live }
     ensures log { cache.new.log ≡ cache.old.log }
+    ensures next { cache.new.next ≡ cache.old.next }
 {
     for peer in peers {
         drop_peer(cache, peer);
@@ -43,6 +45,7 @@ fn drop_entry(cache: &mut SelectorCache, entry: &Entry)
     ensures kept { KeepsNumbers cache.new.live cache.old.live }
     ensures exact { (rows : List OneRow) → AreExact rows cache.old.live → AreExact rows cache.new.live }
     ensures log { cache.new.log ≡ cache.old.log }
+    ensures next { cache.new.next ≡ cache.old.next }
 {
     match &entry.peers {
         Peers::Every => (),
@@ -56,6 +59,7 @@ fn drop_section(cache: &mut SelectorCache, entries: &[Entry])
     ensures kept { KeepsNumbers cache.new.live cache.old.live }
     ensures exact { (rows : List OneRow) → AreExact rows cache.old.live → AreExact rows cache.new.live }
     ensures log { cache.new.log ≡ cache.old.log }
+    ensures next { cache.new.next ≡ cache.old.next }
 {
     for entry in entries {
         drop_entry(cache, entry);
@@ -68,6 +72,7 @@ fn drop_rule(cache: &mut SelectorCache, rule: &Rule)
     ensures kept { KeepsNumbers cache.new.live cache.old.live }
     ensures exact { (rows : List OneRow) → AreExact rows cache.old.live → AreExact rows cache.new.live }
     ensures log { cache.new.log ≡ cache.old.log }
+    ensures next { cache.new.next ≡ cache.old.next }
 {
     drop_section(cache, rule.ingress.as_slice());
     drop_section(cache, rule.ingress_deny.as_slice());
@@ -81,6 +86,7 @@ fn drop_rules(cache: &mut SelectorCache, rules: &[Rule])
     ensures kept { KeepsNumbers cache.new.live cache.old.live }
     ensures exact { (rows : List OneRow) → AreExact rows cache.old.live → AreExact rows cache.new.live }
     ensures log { cache.new.log ≡ cache.old.log }
+    ensures next { cache.new.next ≡ cache.old.next }
 {
     for rule in rules {
         drop_rule(cache, rule);
@@ -88,13 +94,14 @@ fn drop_rules(cache: &mut SelectorCache, rules: &[Rule])
 }
 
 /// Takes one reference back for each peer that the policy lists; a selector goes with its last one. The others
-/// keep their numbers and their sets. It takes no memory.
+/// keep their numbers and their sets, and no number is used again. It takes no memory.
 pub fn drop_peers(cache: &mut SelectorCache, policy: &Policy)
     requires held { HasRefs (listed_peers policy.now) cache.old.live }
     ensures dropped { IsMoreBy (listed_peers policy.now) cache.new.live cache.old.live }
     ensures kept { KeepsNumbers cache.new.live cache.old.live }
     ensures exact { (rows : List OneRow) → AreExact rows cache.old.live → AreExact rows cache.new.live }
     ensures log { cache.new.log ≡ cache.old.log }
+    ensures next { cache.new.next ≡ cache.old.next }
 {
     drop_rules(cache, policy.rules.as_slice());
 }

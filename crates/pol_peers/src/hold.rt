@@ -4,6 +4,7 @@ ghost use Rattle.pol_model.specs.declared.row.IdentityRow.{IdentityRow as OneRow
 ghost use Rattle.pol_selcache.specs.Cache.{IsSound};
 ghost use Rattle.pol_selcache.specs.Held.{steps_of};
 ghost use Rattle.pol_selcache.specs.Live.{AreExact};
+ghost use Rattle.pol_peers.specs.Numbering.{TakesFreshNumbers};
 ghost use Rattle.pol_peers.specs.Listed.{listed_peers};
 ghost use Rattle.pol_peers.specs.References.{HasRefs, IsMoreBy, KeepsNumbers, steps_to_hold};
 
@@ -29,6 +30,7 @@ fn hold_peer<L: Ledger>(
     ensures kept { KeepsNumbers cache.old.live cache.new.live }
     ensures exact { AreExact identities.now cache.new.live }
     ensures log { cache.new.log ≡ cache.old.log }
+    ensures fresh { TakesFreshNumbers cache.old cache.new }
     ensures cost { steps.new ≤ steps.old + steps_of peer.now * length identities.now }
 {
     // The call tells that the selectors fit together.
@@ -44,6 +46,7 @@ fn drop_each(cache: &mut SelectorCache, peers: &[&Peer])
     ensures kept { KeepsNumbers cache.new.live cache.old.live }
     ensures exact { (rows : List OneRow) → AreExact rows cache.old.live → AreExact rows cache.new.live }
     ensures log { cache.new.log ≡ cache.old.log }
+    ensures next { cache.new.next ≡ cache.old.next }
 {
     for peer in peers {
         drop_peer(cache, peer);
@@ -64,6 +67,7 @@ fn hold_each<L: Ledger>(
     ensures kept { KeepsNumbers cache.old.live cache.new.live }
     ensures exact { AreExact identities.now cache.new.live }
     ensures log { cache.new.log ≡ cache.old.log }
+    ensures fresh { TakesFreshNumbers cache.old cache.new }
     ensures cost { steps.new ≤ steps.old + steps_to_hold (map (λ p. p.now) peers.now) (length identities.now) }
 {
     for (i, peer) in peers.iter().enumerate() {
@@ -79,7 +83,7 @@ fn hold_each<L: Ledger>(
 }
 
 /// Adds one reference for each peer that the policy lists, in document order. A new selector has the held numbers that its
-/// peer selects as its set; the others keep their numbers and their sets.
+/// peer selects as its set, and a number that none had before; the others keep their numbers and their sets.
 ///
 /// `Memory` is want of memory, or that no number or no count of 64 bits is left ('profile'). After an error each peer has
 /// as many references as before, and the selector that it had.
@@ -96,6 +100,7 @@ pub fn hold_peers<L: Ledger>(
     ensures kept { KeepsNumbers cache.old.live cache.new.live }
     ensures exact { AreExact identities.now cache.new.live }
     ensures log { cache.new.log ≡ cache.old.log }
+    ensures fresh { TakesFreshNumbers cache.old cache.new }
     ensures cost { steps.new ≤ steps.old + steps_to_hold (listed_peers policy.now) (length identities.now) }
 {
     // The call tells that the selectors fit together.

@@ -22,6 +22,3 @@ pub use pass::HintPass;
 pub use standing::{Share, Standing};
 pub use turn::Turn;
 pub use worker::work;
-
-#[cfg(test)]
-mod tests;

@@ -1,8 +1,7 @@
 -- What the parts of a repository tell of its state, and of the request that is prepared.
-use Rattle.std.proofs.Common.{◌≡◌, ℕ, ◌+◌, ◌==◌, ◌-◌, ◌<◌, ◌^◌, ◌++◌, ◌&&◌, not, true, List, [], ◌∷◌, find, length, map, IsSome, Option, None, Some, option_map, refl, sym, ap, ◌∙◌, subst, arith}
-use Rattle.std.specs.Prelude.{Result, Ok, Err, ◌≤◌}
+use Rattle.std.proofs.Common.{◌≡◌, ℕ, ◌==◌, ◌-◌, ◌<◌, ◌^◌, ◌++◌, ◌&&◌, not, List, [], ◌∷◌, length, IsSome, Option, None, Some, option_map, refl, sym, ap, ◌∙◌, subst, arith}
+use Rattle.std.specs.Prelude.{Ok, Err, ◌≤◌}
 use Rattle.std.specs.Option.{option_map_or}
-use Rattle.std.specs.List.{list_any}
 use Rattle.pol_labels.specs.declared.label.Label.{Label}
 use Rattle.pol_model.specs.declared.options.Options.{Options}
 use Rattle.pol_model.specs.declared.request.Request.{Request}
@@ -22,9 +21,9 @@ use Rattle.pol_model.specs.Identities.{free_number, is_local, labels_held, numbe
 use Rattle.pol_model.specs.State.{State}
 use Rattle.pol_model.proofs.AscendingStates.{RowsAscend}
 use Rattle.pol_model.proofs.Histories.{state_of-revision}
-use Rattle.pol_facts.specs.Holding.{has_row, row_of, rows_taken}
+use Rattle.pol_facts.specs.Holding.{rows_taken}
 use Rattle.pol_facts.specs.Keeps.{Keeps}
-use Rattle.pol_facts.specs.WithoutFaults.{MayCommit, WithoutFaults}
+use Rattle.pol_facts.specs.WithoutFaults.{MayCommit}
 use Rattle.pol_facts.proofs.HoldingLaws.{held_has, labels_row_is}
 use Rattle.pol_facts.proofs.KeepsAll.{state_keeps}
 use Rattle.pol_facts.proofs.Lives.{after_append}
@@ -34,13 +33,13 @@ use Rattle.pol_store.specs.declared.readied.Readied.{Readied}
 use Rattle.pol_store.specs.declared.error.ReadyError.{ReadyError}
 use Rattle.pol_store.specs.declared.error.ReadyError.TheVariants.{Fault as WithFault}
 use Rattle.pol_store.specs.Readied.{CanBeDone, IsCause as ReadyCause, IsReadied, ReadiesOrNot, TakesBack, change_for}
-use Rattle.pol_store.specs.Store.{IsSettled, StandsFor, Stored}
+use Rattle.pol_store.specs.Store.{StandsFor, StandsForSome, Stored}
 use Rattle.pol_selcache.specs.Live.{AreLive, label_selectors}
 use Rattle.pol_repo.specs.Causes.{IsCause}
 use Rattle.pol_repo.specs.Cost.{label_peers}
-use Rattle.pol_repo.specs.Inside.{IsIn, IsPrepared, IsSound, labels_of, request_of, seen_as}
+use Rattle.pol_repo.specs.Inside.{IsPrepared, IsSound, labels_of, request_of, seen_as}
 use Rattle.pol_repo.specs.Repository.{Repository, state_in}
-use Rattle.pol_repo.proofs.LabelPeers.{selectors_few}
+use Rattle.pol_repo.proofs.LabelPeers.{selectors_are_peers}
 
 -- ---- the request that is readied is told by its change and the rows
 labels_told : (labels : List Label) (rows : List IdentityRow) → RowsAscend rows → labels_of (number_for labels rows) (labels_held labels rows) ≡ labels
@@ -95,9 +94,9 @@ module _ (options : Options) (journal : List Request) (len capacity : ℕ) (stor
   revision_is = revision_of options journal len capacity stored readied sound ∙ ap (λ (s : State). s.revision) present
 
   -- with nothing readied the store stands for the present state
-  module _ (idle : self.readied ≡ None) where
+  module _ (idle : self.prepared ≡ None) where
     pub none_readied : readied ≡ None
-    none_readied = no_readied _ readied (ap (λ (r : Repository). r.readied) seen ∙ idle)
+    none_readied = no_readied _ readied (ap (λ (r : Repository). r.prepared) seen ∙ idle)
 
     stands_now : StandsFor (state_of options journal) stored
     stands_now = let idly : IsSound options journal len capacity stored None = subst (λ (o : Option Readied). IsSound options journal len capacity stored o) none_readied sound in idly.inside
@@ -105,8 +104,8 @@ module _ (options : Options) (journal : List Request) (len capacity : ℕ) (stor
     pub stands : StandsFor (state_in self) stored
     stands = subst (λ (s : State). StandsFor s stored) present stands_now
 
-    pub settled : IsSettled stored
-    settled = record { state = state_of options journal; keeps = keeps_now; stands = stands_now }
+    pub stands_for_some : StandsForSome stored
+    stands_for_some = record { state = state_of options journal; keeps = keeps_now; stands = stands_now }
 
     -- ---- a request is prepared
     module _ (request : Request) (journal' : List Request) (stored' : Stored) (same : journal' ≡ journal) where
@@ -120,11 +119,11 @@ module _ (options : Options) (journal : List Request) (len capacity : ℕ) (stor
           (record { without_faults = sound.without_faults; inside = record { request = request; is_readied = ready_ok readied' readies; not_last = subst (λ (n : ℕ). n < 2 ^ 64 - 1) (revision_of options journal len capacity stored readied sound) not_last; room = room } })
 
       pub prepared_seen : (readied' : Readied) → ReadiesOrNot request stored stored' (Ok readied')
-          → seen_as options journal' stored' (Some readied') ≡ record self { readied = Some request }
+          → seen_as options journal' stored' (Some readied') ≡ record self { prepared = Some request }
       prepared_seen readied' readies =
           let is = request_is (state_of options journal) keeps_now request stored' readied' (ready_ok readied' readies) in
-          let with : Repository → Repository = λ r. record r { readied = Some request } in
-          (λ i. record { options = options; journal = same i; readied = Some (is i) }) ∙ ap with seen
+          let with : Repository → Repository = λ r. record r { prepared = Some request } in
+          (λ i. record { options = options; journal = same i; prepared = Some (is i) }) ∙ ap with seen
 
       pub prepared_no_fault : (readied' : Readied) → ReadiesOrNot request stored stored' (Ok readied') → fault_of (state_in self) request ≡ None
       prepared_no_fault readied' readies = subst (λ (s : State). fault_of s request ≡ None) present (ready_ok readied' readies).may.no_fault
@@ -144,7 +143,7 @@ module _ (options : Options) (journal : List Request) (len capacity : ℕ) (stor
 
       pub refused_seen : seen_as options journal' stored' readied ≡ self
       refused_seen = subst (λ (o : Option Readied). seen_as options journal stored o ≡ self → seen_as options journal' stored' o ≡ self) (sym none_readied)
-          (λ was. (λ i. record { options = options; journal = same i; readied = None }) ∙ was) seen
+          (λ was. (λ i. record { options = options; journal = same i; prepared = None }) ∙ was) seen
 
       pub prepared_rises : (readied' : Readied) → stored.state.revision < 2 ^ 64 - 1 → ReadiesOrNot request stored stored' (Ok readied') → stored'.state.revision < 2 ^ 64 - 1
       prepared_rises readied' not_last readies =
@@ -160,12 +159,12 @@ module _ (options : Options) (journal : List Request) (len capacity : ℕ) (stor
 
     -- ---- what it takes
     pub few_steps : AreLive stored.cache.live → label_selectors stored.cache.live ≤ label_peers (state_in self).policies
-    few_steps are = selectors_few (state_in self).policies stored.cache.live stands.refs are
+    few_steps are = omega (arith, selectors_are_peers (state_in self).policies stored.cache.live stands.refs are)
 
   -- ---- the request that is prepared is done, or given up
-  module _ (request : Request) (is_prepared : self.readied ≡ Some request) where
+  module _ (request : Request) (is_prepared : self.prepared ≡ Some request) where
     given : (one : Readied) × (readied ≡ Some one) × (request_of stored.state.identities one.change ≡ request)
-    given = some_readied _ readied request (ap (λ (r : Repository). r.readied) seen ∙ is_prepared)
+    given = some_readied _ readied request (ap (λ (r : Repository). r.prepared) seen ∙ is_prepared)
 
     pub there_is : IsSome readied
     there_is = subst (λ (o : Option Readied). IsSome o) (sym given.1) refl
@@ -186,7 +185,7 @@ module _ (options : Options) (journal : List Request) (len capacity : ℕ) (stor
       is_it : prepared_now.request ≡ request
       is_it =
           sym (request_is (state_of options journal) keeps_now prepared_now.request stored one prepared_now.is_readied)
-          ∙ some_of (subst (λ (o : Option Readied). option_map (λ r. request_of stored.state.identities r.change) o ≡ Some request) is (ap (λ (r : Repository). r.readied) seen ∙ is_prepared))
+          ∙ some_of (subst (λ (o : Option Readied). option_map (λ r. request_of stored.state.identities r.change) o ≡ Some request) is (ap (λ (r : Repository). r.prepared) seen ∙ is_prepared))
         where
           some_of : {X : Type 0} {x y : X} → Some x ≡ Some y → x ≡ y
           some_of e = cc
@@ -206,9 +205,9 @@ module _ (options : Options) (journal : List Request) (len capacity : ℕ) (stor
           }))
 
       pub accepted_seen : (journal' : List Request) (stored' : Stored) (left : Option Readied) → journal' ≡ journal ++ request ∷ [] → left ≡ None
-          → seen_as options journal' stored' left ≡ record self { journal = self.journal ++ request ∷ []; readied = None }
+          → seen_as options journal' stored' left ≡ record self { journal = self.journal ++ request ∷ []; prepared = None }
       accepted_seen journal' stored' left longer none =
-          let with : Repository → Repository = λ r. record r { journal = r.journal ++ request ∷ []; readied = None } in
+          let with : Repository → Repository = λ r. record r { journal = r.journal ++ request ∷ []; prepared = None } in
           (λ i. seen_as options (longer i) stored' (none i)) ∙ ap with seen
 
       pub withdrawn : (stored' : Stored) (left : Option Readied) → left ≡ None → TakesBack stored one stored' → IsSound options journal len capacity stored' left
@@ -221,7 +220,7 @@ module _ (options : Options) (journal : List Request) (len capacity : ℕ) (stor
 
 -- ---- what a commit is, from what it was prepared for
 pub commits : (old new : Repository) (request : Request) (done : Committed) → MayCommit (state_in old) request → done ≡ committed_of (after (state_in old) request) request
-    → new ≡ record old { journal = old.journal ++ request ∷ []; readied = None } → Commits (state_in old) (state_in new) request done
+    → new ≡ record old { journal = old.journal ++ request ∷ []; prepared = None } → Commits (state_in old) (state_in new) request done
 commits old new request done may answer is =
     let state : state_in new ≡ after (state_in old) request = ap state_in is ∙ after_append (start old.options) old.journal (request ∷ []) in
     record {

@@ -36,7 +36,7 @@ abbrev pub seen_as : Options → List Request → Stored → Option Readied → 
 seen_as options journal stored readied = record {
   options = options;
   journal = journal;
-  readied = option_map (λ readied. request_of stored.state.identities readied.change) readied;
+  prepared = option_map (λ readied. request_of stored.state.identities readied.change) readied;
 }
 
 -- Some request is readied in the state, whose revision isn't the last one, and the journal, with so many requests and room

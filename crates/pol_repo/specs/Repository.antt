@@ -9,7 +9,7 @@ use Rattle.pol_model.specs.State.{State}
 pub record Repository : Type 0 where
   pub options : Options
   pub journal : List Request
-  pub readied : Option Request
+  pub prepared : Option Request
 
 -- the present state: the one after the requests so far
 abbrev pub state_in : Repository → State

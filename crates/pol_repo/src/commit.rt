@@ -18,13 +18,13 @@ use std::sync::ledger::Ledger;
 impl Repo {
     /// Does the request that was prepared last, and answers it. It takes no memory.
     pub fn accept(&mut self, ready: Ready) -> Committed
-        requires request { self.old.readied ≡ Some ready.request }
+        requires request { self.old.prepared ≡ Some ready.request }
         requires done { ready.done ≡ committed_of (after (state_in self.old) ready.request) ready.request }
         ensures committed { Commits (state_in self.old) (state_in self.new) ready.request result }
-        ensures new { self.new ≡ record self.old { journal = self.old.journal ++ ready.request ∷ []; readied = None } }
+        ensures new { self.new ≡ record self.old { journal = self.old.journal ++ ready.request ∷ []; prepared = None } }
     {
         let Ready { request, done } = ready;
-        let readied = self.readied.take().unwrap();
+        let readied = self.prepared.take().unwrap();
         self.store.carry_out(readied);
         self.journal.push(request).unwrap();
         done
@@ -32,10 +32,10 @@ impl Repo {
 
     /// Gives up the request that was prepared last. It takes no memory.
     pub fn withdraw(&mut self, ready: Ready)
-        requires request { self.old.readied ≡ Some ready.request }
-        ensures new { self.new ≡ record self.old { readied = None } }
+        requires request { self.old.prepared ≡ Some ready.request }
+        ensures new { self.new ≡ record self.old { prepared = None } }
     {
-        let readied = self.readied.take().unwrap();
+        let readied = self.prepared.take().unwrap();
         self.store.take_back(readied);
     }
 
@@ -46,7 +46,7 @@ impl Repo {
         request: Request,
         steps: &mut Steps<L>,
     ) -> Result<Committed, CommitError>
-        requires idle { self.old.readied ≡ None }
+        requires idle { self.old.prepared ≡ None }
         requires short { IsShort request }
         ensures committed { IfOk result (λ done. Commits (state_in self.old) (state_in self.new) request done) }
         ensures new { OnOk result (self.new ≡ record self.old { journal = self.old.journal ++ request ∷ [] }) }

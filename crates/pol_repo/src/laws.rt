@@ -1,14 +1,18 @@
-//! Laws of addresses, each the contract of a function that does nothing.
-ghost use Rattle.std.specs.Prelude.{◌≡◌, ℕ, List, Some};
+//! Laws, each the contract of a function that does nothing.
+ghost use Rattle.std.specs.Prelude.{◌≡◌, ◌∷◌, ℕ, List, [], Some, codes, false, true};
 ghost use Rattle.pol_addr.specs.Address.{IsAddr};
 ghost use Rattle.pol_addr.specs.declared.address.Addr.{Addr};
 ghost use Rattle.pol_ports.specs.declared.Direction.{Direction};
 ghost use Rattle.pol_ports.specs.declared.Proto.{Proto};
+ghost use Rattle.pol_rule.specs.declared.policy.Peer.TheVariants.{Cidr};
+ghost use Rattle.pol_rule.specs.declared.policy.Peers.TheVariants.{Listed};
 ghost use Rattle.pol_model.specs.declared.answer.Trace.{Trace};
+ghost use Rattle.pol_model.specs.declared.options.Mode.TheVariants.{Always};
 ghost use Rattle.pol_model.specs.declared.options.Options.{Options};
 ghost use Rattle.pol_model.specs.declared.request.Query.{Query};
 ghost use Rattle.pol_model.specs.declared.request.Remote.TheVariants.{Address};
 ghost use Rattle.pol_model.specs.declared.request.Request.{Request};
+ghost use Rattle.pol_model.specs.declared.request.Request.TheVariants.{AddIdentity, Apply, Remove, RemoveEndpoint, RemoveIdentity, SetMode};
 ghost use Rattle.pol_model.specs.declared.row.Endpoint.{Endpoint};
 ghost use Rattle.pol_model.specs.After.{state_of};
 ghost use Rattle.pol_model.specs.Endpoints.{endpoint_of};
@@ -16,8 +20,12 @@ ghost use Rattle.pol_model.specs.Explain.{explain_of};
 ghost use Rattle.pol_model.specs.Remote.{number_at, verdict_at_address};
 ghost use Rattle.pol_model.specs.State.{State};
 ghost use Rattle.pol_model.specs.Verdict.{verdict_of};
+ghost use Rattle.pol_facts.specs.Examples.{app, net};
 ghost use Rattle.pol_facts.specs.Keeps.{Keeps};
 ghost use Rattle.pol_facts.specs.WithoutFaults.{WithoutFaults};
+ghost use Rattle.pol_facts.specs.WorkedMaps.{all_let_in, app_peer, ingress_policy, key_of, ordinary, web, x_denied};
+ghost use Rattle.pol_store.specs.Readied.{is_of_policy};
+ghost use Rattle.pol_repo.specs.Cost.{label_peers};
 
 /// The law of addresses: the verdict at an address, judged by the endpoint that has it or else by the address itself, is
 /// the verdict at the identity number that the address has. It holds wherever a state keeps what each state keeps, and
@@ -33,4 +41,15 @@ pub fn law_of_addresses()
     ensures explained { (options : Options) (s : State) (query : Query) (address : Addr) (endpoint : Endpoint) (trace : Trace)
         → Keeps s → IsAddr address → query.remote ≡ Address address → endpoint_of query.endpoint s.endpoints ≡ Some endpoint → explain_of options s query ≡ Some trace
         → trace.word ≡ verdict_at_address options s endpoint query.dir address query.proto query.port }
+{}
+
+/// Peers of labels are counted once each, whether one policy lists them again or another does; prefixes and entities
+/// aren't counted. Only the requests that apply or remove a policy are of one. Each case is computed.
+pub fn label_peers_are_counted_once()
+    ensures again { label_peers (record { policy = ingress_policy (codes "p") (record { peers = Listed (app_peer (codes "x") ∷ app_peer (codes "y") ∷ app_peer (codes "x") ∷ Cidr (net 1) [] ∷ []); ports = [] } ∷ []) []; stamp = 1 } ∷ []) ≡ 2 }
+    ensures elsewhere { label_peers (state_of ordinary x_denied).policies ≡ 1 }
+    ensures entities { label_peers (state_of ordinary all_let_in).policies ≡ 0 }
+    ensures none { label_peers [] ≡ 0 }
+    ensures of_a_policy { (is_of_policy (Apply (ingress_policy (codes "p") [] [])) ≡ true) × (is_of_policy (Remove (key_of (codes "p"))) ≡ true) }
+    ensures of_none { (is_of_policy web ≡ false) × (is_of_policy (RemoveEndpoint (codes "web")) ≡ false) × (is_of_policy (AddIdentity (codes "x") (app (codes "x"))) ≡ false) × (is_of_policy (RemoveIdentity (codes "x")) ≡ false) × (is_of_policy (SetMode Always) ≡ false) }
 {}

@@ -15,7 +15,7 @@ use pol_model::{Endpoint, Mode, Stamped};
 impl Repo {
     /// The policies in force, in the order in which their keys came.
     pub fn policies(&self) -> &[Stamped]
-        requires idle { self.now.readied ≡ None }
+        requires idle { self.now.prepared ≡ None }
         ensures list { result.now ≡ (state_in self.now).policies }
         ensures short { AllByRecursion (λ stamped. IsShortPolicy stamped.policy) (state_in self.now).policies }
     {
@@ -24,7 +24,7 @@ impl Repo {
 
     /// The live endpoints, ascending by slot.
     pub fn endpoints(&self) -> &[Endpoint]
-        requires idle { self.now.readied ≡ None }
+        requires idle { self.now.prepared ≡ None }
         ensures list { result.now ≡ (state_in self.now).endpoints }
     {
         self.store.endpoints()
@@ -32,7 +32,7 @@ impl Repo {
 
     /// The identities that are held.
     pub fn identities(&self) -> &Identities
-        requires idle { self.now.readied ≡ None }
+        requires idle { self.now.prepared ≡ None }
         ensures rows { result.now ≡ (state_in self.now).identities }
     {
         self.store.identities()
@@ -40,7 +40,7 @@ impl Repo {
 
     /// The mode of enforcement (Cilium, Policy Enforcement Modes).
     pub fn mode(&self) -> Mode
-        requires idle { self.now.readied ≡ None }
+        requires idle { self.now.prepared ≡ None }
         ensures mode { result ≡ (state_in self.now).mode }
     {
         self.store.mode()
@@ -48,7 +48,7 @@ impl Repo {
 
     /// Whether the local host may always reach an endpoint (Cilium, `--allow-localhost`).
     pub fn localhost(&self) -> bool
-        requires idle { self.now.readied ≡ None }
+        requires idle { self.now.prepared ≡ None }
         ensures localhost { result ≡ self.now.options.localhost }
     {
         self.options.localhost
@@ -56,7 +56,7 @@ impl Repo {
 
     /// The live endpoint of that name.
     pub fn endpoint(&self, name: &str) -> Option<&Endpoint>
-        requires idle { self.now.readied ≡ None }
+        requires idle { self.now.prepared ≡ None }
         ensures found { option_copied result ≡ endpoint_of name.now (state_in self.now).endpoints }
     {
         self.store.endpoint(name)
@@ -65,7 +65,7 @@ impl Repo {
     /// The identity of an address: that of the endpoint that has it, else of the longest held prefix that contains it, else
     /// of the world (Cilium, Terminology, "Identity").
     pub fn remote(&self, addr: Addr) -> u32
-        requires idle { self.now.readied ≡ None }
+        requires idle { self.now.prepared ≡ None }
         ensures number { result ≡ number_at addr (state_in self.now).endpoints (state_in self.now).identities }
     {
         self.store.number_at(addr)

@@ -7,7 +7,7 @@ ghost use Rattle.pol_model.specs.Fault.{fault_of};
 ghost use Rattle.pol_model.specs.Sizes.{IsShort};
 ghost use Rattle.pol_selcache.specs.Live.{label_selectors};
 ghost use Rattle.pol_store.specs.Readied.{ReadiesOrNot, is_of_policy};
-ghost use Rattle.pol_store.specs.Store.{IsSettled};
+ghost use Rattle.pol_store.specs.Store.{StandsForSome};
 ghost use Rattle.pol_repo.specs.Causes.{IsCause};
 ghost use Rattle.pol_repo.specs.Cost.{label_peers};
 ghost use Rattle.pol_repo.specs.Repository.{state_in};
@@ -34,7 +34,7 @@ fn ready_in<L: Ledger>(
     request: &Request,
     steps: &mut Steps<L>,
 ) -> Result<Readied, ReadyError>
-    requires settled { IsSettled store.old }
+    requires stands { StandsForSome store.old }
     requires counts { store.old.state.revision ≡ length journal.old.items }
     requires short { IsShort request.now }
     ensures journal { journal.new.items ≡ journal.old.items }
@@ -71,12 +71,12 @@ impl Repo {
         request: Request,
         steps: &mut Steps<L>,
     ) -> Result<Ready, CommitError>
-        requires idle { self.old.readied ≡ None }
+        requires idle { self.old.prepared ≡ None }
         requires short { IsShort request }
         ensures request { IfOk result (λ ready. ready.request ≡ request) }
         ensures no_fault { OnOk result (fault_of (state_in self.old) request ≡ None) }
         ensures done { IfOk result (λ ready. ready.done ≡ committed_of (after (state_in self.old) request) request) }
-        ensures readied { OnOk result (self.new ≡ record self.old { readied = Some request }) }
+        ensures prepared { OnOk result (self.new ≡ record self.old { prepared = Some request }) }
         ensures cause { IfErr result (IsCause (state_in self.old) request) }
         ensures stays { OnErr result (self.new ≡ self.old) }
         // Only a policy may list peers that are new, which are judged by all identities.
@@ -87,7 +87,7 @@ impl Repo {
         match ready_in(&mut self.journal, &mut self.store, &request, steps) {
             Ok(readied) => {
                 let done = self.store.answer(&readied);
-                self.readied = Some(readied);
+                self.prepared = Some(readied);
                 Ok(Ready { request, done })
             }
             Err(ReadyError::Fault(fault)) => Err(refused(&self.store, fault)),

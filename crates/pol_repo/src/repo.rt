@@ -16,7 +16,7 @@ pub struct Repo {
     pub(crate) options: Options,
     pub(crate) journal: Vec<Request>,
     pub(crate) store: Store,
-    pub(crate) readied: Option<Readied>,
+    pub(crate) prepared: Option<Readied>,
 }
 
 impl Model for Repo {
@@ -28,9 +28,9 @@ impl Model for Repo {
     ghost use Rattle.std.specs.Vec.{vec_capacity};
     ghost use Rattle.pol_repo.specs.Inside.{IsSound, seen_as};
 
-    ghost view = { λ repo. seen_as repo.options repo.journal.items repo.store repo.readied };
+    ghost view = { λ repo. seen_as repo.options repo.journal.items repo.store repo.prepared };
 
-    ghost invariant = { λ repo. IsSound repo.options repo.journal.items (vec_len repo.journal) (vec_capacity repo.journal) repo.store repo.readied };
+    ghost invariant = { λ repo. IsSound repo.options repo.journal.items (vec_len repo.journal) (vec_capacity repo.journal) repo.store repo.prepared };
 }
 
 impl Repo {
@@ -40,7 +40,7 @@ impl Repo {
         ensures start { IfOk result (λ repo. repo ≡ record {
           options = record { mode = mode; localhost = localhost; map_max = None };
           journal = [];
-          readied = None;
+          prepared = None;
         }) }
     {
         let options = Options {
@@ -52,7 +52,7 @@ impl Repo {
             options,
             journal: Vec::new(alloc),
             store: Store::new(alloc, mode)?,
-            readied: None,
+            prepared: None,
         })
     }
 

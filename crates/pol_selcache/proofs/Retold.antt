@@ -40,7 +40,7 @@ kept_above horizon (c ∷ cs) zero d in_order at =
     omega arith
 kept_above horizon (c ∷ cs) (suc k) d in_order at = kept_above horizon cs k d in_order.1 at
 
-horizon_rises : (log : Log) (c : Change) (many : ℕ) → IsLog log → log.horizon ≤ option_map_or (λ (d : Change). d.revision) (slice_get (c ∷ log.kept) (suc many)) log.horizon
+pub horizon_rises : (log : Log) (c : Change) (many : ℕ) → IsLog log → log.horizon ≤ option_map_or (λ (d : Change). d.revision) (slice_get (c ∷ log.kept) (suc many)) log.horizon
 horizon_rises log c many sound = by (slice_get log.kept many) refl
   where
     by : (o : Option Change) → slice_get log.kept many ≡ o → log.horizon ≤ option_map_or (λ (d : Change). d.revision) o log.horizon

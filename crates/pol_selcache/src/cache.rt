@@ -60,6 +60,14 @@ impl SelectorCache {
         self.table.unrefer(selector);
     }
 
+    /// The number that the next new selector takes. No selector had it yet, nor a greater one ('profile').
+    pub fn next_number(&self) -> u64
+        ensures next { result ≡ self.now.next }
+        ensures sound { IsSound self.now }
+    {
+        self.next
+    }
+
     /// The set of a live selector: the numbers that its peer selects. `Memory` is want of memory.
     pub fn set_at_now(&self, selector: u64) -> Result<Arc<IdSet>, Memory>
         requires live { is_live selector self.now.live ≡ true }

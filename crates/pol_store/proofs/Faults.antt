@@ -41,18 +41,18 @@ none_of_four false false false true last is = absurd cc
 none_of_four false false false false last is = refl
 
 module _ (s : State) (name : List ℕ) (labels : List Label) (address : Addr) where
-  pub endpoint_first : (this : Fault) → endpoint_fault name labels address s.endpoints ≡ Some this → fault_of s (AddEndpoint name labels address) ≡ Some this
+  pub endpoint_first : (this : Fault) → endpoint_fault s name labels address ≡ Some this → fault_of s (AddEndpoint name labels address) ≡ Some this
   endpoint_first this is =
       first_of_four (has_reserved labels && not (is_init labels)) (is_some (endpoint_of name s.endpoints)) (nat_le ENDPOINTS_MAX (length s.endpoints)) (is_taken s.endpoints address)
       (fault_if (is_exhausted labels s.identities) fault.IdentitiesExhausted None) this is
 
-  pub endpoint_last : endpoint_fault name labels address s.endpoints ≡ None
+  pub endpoint_last : endpoint_fault s name labels address ≡ None
       → fault_of s (AddEndpoint name labels address) ≡ fault_if (is_exhausted labels s.identities) fault.IdentitiesExhausted None
   endpoint_last is =
       none_of_four (has_reserved labels && not (is_init labels)) (is_some (endpoint_of name s.endpoints)) (nat_le ENDPOINTS_MAX (length s.endpoints)) (is_taken s.endpoints address)
       (fault_if (is_exhausted labels s.identities) fault.IdentitiesExhausted None) is
 
-  pub endpoint_exhausted : endpoint_fault name labels address s.endpoints ≡ None → is_exhausted labels s.identities ≡ true → fault_of s (AddEndpoint name labels address) ≡ Some fault.IdentitiesExhausted
+  pub endpoint_exhausted : endpoint_fault s name labels address ≡ None → is_exhausted labels s.identities ≡ true → fault_of s (AddEndpoint name labels address) ≡ Some fault.IdentitiesExhausted
   endpoint_exhausted none full = endpoint_last none ∙ ap (λ b. fault_if b fault.IdentitiesExhausted None) full
 
 -- what isn't there

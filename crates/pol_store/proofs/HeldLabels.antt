@@ -70,7 +70,7 @@ module _ (labels : List Label) (rooms : Rooms) (old mid new : Stored) (mid_is : 
 
   -- for a new endpoint
   pub endpoint_readied : (name : List ℕ) (address : Addr) (asked : Change) → IsLabelSet labels → IsAddr address
-      → endpoint_fault name labels address old.state.endpoints ≡ None → is_exhausted labels old.state.identities ≡ false → 0 < rooms.endpoints
+      → endpoint_fault old.state name labels address ≡ None → is_exhausted labels old.state.identities ≡ false → 0 < rooms.endpoints
       → asked ≡ change.Endpoint (with_identity number (new_endpoint mid.state name labels address)) name
       → IsReadiedHere (AddEndpoint name labels address) old new (record { plan = plan; change = asked })
   endpoint_readied name address asked set within none room place its = record {

@@ -14,3 +14,4 @@ pub mod PolicyRows
 pub mod PolicyRefs
 pub mod PolicySteps
 pub mod PolicyMoves
+pub mod Selectors

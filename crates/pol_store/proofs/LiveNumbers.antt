@@ -13,7 +13,7 @@ use Rattle.pol_facts.specs.Holding.{has_row}
 use Rattle.pol_facts.specs.Keeps.{IsLiveIn, IsNamedIn, Keeps}
 use Rattle.pol_facts.proofs.Membership.{find-In, list_any-In}
 use Rattle.pol_tables.specs.Tables.{number_named}
-use Rattle.pol_store.specs.Store.{IsSettled, Stored}
+use Rattle.pol_store.specs.Store.{StandsForSome, Stored}
 
 -- the number may be released
 pub record MayGo (number : ℕ) (s : State) : Type 0 where
@@ -46,7 +46,7 @@ held_name s keeps name identity is =
     }
 
 -- the same of the rows that a settled store has
-module _ (stored : Stored) (settled : IsSettled stored) where
+module _ (stored : Stored) (settled : StandsForSome stored) where
   pub endpoint_held : (name : List ℕ) (number : ℕ) → Some number ≡ option_map (λ (endpoint : Endpoint). endpoint.identity) (endpoint_of name stored.state.endpoints) → has_row number stored.state.identities ≡ true
   endpoint_held name number is = by (endpoint_of name stored.state.endpoints) refl is
     where

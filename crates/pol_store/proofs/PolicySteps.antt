@@ -41,7 +41,7 @@ use Rattle.pol_store.specs.declared.readied.Change.TheVariants as change
 use Rattle.pol_store.specs.declared.error.ReadyError.TheVariants.{Fault, Memory}
 use Rattle.pol_store.specs.PolicyParts.{policy_error, with_cache, with_rows}
 use Rattle.pol_store.specs.Readied.{ReadiesOrNot}
-use Rattle.pol_store.specs.Store.{IsLike, IsSettled, StandsFor, Stored, peers_of, with_rooms}
+use Rattle.pol_store.specs.Store.{IsLike, StandsFor, StandsForSome, Stored, peers_of, with_rooms}
 use Rattle.pol_store.proofs.Likeness.{like_fault}
 use Rattle.pol_store.proofs.Readying.{IsReadiedHere}
 
@@ -98,7 +98,7 @@ all_held s keeps key = by (policy_at key s.policies) refl
     by None is = tt
     by (Some stamped) is = (every-in (IsInForceIn s) s.policies keeps.policies stamped (find-In (is_of_key key) stamped s.policies is).0).held
 
-pub given_up_apart : (taken : List Prefix) (key : PolicyKey) (stored : Stored) → IsSettled stored → AreApart taken (prefixes_of (policy_at key stored.state.policies)) stored.state.identities
+pub given_up_apart : (taken : List Prefix) (key : PolicyKey) (stored : Stored) → StandsForSome stored → AreApart taken (prefixes_of (policy_at key stored.state.policies)) stored.state.identities
 given_up_apart taken key stored settled =
     let s = settled.state in
     let like = settled.stands.like in
@@ -106,7 +106,7 @@ given_up_apart taken key stored settled =
     (subst (λ (rows : List IdentityRow). AreApart taken (prefixes_of (policy_at key s.policies)) rows) (sym like.identities)
     (apart_where_held taken (prefixes_of (policy_at key s.policies)) s.identities settled.keeps.identities (all_held s settled.keeps key)))
 
-pub may_give_up : (taken given_up : List Prefix) (key : PolicyKey) (old reserved referred : Stored) → IsSettled old → reserved ≡ with_rooms reserved.rooms old → referred ≡ with_cache referred.cache reserved
+pub may_give_up : (taken given_up : List Prefix) (key : PolicyKey) (old reserved referred : Stored) → StandsForSome old → reserved ≡ with_rooms reserved.rooms old → referred ≡ with_cache referred.cache reserved
     → given_up ≡ prefixes_of (policy_at key reserved.state.policies) → AreApart taken given_up referred.state.identities
 may_give_up taken given_up key old reserved referred settled same same_too is =
     let first : reserved.state ≡ old.state = ap (λ (t : Stored). t.state) same in

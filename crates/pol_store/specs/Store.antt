@@ -50,7 +50,7 @@ pub record StandsFor (s : State) (stored : Stored) : Type 0 where
   pub newest : newest stored.cache.log ≤ s.revision
 
 -- it stands for some state that keeps what each state keeps
-pub record IsSettled (stored : Stored) : Type 0 where
+pub record StandsForSome (stored : Stored) : Type 0 where
   pub state : State
   pub keeps : Keeps state
   pub stands : StandsFor state stored

@@ -39,7 +39,7 @@ fn identity_in(change: &Change) -> Option<u32>
         Change::Named(_, number) => Some(*number),
         Change::NoEndpoint(_, _)
         | Change::NotNamed(_, _)
-        | Change::Policy(_, _, _, _)
+        | Change::Policy { .. }
         | Change::NoPolicy(_, _)
         | Change::Mode(_) => None,
     }
@@ -59,7 +59,7 @@ impl Store {
             }
             Change::Named(_, _)
             | Change::NotNamed(_, _)
-            | Change::Policy(_, _, _, _)
+            | Change::Policy { .. }
             | Change::NoPolicy(_, _)
             | Change::Mode(_) => self.endpoints.slots(),
         }

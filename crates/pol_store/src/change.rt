@@ -4,6 +4,8 @@ ghost use Rattle.pol_model.specs.declared.request.Request.{Request as OneRequest
 ghost use Rattle.pol_model.specs.After.{after};
 ghost use Rattle.pol_model.specs.State.{State};
 ghost use Rattle.pol_facts.specs.Keeps.{Keeps};
+ghost use Rattle.pol_peers.specs.Numbering.{LosesSelectors};
+ghost use Rattle.pol_selcache.specs.Cache.{carried};
 ghost use Rattle.pol_store.specs.Readied.{CanBeDone, Changes, IsReadied, MayChange, TakesBack};
 ghost use Rattle.pol_store.specs.Store.{StandsFor};
 
@@ -23,6 +25,7 @@ impl Store {
     fn change_mode(&mut self, mode: Mode)
         requires may { MayChange self.old (Change.Mode mode) }
         ensures done { Changes self.old (Change.Mode mode) self.new }
+        ensures sets { self.new.cache ≡ self.old.cache }
     {
         self.set_mode(mode);
     }
@@ -31,13 +34,19 @@ impl Store {
     fn change(&mut self, change: Change)
         requires may { MayChange self.old change }
         ensures done { Changes self.old change self.new }
+        ensures selectors { LosesSelectors self.old.cache self.new.cache }
     {
         match change {
             Change::Endpoint(endpoint, name) => self.place_endpoint(endpoint, name),
             Change::NoEndpoint(name, number) => self.take_out_endpoint(name, number),
             Change::Named(name, number) => self.place_identity(name, number),
             Change::NotNamed(name, number) => self.take_out_identity(name, number),
-            Change::Policy(new, key, taken, given_up) => self.put_policy(new, key, taken, given_up),
+            Change::Policy {
+                stamped,
+                key,
+                taken,
+                given_up,
+            } => self.put_policy(stamped, key, taken, given_up),
             Change::NoPolicy(key, given_up) => self.take_out_policy(key, given_up),
             Change::Mode(mode) => self.change_mode(mode),
         }
@@ -48,6 +57,7 @@ impl Store {
         requires ready { CanBeDone self.old readied }
         requires room { self.old.state.revision < 2 ^ 64 - 1 }
         ensures done { (s : State) (request : OneRequest) → Keeps s → IsReadied s request self.old readied → StandsFor (after s request) self.new }
+        ensures selectors { LosesSelectors (carried readied.plan self.old.cache) self.new.cache }
     {
         let Readied { plan, change } = readied;
         self.begin(plan);
@@ -58,6 +68,7 @@ impl Store {
     pub fn take_back(&mut self, readied: Readied)
         requires ready { CanBeDone self.old readied }
         ensures back { TakesBack self.old readied self.new }
+        ensures selectors { LosesSelectors self.old.cache self.new.cache }
     {
         let Readied {
             plan: _plan,
@@ -66,7 +77,9 @@ impl Store {
         match change {
             Change::Endpoint(endpoint, _) => self.release(endpoint.identity),
             Change::Named(_, number) => self.release(number),
-            Change::Policy(new, _, taken, _) => self.take_back_policy(&new.policy, &taken),
+            Change::Policy { stamped, taken, .. } => {
+                self.take_back_policy(&stamped.policy, &taken)
+            }
             Change::NoEndpoint(_, _)
             | Change::NotNamed(_, _)
             | Change::NoPolicy(_, _)

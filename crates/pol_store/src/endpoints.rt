@@ -4,10 +4,11 @@ ghost use Rattle.pol_addr.specs.Address.{IsAddr};
 ghost use Rattle.pol_model.specs.declared.request.Request.TheVariants.{AddEndpoint, RemoveEndpoint};
 ghost use Rattle.pol_model.specs.Endpoints.{endpoint_of, free_slot};
 ghost use Rattle.pol_model.specs.Fault.{is_taken};
+ghost use Rattle.pol_selcache.specs.Cache.{with_room};
 ghost use Rattle.pol_selcache.specs.Live.{label_selectors};
 ghost use Rattle.pol_store.specs.Parts.{endpoint_fault};
 ghost use Rattle.pol_store.specs.Readied.{Changes, MayChange, ReadiesOrNot};
-ghost use Rattle.pol_store.specs.Store.{IsSettled};
+ghost use Rattle.pol_store.specs.Store.{StandsForSome};
 
 use crate::error::ReadyError;
 use crate::readied::{Change, Readied};
@@ -33,7 +34,7 @@ impl Store {
 
     /// The fault of a new endpoint, but for numbers that ran out.
     fn endpoint_fault(&self, name: &str, labels: &LabelSet, address: Addr) -> Option<Fault>
-        ensures fault { result ≡ endpoint_fault name.now labels.now address self.now.state.endpoints }
+        ensures fault { result ≡ endpoint_fault self.now.state name.now labels.now address }
     {
         if has_reserved(labels) && !is_init(labels) {
             Some(Fault::ReservedLabel)
@@ -96,9 +97,10 @@ impl Store {
         address: Addr,
         steps: &mut Steps<L>,
     ) -> Result<Readied, ReadyError>
-        requires settled { IsSettled self.old }
+        requires stands { StandsForSome self.old }
         requires room { self.old.state.revision < 2 ^ 64 - 1 }
         ensures readied { ReadiesOrNot (AddEndpoint name.now labels.now address) self.old self.new result }
+        ensures sets { self.new.cache ≡ with_room self.new.cache.log.spare self.old.cache }
         ensures cost { steps.new ≤ steps.old + label_selectors self.old.cache.live }
     {
         if let Some(fault) = self.endpoint_fault(name.as_str(), labels, address) {
@@ -126,9 +128,10 @@ impl Store {
         name: &Text,
         steps: &mut Steps<L>,
     ) -> Result<Readied, ReadyError>
-        requires settled { IsSettled self.old }
+        requires stands { StandsForSome self.old }
         requires room { self.old.state.revision < 2 ^ 64 - 1 }
         ensures readied { ReadiesOrNot (RemoveEndpoint name.now) self.old self.new result }
+        ensures sets { self.new.cache ≡ with_room self.new.cache.log.spare self.old.cache }
         ensures cost { steps.new ≤ steps.old }
     {
         let number = match self.endpoint_number(name.as_str()) {
@@ -147,6 +150,7 @@ impl Store {
     pub(crate) fn place_endpoint(&mut self, endpoint: Endpoint, name: Text)
         requires may { MayChange self.old (Change.Endpoint endpoint name) }
         ensures done { Changes self.old (Change.Endpoint endpoint name) self.new }
+        ensures sets { self.new.cache ≡ self.old.cache }
     {
         self.put_endpoint(endpoint, name);
     }
@@ -155,6 +159,7 @@ impl Store {
     pub(crate) fn take_out_endpoint(&mut self, name: Text, number: u32)
         requires may { MayChange self.old (Change.NoEndpoint name number) }
         ensures done { Changes self.old (Change.NoEndpoint name number) self.new }
+        ensures sets { self.new.cache ≡ self.old.cache }
     {
         self.drop_endpoint(name.as_str());
         self.release(number);

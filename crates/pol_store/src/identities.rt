@@ -1,10 +1,11 @@
 //! Named identities that come and go.
 ghost use Rattle.std.specs.Prelude.{◌≡◌, ◌<◌, ◌+◌, ◌-◌, ◌^◌, ◌≤◌};
 ghost use Rattle.pol_model.specs.declared.request.Request.TheVariants.{AddIdentity, RemoveIdentity};
+ghost use Rattle.pol_selcache.specs.Cache.{with_room};
 ghost use Rattle.pol_selcache.specs.Live.{label_selectors};
 ghost use Rattle.pol_tables.specs.Tables.{number_named};
 ghost use Rattle.pol_store.specs.Readied.{Changes, MayChange, ReadiesOrNot};
-ghost use Rattle.pol_store.specs.Store.{IsSettled};
+ghost use Rattle.pol_store.specs.Store.{StandsForSome};
 
 use crate::error::ReadyError;
 use crate::readied::{Change, Readied};
@@ -31,9 +32,10 @@ impl Store {
         labels: &LabelSet,
         steps: &mut Steps<L>,
     ) -> Result<Readied, ReadyError>
-        requires settled { IsSettled self.old }
+        requires stands { StandsForSome self.old }
         requires room { self.old.state.revision < 2 ^ 64 - 1 }
         ensures readied { ReadiesOrNot (AddIdentity name.now labels.now) self.old self.new result }
+        ensures sets { self.new.cache ≡ with_room self.new.cache.log.spare self.old.cache }
         ensures cost { steps.new ≤ steps.old + label_selectors self.old.cache.live }
     {
         if has_reserved(labels) {
@@ -60,9 +62,10 @@ impl Store {
         name: &Text,
         steps: &mut Steps<L>,
     ) -> Result<Readied, ReadyError>
-        requires settled { IsSettled self.old }
+        requires stands { StandsForSome self.old }
         requires room { self.old.state.revision < 2 ^ 64 - 1 }
         ensures readied { ReadiesOrNot (RemoveIdentity name.now) self.old self.new result }
+        ensures sets { self.new.cache ≡ with_room self.new.cache.log.spare self.old.cache }
         ensures cost { steps.new ≤ steps.old }
     {
         let number = match self.named_number(name.as_str()) {
@@ -81,6 +84,7 @@ impl Store {
     pub(crate) fn place_identity(&mut self, name: Text, number: u32)
         requires may { MayChange self.old (Change.Named name number) }
         ensures done { Changes self.old (Change.Named name number) self.new }
+        ensures sets { self.new.cache ≡ self.old.cache }
     {
         self.put_name(name, number);
     }
@@ -89,6 +93,7 @@ impl Store {
     pub(crate) fn take_out_identity(&mut self, name: Text, number: u32)
         requires may { MayChange self.old (Change.NotNamed name number) }
         ensures done { Changes self.old (Change.NotNamed name number) self.new }
+        ensures sets { self.new.cache ≡ self.old.cache }
     {
         self.drop_name(name.as_str());
         self.release(number);

@@ -12,7 +12,7 @@ ghost use Rattle.pol_changes.specs.Log.{newest};
 ghost use Rattle.pol_selcache.specs.Cache.{IsPlanFor};
 ghost use Rattle.pol_selcache.specs.Live.{label_selectors};
 ghost use Rattle.pol_tables.specs.Tables.{SameNumbers, number_named};
-ghost use Rattle.pol_numbers.specs.Held.{HoldsLabels, IsSettled as AreSettled, Readies, with_log_room};
+ghost use Rattle.pol_numbers.specs.Held.{HoldsLabels, IsSettled, Readies, with_log_room};
 ghost use Rattle.pol_store.specs.Parts.{begun, numbers_of, with_numbers};
 ghost use Rattle.pol_store.specs.Store.{with_rooms};
 
@@ -64,7 +64,7 @@ impl Store {
         steps: &mut Steps<L>,
     ) -> Result<LabelsHeld, IdentError>
         requires allowed { (has_reserved labels.now && not (is_init labels.now)) ≡ false }
-        requires settled { AreSettled (self.old.state.revision + 1) (numbers_of self.old) }
+        requires settled { IsSettled (self.old.state.revision + 1) (numbers_of self.old) }
         requires room { self.old.state.revision < 2 ^ 64 - 1 }
         ensures held { IfOk result (λ held. HoldsLabels (self.old.state.revision + 1) labels.now (numbers_of self.old) (numbers_of self.new) held.number held.plan) }
         ensures same { self.new ≡ with_numbers (numbers_of self.new) self.old }
@@ -85,7 +85,7 @@ impl Store {
         steps: &mut Steps<L>,
     ) -> Result<Plan, Memory>
         requires held { has_row number self.old.state.identities ≡ true }
-        requires settled { AreSettled (self.old.state.revision + 1) (numbers_of self.old) }
+        requires settled { IsSettled (self.old.state.revision + 1) (numbers_of self.old) }
         requires room { self.old.state.revision < 2 ^ 64 - 1 }
         ensures plan { IfOk result (λ plan. Readies (self.old.state.revision + 1) (released number self.old.state.identities) self.new.cache plan) }
         ensures same { self.new ≡ with_numbers (with_log_room self.new.cache.log.spare (numbers_of self.old)) self.old }
@@ -97,7 +97,7 @@ impl Store {
 
     /// What changes of the sets at the next revision where no number comes or goes. The one error is want of memory.
     pub(crate) fn plan_nothing<L: Ledger>(&mut self, steps: &mut Steps<L>) -> Result<Plan, Memory>
-        requires settled { AreSettled (self.old.state.revision + 1) (numbers_of self.old) }
+        requires settled { IsSettled (self.old.state.revision + 1) (numbers_of self.old) }
         requires room { self.old.state.revision < 2 ^ 64 - 1 }
         ensures plan { IfOk result (λ plan. Readies (self.old.state.revision + 1) self.old.state.identities self.new.cache plan) }
         ensures same { self.new ≡ with_numbers (with_log_room self.new.cache.log.spare (numbers_of self.old)) self.old }

@@ -8,10 +8,12 @@ ghost use Rattle.pol_model.specs.Sizes.{IsShortPolicy};
 ghost use Rattle.pol_model.specs.State.{State};
 ghost use Rattle.pol_facts.specs.Keeps.{Keeps};
 ghost use Rattle.pol_peers.specs.Listed.{listed_peers};
+ghost use Rattle.pol_peers.specs.Numbering.{GainsSelectors, LosesSelectors};
 ghost use Rattle.pol_peers.specs.References.{HasRefs};
+ghost use Rattle.pol_selcache.specs.Cache.{with_room};
 ghost use Rattle.pol_store.specs.PolicyParts.{policy_error};
 ghost use Rattle.pol_store.specs.Readied.{Changes, IsCause, IsReadied, MayChange, ReadiesOrNot};
-ghost use Rattle.pol_store.specs.Store.{IsSettled, StandsFor};
+ghost use Rattle.pol_store.specs.Store.{StandsFor, StandsForSome};
 ghost use Rattle.pol_store.specs.declared.readied.Readied.{Readied as OneReadied};
 
 use crate::error::ReadyError;
@@ -127,18 +129,26 @@ impl Store {
         policy: &Policy,
         steps: &mut Steps<L>,
     ) -> Result<Readied, ReadyError>
-        requires settled { IsSettled self.old }
+        requires stands { StandsForSome self.old }
         requires room { self.old.state.revision < 2 ^ 64 - 1 }
         requires short { IsShortPolicy policy.now }
         ensures readied { ReadiesOrNot (Apply policy.now) self.old self.new result }
+        ensures selectors { GainsSelectors self.old.cache self.new.cache }
     {
+        // The call tells that the selectors fit together.
+        let _known = self.horizon();
         self.reserve_policy()?;
         let new = self.new_policy(policy)?;
         self.refer(policy, steps)?;
         match self.hold_prefixes(new.taken.as_slice(), new.given_up.as_slice(), steps) {
             Ok(plan) => Ok(Readied {
                 plan,
-                change: Change::Policy(new.stamped, new.key, new.taken, new.given_up),
+                change: Change::Policy {
+                    stamped: new.stamped,
+                    key: new.key,
+                    taken: new.taken,
+                    given_up: new.given_up,
+                },
             }),
             Err(error) => {
                 self.unrefer(policy);
@@ -153,9 +163,10 @@ impl Store {
         key: &PolicyKey,
         steps: &mut Steps<L>,
     ) -> Result<Readied, ReadyError>
-        requires settled { IsSettled self.old }
+        requires stands { StandsForSome self.old }
         requires room { self.old.state.revision < 2 ^ 64 - 1 }
         ensures readied { ReadiesOrNot (Remove key.now) self.old self.new result }
+        ensures sets { self.new.cache ≡ with_room self.new.cache.log.spare self.old.cache }
     {
         let old = self.old_policy(key)?;
         let plan = self.plan_prefixes(old.prefixes.as_slice(), steps)?;
@@ -175,6 +186,7 @@ impl Store {
     )
         requires may { MayChange self.old (Change.Policy new key taken given_up) }
         ensures done { Changes self.old (Change.Policy new key taken given_up) self.new }
+        ensures selectors { LosesSelectors self.old.cache self.new.cache }
     {
         let old = self.put(new, key);
         self.unrefer_old(old);
@@ -185,6 +197,7 @@ impl Store {
     pub(crate) fn take_out_policy(&mut self, key: PolicyKey, given_up: Prefixes)
         requires may { MayChange self.old (Change.NoPolicy key given_up) }
         ensures done { Changes self.old (Change.NoPolicy key given_up) self.new }
+        ensures selectors { LosesSelectors self.old.cache self.new.cache }
     {
         let old = self.take_out(&key);
         self.unrefer_old(old);
@@ -195,6 +208,7 @@ impl Store {
     pub(crate) fn take_back_policy(&mut self, policy: &Policy, taken: &Prefixes)
         requires referred { HasRefs (listed_peers policy.now) self.old.cache.live }
         ensures back { (s : State) (readied : OneReadied) → Keeps s → IsReadied s (Apply policy.now) self.old readied → taken.now ≡ policy_prefixes policy.now → StandsFor s self.new }
+        ensures selectors { LosesSelectors self.old.cache self.new.cache }
     {
         self.release_prefixes(taken.as_slice());
         self.unrefer(policy);

@@ -12,8 +12,9 @@ ghost use Rattle.pol_model.specs.Sizes.{IsShortPolicy};
 ghost use Rattle.pol_selcache.specs.Cache.{with_room};
 ghost use Rattle.pol_selcache.specs.Live.{AreExact};
 ghost use Rattle.pol_peers.specs.Listed.{listed_peers};
-ghost use Rattle.pol_peers.specs.References.{HasRefs, IsMoreBy};
-ghost use Rattle.pol_numbers.specs.Held.{AreApart, IsSettled as SetsAreSettled, Readies, RefersTo};
+ghost use Rattle.pol_peers.specs.Numbering.{TakesFreshNumbers};
+ghost use Rattle.pol_peers.specs.References.{HasRefs, IsMoreBy, KeepsNumbers};
+ghost use Rattle.pol_numbers.specs.Held.{AreApart, IsSettled, Readies, RefersTo};
 ghost use Rattle.pol_store.specs.Parts.{numbers_of};
 ghost use Rattle.pol_store.specs.PolicyParts.{listed_of, with_cache, with_policies, with_rows};
 ghost use Rattle.pol_store.specs.Store.{with_rooms};
@@ -46,6 +47,9 @@ impl Store {
         ensures same { self.new ≡ with_cache self.new.cache self.old }
         ensures ok { OnOk result (RefersTo (listed_peers policy.now) self.old.state.identities self.old.cache self.new.cache) }
         ensures err { OnErr result (RefersTo [] self.old.state.identities self.old.cache self.new.cache) }
+        ensures kept { KeepsNumbers self.old.cache.live self.new.cache.live }
+        ensures fresh { TakesFreshNumbers self.old.cache self.new.cache }
+        ensures log { self.new.cache.log ≡ self.old.cache.log }
     {
         self.numbers.refer(policy, steps)
     }
@@ -56,6 +60,8 @@ impl Store {
         ensures same { self.new ≡ with_cache self.new.cache self.old }
         ensures peers { IsMoreBy (listed_peers policy.now) self.new.cache.live self.old.cache.live }
         ensures exact { (rows : List OneRow) → AreExact rows self.old.cache.live → AreExact rows self.new.cache.live }
+        ensures kept { KeepsNumbers self.new.cache.live self.old.cache.live }
+        ensures next { self.new.cache.next ≡ self.old.cache.next }
         ensures log { self.new.cache.log ≡ self.old.cache.log }
     {
         self.numbers.unrefer(policy);
@@ -67,6 +73,8 @@ impl Store {
         ensures same { self.new ≡ with_cache self.new.cache self.old }
         ensures peers { IsMoreBy (listed_of old) self.new.cache.live self.old.cache.live }
         ensures exact { (rows : List OneRow) → AreExact rows self.old.cache.live → AreExact rows self.new.cache.live }
+        ensures kept { KeepsNumbers self.new.cache.live self.old.cache.live }
+        ensures next { self.new.cache.next ≡ self.old.cache.next }
         ensures log { self.new.cache.log ≡ self.old.cache.log }
     {
         if let Some(stamped) = old {
@@ -83,7 +91,7 @@ impl Store {
         steps: &mut Steps<L>,
     ) -> Result<Plan, IdentError>
         requires room { self.old.state.revision < 2 ^ 64 - 1 }
-        requires settled { SetsAreSettled (self.old.state.revision + 1) (numbers_of self.old) }
+        requires settled { IsSettled (self.old.state.revision + 1) (numbers_of self.old) }
         requires once { IsDistinct same_prefix given_up.now }
         requires apart { AreApart taken.now given_up.now self.old.state.identities }
         ensures rows { OnOk result (self.new ≡ with_rows (prefixes_held taken.now self.old.state.identities) (with_cache self.new.cache self.old)) }
@@ -105,7 +113,7 @@ impl Store {
         steps: &mut Steps<L>,
     ) -> Result<Plan, Memory>
         requires room { self.old.state.revision < 2 ^ 64 - 1 }
-        requires settled { SetsAreSettled (self.old.state.revision + 1) (numbers_of self.old) }
+        requires settled { IsSettled (self.old.state.revision + 1) (numbers_of self.old) }
         requires once { IsDistinct same_prefix given_up.now }
         ensures plan { IfOk result (λ plan. Readies (self.old.state.revision + 1) (prefixes_released given_up.now self.old.state.identities) self.new.cache plan) }
         ensures same { self.new ≡ with_cache (with_room self.new.cache.log.spare self.old.cache) self.old }

@@ -16,9 +16,17 @@ pub enum Change {
     Named(Text, u32),
     /// The name goes, and one holder of this number with it.
     NotNamed(Text, u32),
-    /// The policy is placed, in place of one of the same key if there is one: the policy, its key for the index, the
-    /// prefixes that it holds, and those of the one that it replaces.
-    Policy(Stamped, PolicyKey, Prefixes, Prefixes),
+    /// The policy is placed, in place of one of the same key if there is one.
+    Policy {
+        /// The policy, with the revision that applies it.
+        stamped: Stamped,
+        /// Its key, for the index.
+        key: PolicyKey,
+        /// The prefixes that it holds.
+        taken: Prefixes,
+        /// Those of the one that it replaces.
+        given_up: Prefixes,
+    },
     /// The policy of that key goes, and its prefixes with it.
     NoPolicy(PolicyKey, Prefixes),
     /// The mode from now on.

@@ -2,9 +2,11 @@
 ghost use Rattle.std.specs.Prelude.{◌≡◌, ◌<◌, ◌+◌, ◌-◌, ◌^◌, ◌≤◌, false};
 ghost use Rattle.pol_model.specs.declared.request.Request.TheVariants.{SetMode};
 ghost use Rattle.pol_model.specs.Sizes.{IsShort};
+ghost use Rattle.pol_peers.specs.Numbering.{GainsSelectors};
+ghost use Rattle.pol_selcache.specs.Cache.{with_room};
 ghost use Rattle.pol_selcache.specs.Live.{label_selectors};
 ghost use Rattle.pol_store.specs.Readied.{ReadiesOrNot, is_of_policy};
-ghost use Rattle.pol_store.specs.Store.{IsSettled};
+ghost use Rattle.pol_store.specs.Store.{StandsForSome};
 
 use crate::error::ReadyError;
 use crate::readied::{Change, Readied};
@@ -20,9 +22,10 @@ impl Store {
         mode: Mode,
         steps: &mut Steps<L>,
     ) -> Result<Readied, ReadyError>
-        requires settled { IsSettled self.old }
+        requires stands { StandsForSome self.old }
         requires room { self.old.state.revision < 2 ^ 64 - 1 }
         ensures readied { ReadiesOrNot (SetMode mode) self.old self.new result }
+        ensures sets { self.new.cache ≡ with_room self.new.cache.log.spare self.old.cache }
         ensures cost { steps.new ≤ steps.old }
     {
         let plan = self.plan_nothing(steps)?;
@@ -42,10 +45,11 @@ impl Store {
         request: &Request,
         steps: &mut Steps<L>,
     ) -> Result<Readied, ReadyError>
-        requires settled { IsSettled self.old }
+        requires stands { StandsForSome self.old }
         requires room { self.old.state.revision < 2 ^ 64 - 1 }
         requires short { IsShort request.now }
         ensures readied { ReadiesOrNot request.now self.old self.new result }
+        ensures selectors { GainsSelectors self.old.cache self.new.cache }
         // Only a policy may bring peers that are new, which are judged by all rows.
         ensures cost { is_of_policy request.now ≡ false → steps.new ≤ steps.old + label_selectors self.old.cache.live }
     {

@@ -3,14 +3,17 @@ ghost use Rattle.std.specs.Prelude.{◌≡◌, IfOk};
 ghost use Rattle.std.specs.List.{AllByRecursion};
 ghost use Rattle.pol_model.specs.declared.options.Options.{Options as AllOptions};
 ghost use Rattle.pol_model.specs.After.{start};
+ghost use Rattle.pol_selcache.specs.Cache.{IsSound};
 ghost use Rattle.pol_selcache.specs.Live.{AreLive};
 ghost use Rattle.pol_model.specs.Sizes.{IsShortPolicy};
+ghost use Rattle.pol_numbers.specs.Held.{nothing_held};
 ghost use Rattle.pol_store.specs.Store.{StandsFor};
 
 use pol_data::Memory;
 use pol_ident::Identities;
 use pol_model::{Endpoint, Mode, Stamped};
 use pol_numbers::Numbers;
+use pol_selcache::SelectorCache;
 use pol_tables::{Endpoints, Named, Policies};
 use std::alloc::Global;
 use std::marker::Model;
@@ -56,6 +59,7 @@ impl Store {
     /// The state before the first request, in this mode. The one error is want of memory.
     pub fn new(alloc: Global, mode: Mode) -> Result<Store, Memory>
         ensures start { IfOk result (λ store. (options : AllOptions) → options.mode ≡ mode → StandsFor (start options) store) }
+        ensures nothing { IfOk result (λ store. store.cache ≡ nothing_held.cache) }
     {
         Ok(Store {
             alloc,
@@ -97,10 +101,18 @@ impl Store {
         self.policies.as_slice()
     }
 
+    /// The selectors with their sets, and the changes of these.
+    pub fn selectors(&self) -> &SelectorCache
+        ensures cache { result.now ≡ self.now.cache }
+    {
+        self.numbers.selectors()
+    }
+
     /// The revision of the newest change of a set that was dropped, 0 if none was.
     pub fn horizon(&self) -> u64
         ensures horizon { result ≡ self.now.cache.log.horizon }
         ensures live { AreLive self.now.cache.live }
+        ensures sound { IsSound self.now.cache }
     {
         self.numbers.horizon()
     }

@@ -1,10 +1,11 @@
 -- What a verdict and an explanation look at: the parts of a state, and the number of the other side.
-use Rattle.std.specs.Prelude.{ℕ, ◌≡◌, Bool, List, []}
+use Rattle.std.specs.Prelude.{ℕ, Bool, List, [], None}
 use Rattle.pol_mapkey.specs.declared.Word.{Word}
 use Rattle.pol_rule.specs.Covers.{entry_covers}
 use Rattle.pol_rule.specs.declared.policy.Entry.{Entry}
 use Rattle.pol_model.specs.declared.answer.Trace.{Trace}
 use Rattle.pol_model.specs.declared.options.Mode.{Mode}
+use Rattle.pol_model.specs.declared.options.Mode.TheVariants.{Default}
 use Rattle.pol_model.specs.declared.options.Options.{Options}
 use Rattle.pol_model.specs.declared.request.Query.{Query}
 use Rattle.pol_model.specs.declared.row.Endpoint.{Endpoint}
@@ -27,24 +28,22 @@ parts_of mode policies rows = record {
   endpoints = [];
 }
 
--- the state has this mode, these policies and these identities
-pub record HasParts (s : State) (mode : Mode) (policies : List Stamped) (rows : List IdentityRow) : Type 0 where
-  pub mode_is : mode ≡ s.mode
-  pub policies_are : policies ≡ s.policies
-  pub rows_are : rows ≡ s.identities
+-- Options with this leave for the local host. A verdict looks at nothing else of them.
+abbrev pub with_leave : Bool → Options
+with_leave localhost = record { mode = Default; localhost = localhost; map_max = None }
 
 -- the verdict on the query's packet at the endpoint, from or to the identity of this number
-abbrev pub word_of : Options → State → Query → Endpoint → ℕ → Word
-word_of options s query endpoint number = verdict_of options s endpoint query.dir number query.proto query.port
+abbrev pub word_of : Bool → State → Query → Endpoint → ℕ → Word
+word_of localhost s query endpoint number = verdict_of (with_leave localhost) s endpoint query.dir number query.proto query.port
 
 -- the entry covers that packet
 abbrev pub covers_number : List IdentityRow → Query → ℕ → Entry → Bool
 covers_number rows query number = entry_covers (selects_number rows number) query.proto query.port
 
 -- that verdict, and the places of the entries that cover the packet
-abbrev pub trace_of : Options → State → Query → Endpoint → ℕ → Trace
-trace_of options s query endpoint number = record {
-  word = word_of options s query endpoint number;
+abbrev pub trace_of : Bool → State → Query → Endpoint → ℕ → Trace
+trace_of localhost s query endpoint number = record {
+  word = word_of localhost s query endpoint number;
   remote = number;
   denies = covering_places s.policies endpoint (deny_section query.dir) (covers_number s.identities query number);
   allows = covering_places s.policies endpoint (allow_section query.dir) (covers_number s.identities query number);

@@ -8,9 +8,7 @@ ghost use Rattle.pol_trace.specs.Parts.{parts_of, word_of};
 use crate::selects::covers_packet;
 use pol_ident::Identities;
 use pol_mapkey::Word;
-use pol_model::{
-    Endpoint, HOST_IDENTITY, Mode, Options, Query, Stamped, allow_section, deny_section,
-};
+use pol_model::{Endpoint, HOST_IDENTITY, Mode, Query, Stamped, allow_section, deny_section};
 use pol_ports::Direction;
 use pol_rule::{Rule, Section};
 
@@ -68,9 +66,9 @@ fn some_entry_covers(
 }
 
 /// The verdict on the query's packet at the endpoint, where its other side has the identity of that number (Cilium, Policy
-/// Enforcement Modes, and Network Policy, "Deny Policies"). It takes no memory.
-pub fn verdict_at(
-    options: Options,
+/// Enforcement Modes, and Network Policy, "Deny Policies"); `localhost` is the leave for the local host. It takes no memory.
+pub(crate) fn verdict_at(
+    localhost: bool,
     mode: Mode,
     policies: &[Stamped],
     identities: &Identities,
@@ -78,7 +76,7 @@ pub fn verdict_at(
     number: u32,
     query: &Query,
 ) -> Word
-    ensures word { result ≡ word_of options (parts_of mode policies.now identities.now) query.now endpoint.now number }
+    ensures word { result ≡ word_of localhost (parts_of mode policies.now identities.now) query.now endpoint.now number }
 {
     let dir = query.dir;
     if matches!(mode, Mode::Never) {
@@ -100,7 +98,7 @@ pub fn verdict_at(
         number,
         query,
     ) || !endpoint.is_enforced(mode, policies, dir)
-        || (matches!(dir, Direction::Ingress) && number == HOST_IDENTITY && options.localhost)
+        || (matches!(dir, Direction::Ingress) && number == HOST_IDENTITY && localhost)
     {
         Word::Allowed
     } else {

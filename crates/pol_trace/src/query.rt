@@ -9,7 +9,7 @@ use crate::judge::verdict_at;
 use crate::reasons::explain_at;
 use pol_data::Memory;
 use pol_mapkey::Word;
-use pol_model::{Endpoint, Options, Query, Remote, Trace};
+use pol_model::{Endpoint, Query, Remote, Trace};
 use pol_repo::Repo;
 use std::alloc::Global;
 use thiserror::Error;
@@ -27,7 +27,7 @@ pub enum ExplainError {
 
 /// The identity number that a remote stands for.
 fn number_of(repo: &Repo, remote: Remote) -> u32
-    requires idle { repo.now.readied ≡ None }
+    requires idle { repo.now.prepared ≡ None }
     ensures number { result ≡ remote_number (state_in repo.now) remote }
 {
     match remote {
@@ -36,25 +36,13 @@ fn number_of(repo: &Repo, remote: Remote) -> u32
     }
 }
 
-/// The options of the repository, as far as a verdict looks at them.
-fn options_of(repo: &Repo) -> Options
-    requires idle { repo.now.readied ≡ None }
-    ensures localhost { result.localhost ≡ repo.now.options.localhost }
-{
-    Options {
-        mode: repo.mode(),
-        localhost: repo.localhost(),
-        map_max: None,
-    }
-}
-
 /// The verdict on the query's packet at the endpoint.
 fn judged(repo: &Repo, query: &Query, endpoint: &Endpoint) -> Word
-    requires idle { repo.now.readied ≡ None }
+    requires idle { repo.now.prepared ≡ None }
     ensures word { result ≡ verdict_for repo.now.options (state_in repo.now) query.now endpoint.now }
 {
     verdict_at(
-        options_of(repo),
+        repo.localhost(),
         repo.mode(),
         repo.policies(),
         repo.identities(),
@@ -71,12 +59,12 @@ fn explained(
     query: &Query,
     endpoint: &Endpoint,
 ) -> Result<Trace, Memory>
-    requires idle { repo.now.readied ≡ None }
+    requires idle { repo.now.prepared ≡ None }
     ensures trace { IfOk result (λ trace. trace ≡ explain_for repo.now.options (state_in repo.now) query.now endpoint.now) }
 {
     explain_at(
         alloc,
-        options_of(repo),
+        repo.localhost(),
         repo.mode(),
         repo.policies(),
         repo.identities(),
@@ -89,7 +77,7 @@ fn explained(
 /// The verdict on the query's packet in the present state; `None` exactly where no endpoint of that name is live. It takes
 /// no memory.
 pub fn verdict(repo: &Repo, query: &Query) -> Option<Word>
-    requires idle { repo.now.readied ≡ None }
+    requires idle { repo.now.prepared ≡ None }
     ensures word { result ≡ option_map (verdict_for repo.now.options (state_in repo.now) query.now) (endpoint_of query.now.endpoint (state_in repo.now).endpoints) }
 {
     match repo.endpoint(query.endpoint.as_str()) {
@@ -103,7 +91,7 @@ pub fn verdict(repo: &Repo, query: &Query) -> Option<Word>
 ///
 /// `NoEndpoint` comes exactly where no endpoint of that name is live. `Memory` is want of memory.
 pub fn explain(alloc: Global, repo: &Repo, query: &Query) -> Result<Trace, ExplainError>
-    requires idle { repo.now.readied ≡ None }
+    requires idle { repo.now.prepared ≡ None }
     ensures trace { IfOk result (λ trace. explain_of repo.now.options (state_in repo.now) query.now ≡ Some trace) }
     ensures no_endpoint { IsErrOf result ExplainError.NoEndpoint ↔ (endpoint_of query.now.endpoint (state_in repo.now).endpoints ≡ None) }
 {

@@ -10,9 +10,7 @@ use crate::judge::verdict_at;
 use crate::places::places_in;
 use pol_data::Memory;
 use pol_ident::Identities;
-use pol_model::{
-    Endpoint, Mode, Options, Places, Query, Stamped, Trace, allow_section, deny_section,
-};
+use pol_model::{Endpoint, Mode, Places, Query, Stamped, Trace, allow_section, deny_section};
 use std::alloc::Global;
 
 /// The places of the deny entries that cover the query's packet.
@@ -54,9 +52,9 @@ fn allow_places(
 /// Why the query's packet at the endpoint is allowed or denied, where its other side has the identity of that number: the
 /// verdict, and the places of the deny and of the allow entries that cover it, in policy, rule and entry order, whatever
 /// the mode. The one error is want of memory.
-pub fn explain_at(
+pub(crate) fn explain_at(
     alloc: Global,
-    options: Options,
+    localhost: bool,
     mode: Mode,
     policies: &[Stamped],
     identities: &Identities,
@@ -65,9 +63,11 @@ pub fn explain_at(
     query: &Query,
 ) -> Result<Trace, Memory>
     requires short { AllByRecursion (λ stamped. IsShortPolicy stamped.policy) policies.now }
-    ensures trace { IfOk result (λ trace. trace ≡ trace_of options (parts_of mode policies.now identities.now) query.now endpoint.now number) }
+    ensures trace { IfOk result (λ trace. trace ≡ trace_of localhost (parts_of mode policies.now identities.now) query.now endpoint.now number) }
 {
-    let word = verdict_at(options, mode, policies, identities, endpoint, number, query);
+    let word = verdict_at(
+        localhost, mode, policies, identities, endpoint, number, query,
+    );
     let denies = deny_places(alloc, policies, identities, endpoint, number, query)?;
     let allows = allow_places(alloc, policies, identities, endpoint, number, query)?;
     Ok(Trace {

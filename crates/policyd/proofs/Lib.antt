@@ -1,3 +1,1 @@
-pub mod Played
 pub mod ScriptRun
-pub mod Fields

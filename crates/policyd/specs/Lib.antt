@@ -1,5 +1,4 @@
 pub mod Script
 pub mod Ends
 pub mod Headline
-pub mod Summary
 pub mod Task

@@ -1,18 +1,15 @@
 //! A script is generated, and its summary is written to a sink.
-ghost use Rattle.std.specs.Prelude.{◌≡◌, ◌≤◌, ◌⊎◌, None, IfOk};
+ghost use Rattle.std.specs.Prelude.{◌≡◌, ◌≤◌, ◌⊎◌, None};
 ghost use Rattle.std.specs.Io.KnownBytes.{Appends, Keeps};
 ghost use Rattle.pol_base.specs.Faults.{Rose};
 ghost use Rattle.pol_base.specs.Bytes.{AppendsPart};
-ghost use Rattle.policyd.specs.Summary.{summary};
+ghost use Rattle.pol_play.specs.Summary.{summary};
 
-use crate::serial::play_lines;
 use crate::status::Status;
-use crate::summary::summary_text;
 use pol_base::{Failed, Sink, write_all};
 use pol_data::Memory;
-use pol_gen::generated;
 use pol_model::Options;
-use pol_script::read_script;
+use pol_play::summary_of;
 use std::alloc::Global;
 
 /// Plays the generated script of so many rounds, and writes its summary.
@@ -32,16 +29,4 @@ pub fn play_generated<K: Sink>(alloc: Global, options: Options, n: u32, sink: &m
             Ok(()) => Status::Clean,
         },
     }
-}
-
-// Generating, reading, playing and counting.
-fn summary_of(alloc: Global, options: Options, n: u32) -> Result<Vec<u8>, Memory>
-    requires unlimited { options.map_max ≡ None }
-    requires rounds { (1 ≤ n) × (n ≤ 10000) }
-    ensures { IfOk result (λ text. text.items ≡ summary options n) }
-{
-    let script = generated(alloc, n)?;
-    let readings = read_script(alloc, script.as_slice())?;
-    let answers = play_lines(alloc, options, readings)?;
-    summary_text(alloc, answers.as_slice())
 }

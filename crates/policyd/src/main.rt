@@ -1,9 +1,9 @@
 //! `policyd` reads a script from standard input, one JSON object a line, and writes one answer a line to
 //! standard output.
 //!
-//! `play` does all of it over any source and sink: `source` reads a script and answers it, and `generate` makes one
-//! and sums up its answers. `serial` plays the lines, one after another, and `line` answers one. What `play`
-//! promises is stated in its contract, over the definitions of `pol_run`.
+//! `play` does all of it over any source and sink: `source` reads a script and answers it, and `generate` writes the
+//! summary of one that is made. The lines are played by `pol_play`. What `play` promises is stated in its contract,
+//! over the definitions of `pol_run`.
 #![tactic(auto)]
 
 ghost use Rattle.std.specs.Prelude.{◌≡◌};
@@ -11,12 +11,9 @@ ghost use Rattle.std.specs.IoError.{error_kind};
 ghost use Rattle.policyd.specs.Ends.{status_without_words};
 
 mod generate;
-mod line;
 mod play;
-mod serial;
 mod source;
 mod status;
-mod summary;
 #[cfg(test)]
 mod tests;
 

@@ -4,10 +4,10 @@ ghost use Rattle.std.specs.Io.KnownBytes.{Appends, IsAtEnd, Keeps};
 ghost use Rattle.pol_base.specs.Faults.{Rose, DidNotRise};
 ghost use Rattle.pol_base.specs.Bytes.{AppendsPart, ConsumesSome};
 ghost use Rattle.pol_words.specs.Given.{words_given};
+ghost use Rattle.pol_play.specs.Summary.{summary};
 ghost use Rattle.policyd.specs.Script.{is_too_long, fits_limits};
 ghost use Rattle.policyd.specs.Headline.{WritesRun, WritesPartOfRun};
 ghost use Rattle.policyd.specs.Ends.{is_answered, has_read_all, is_silent, status_number};
-ghost use Rattle.policyd.specs.Summary.{summary};
 ghost use Rattle.policyd.specs.Task.{reads_with, generates};
 
 use crate::generate::play_generated;

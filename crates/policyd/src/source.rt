@@ -9,12 +9,12 @@ ghost use Rattle.policyd.specs.Script.{is_too_long, fits_limits};
 ghost use Rattle.policyd.specs.Headline.{WritesRun, WritesPartOfRun};
 ghost use Rattle.policyd.specs.Ends.{is_answered, has_read_all, is_silent, status_number};
 
-use crate::serial::play_lines;
 use crate::status::Status;
 use pol_answer::{Answer, answers_text};
 use pol_base::{Failed, ReadAllError, Sink, Source, read_all, write_all};
 use pol_data::Memory;
 use pol_model::Options;
+use pol_play::play_lines;
 use pol_script::{count_lines, read_script};
 use std::alloc::Global;
 

@@ -30,6 +30,7 @@ loop-peer-preserved c =
       kept = kept_further c.drop_peer.new.cache.live c.loop-peer.cache.live c.args.cache.now.live c.drop_peer.ensures.kept c.loop-peer.invariant.kept;
       exact = λ rows exact. c.drop_peer.ensures.exact rows (c.loop-peer.invariant.exact rows exact);
       log = c.drop_peer.ensures.log ∙ c.loop-peer.invariant.log;
+      next = c.drop_peer.ensures.next ∙ c.loop-peer.invariant.next;
     }
 
 pub returns-clause-dropped : goal.returns-clause-dropped

@@ -32,6 +32,7 @@ loop-rule-preserved c =
       kept = kept_further c.drop_rule.new.cache.live c.loop-rule.cache.live c.args.cache.now.live c.drop_rule.ensures.kept c.loop-rule.invariant.kept;
       exact = λ rows exact. c.drop_rule.ensures.exact rows (c.loop-rule.invariant.exact rows exact);
       log = c.drop_rule.ensures.log ∙ c.loop-rule.invariant.log;
+      next = c.drop_rule.ensures.next ∙ c.loop-rule.invariant.next;
     }
 
 pub returns-clause-dropped : goal.returns-clause-dropped

@@ -31,6 +31,7 @@ loop-entry-preserved c =
       kept = kept_further c.drop_entry.new.cache.live c.loop-entry.cache.live c.args.cache.now.live c.drop_entry.ensures.kept c.loop-entry.invariant.kept;
       exact = λ rows exact. c.drop_entry.ensures.exact rows (c.loop-entry.invariant.exact rows exact);
       log = c.drop_entry.ensures.log ∙ c.loop-entry.invariant.log;
+      next = c.drop_entry.ensures.next ∙ c.loop-entry.invariant.next;
     }
 
 pub returns-clause-dropped : goal.returns-clause-dropped

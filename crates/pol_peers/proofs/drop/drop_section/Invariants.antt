@@ -12,4 +12,5 @@ invariant-loop-entry l = record {
   kept : KeepsNumbers l.cache.live l.initial.cache.live;
   exact : (rows : List IdentityRow) → AreExact rows l.initial.cache.live → AreExact rows l.cache.live;
   log : l.cache.log ≡ l.initial.cache.log;
+  next : l.cache.next ≡ l.initial.cache.next;
 }

@@ -4,6 +4,7 @@ use Rattle.pol_selcache.specs.Cache.{Cache}
 use Rattle.pol_peers.specs.References.{IsMoreBy, KeepsNumbers}
 use Rattle.pol_peers.proofs.Counts.{has_more, more_joined, undone}
 use Rattle.pol_peers.proofs.Costs.{cost_more, cost_of_all}
+use Rattle.pol_peers.proofs.Numbering.{fresh_further, fresh_less}
 use Rattle.pol_peers.proofs.Kept.{kept_further, kept_undone}
 use Rattle.pol_peers.proofs.hold.hold_each.Goals as goal
 
@@ -47,6 +48,12 @@ returns-in-Err-clause-exact g c = c.drop_each.ensures.exact c.args.identities.no
 pub returns-in-Err-clause-log : goal.returns-in-Err-clause-log
 returns-in-Err-clause-log g c = c.drop_each.ensures.log ∙ c.in-Err.ensures.log ∙ c.loop-i.invariant.log
 
+pub returns-in-Err-clause-fresh : goal.returns-in-Err-clause-fresh
+returns-in-Err-clause-fresh g c =
+    fresh_less c.args.cache.now c.loop-i.cache c.drop_each.new.cache c.loop-i.invariant.fresh
+    (c.drop_each.ensures.next ∙ ap (λ (cache : Cache). cache.next) c.in-Err.ensures.err)
+    (subst (λ (cache : Cache). KeepsNumbers c.drop_each.new.cache.live cache.live) c.in-Err.ensures.err c.drop_each.ensures.kept)
+
 pub loop-i-preserved : goal.loop-i-preserved
 loop-i-preserved g c =
     let all = c.args.peers.now in
@@ -60,5 +67,6 @@ loop-i-preserved g c =
       kept = kept_further c.args.cache.now.live c.loop-i.cache.live c.hold_peer.new.cache.live c.loop-i.invariant.kept c.in-Ok.ensures.kept;
       exact = c.in-Ok.ensures.exact;
       log = c.in-Ok.ensures.log ∙ c.loop-i.invariant.log;
+      fresh = fresh_further c.args.cache.now c.loop-i.cache c.hold_peer.new.cache c.loop-i.invariant.fresh c.in-Ok.ensures.fresh;
       cost = rw shown (cost_more (map (λ p. p.now) (take i all)) p.now (length c.args.identities.now) c.args.steps.now c.loop-i.steps c.hold_peer.new.steps c.loop-i.invariant.cost c.in-Ok.ensures.cost);
     }

@@ -1,3 +1,4 @@
+use Rattle.pol_peers.proofs.Numbering.{fresh_added, fresh_itself}
 use Rattle.pol_peers.proofs.Holds.{added_log, added_more}
 use Rattle.pol_peers.proofs.Kept.{kept_added, kept_itself}
 use Rattle.pol_peers.proofs.hold.hold_peer.Goals as goal
@@ -13,3 +14,9 @@ returns-clause-kept g c = rw c.in_ok-add.ensures.added (kept_added c.args.peer.n
 
 pub returns-in_err-add-clause-kept : goal.returns-in_err-add-clause-kept
 returns-in_err-add-clause-kept g c = rw c.in_err-add.ensures.err (kept_itself c.args.cache.now.live)
+
+pub returns-clause-fresh : goal.returns-clause-fresh
+returns-clause-fresh g c = rw c.in_ok-add.ensures.added (fresh_added c.args.peer.now c.args.identities.now c.args.cache.now)
+
+pub returns-in_err-add-clause-fresh : goal.returns-in_err-add-clause-fresh
+returns-in_err-add-clause-fresh g c = rw c.in_err-add.ensures.err (fresh_itself c.args.cache.now)

@@ -6,6 +6,6 @@ use Rattle.pol_trace.proofs.query.judged.Goals as goal
 pub returns : goal.returns
 returns c = record {
   word = c.verdict_at.ensures.word
-      ∙ word_told c.options_of.result c.args.repo.now.options (state_in c.args.repo.now) c.mode.result c.policies.result.now c.identities.result.now c.number_of.result c.args.query.now c.args.endpoint.now
-      c.options_of.ensures.localhost c.mode.ensures.mode c.policies.ensures.list c.identities.ensures.rows c.number_of.ensures.number;
+      ∙ word_told c.localhost.result c.args.repo.now.options (state_in c.args.repo.now) c.mode.result c.policies.result.now c.identities.result.now c.number_of.result c.args.query.now c.args.endpoint.now
+      c.localhost.ensures.localhost c.mode.ensures.mode c.policies.ensures.list c.identities.ensures.rows c.number_of.ensures.number;
 }

@@ -8,19 +8,19 @@ use Rattle.pol_repo.proofs.repo.Repo.accept.Goals as goal
 pub unwrap-readied-requires : goal.unwrap-readied-requires
 unwrap-readied-requires c =
     subst (λ (o : Option Readied). IsSome o) (sym c.take.ensures.value)
-    (there_is c.self.inside.options c.self.inside.journal.items (vec_len c.self.inside.journal) (vec_capacity c.self.inside.journal) c.self.inside.store c.self.inside.readied c.args.self.now
+    (there_is c.self.inside.options c.self.inside.journal.items (vec_len c.self.inside.journal) (vec_capacity c.self.inside.journal) c.self.inside.store c.self.inside.prepared c.args.self.now
     c.self.view_is c.self.invariant
     c.args.ready.request c.requires.request)
 
 pub carry_out-requires-clause-ready : goal.carry_out-requires-clause-ready
 carry_out-requires-clause-ready c =
-    can_be_done c.self.inside.options c.self.inside.journal.items (vec_len c.self.inside.journal) (vec_capacity c.self.inside.journal) c.self.inside.store c.self.inside.readied c.args.self.now
+    can_be_done c.self.inside.options c.self.inside.journal.items (vec_len c.self.inside.journal) (vec_capacity c.self.inside.journal) c.self.inside.store c.self.inside.prepared c.args.self.now
     c.self.view_is c.self.invariant
     c.args.ready.request c.requires.request c.unwrap-readied.result (sym c.take.ensures.value ∙ c.unwrap-readied.ensures)
 
 pub invariant_of-self : goal.invariant_of-self
 invariant_of-self c =
-    accepted c.self.inside.options c.self.inside.journal.items (vec_len c.self.inside.journal) (vec_capacity c.self.inside.journal) c.self.inside.store c.self.inside.readied c.args.self.now
+    accepted c.self.inside.options c.self.inside.journal.items (vec_len c.self.inside.journal) (vec_capacity c.self.inside.journal) c.self.inside.store c.self.inside.prepared c.args.self.now
     c.self.view_is c.self.invariant
     c.args.ready.request c.requires.request c.unwrap-readied.result (sym c.take.ensures.value ∙ c.unwrap-readied.ensures)
     c.push.new.self.items c.carry_out.new.self (vec_len c.push.new.self) (vec_capacity c.push.new.self) c.take.new.self
@@ -29,11 +29,11 @@ invariant_of-self c =
 pub returns-clause-committed : goal.returns-clause-committed
 returns-clause-committed c =
     commits c.args.self.now (seen_as c.self.inside.options c.push.new.self.items c.carry_out.new.self c.take.new.self) c.args.ready.request c.args.ready.done
-    (may_commit c.self.inside.options c.self.inside.journal.items (vec_len c.self.inside.journal) (vec_capacity c.self.inside.journal) c.self.inside.store c.self.inside.readied c.args.self.now
+    (may_commit c.self.inside.options c.self.inside.journal.items (vec_len c.self.inside.journal) (vec_capacity c.self.inside.journal) c.self.inside.store c.self.inside.prepared c.args.self.now
     c.self.view_is c.self.invariant
     c.args.ready.request c.requires.request c.unwrap-readied.result (sym c.take.ensures.value ∙ c.unwrap-readied.ensures))
     c.requires.done
-    (accepted_seen c.self.inside.options c.self.inside.journal.items (vec_len c.self.inside.journal) (vec_capacity c.self.inside.journal) c.self.inside.store c.self.inside.readied c.args.self.now
+    (accepted_seen c.self.inside.options c.self.inside.journal.items (vec_len c.self.inside.journal) (vec_capacity c.self.inside.journal) c.self.inside.store c.self.inside.prepared c.args.self.now
     c.self.view_is c.self.invariant
     c.args.ready.request c.requires.request c.unwrap-readied.result (sym c.take.ensures.value ∙ c.unwrap-readied.ensures)
     c.push.new.self.items c.carry_out.new.self c.take.new.self (rw c.unwrap.ensures at c.push.ensures.items) c.take.ensures.after)

@@ -1,21 +1,21 @@
 use Rattle.std.proofs.Common.{arith, vec_len}
 use Rattle.std.specs.Vec.{vec_capacity}
-use Rattle.pol_repo.proofs.Standing.{counts, few_steps, prepared, prepared_done, prepared_no_fault, prepared_rises, prepared_seen, refused, refused_cause, settled}
+use Rattle.pol_repo.proofs.Standing.{counts, few_steps, prepared, prepared_done, prepared_no_fault, prepared_rises, prepared_seen, refused, refused_cause, stands_for_some}
 use Rattle.pol_repo.proofs.repo.Repo.prepare.Goals as goal
 
-pub ready_in-requires-clause-settled : goal.ready_in-requires-clause-settled
-ready_in-requires-clause-settled g c =
-    settled c.self.inside.options c.self.inside.journal.items (vec_len c.self.inside.journal) (vec_capacity c.self.inside.journal) c.self.inside.store c.self.inside.readied c.args.self.now
+pub ready_in-requires-clause-stands : goal.ready_in-requires-clause-stands
+ready_in-requires-clause-stands g c =
+    stands_for_some c.self.inside.options c.self.inside.journal.items (vec_len c.self.inside.journal) (vec_capacity c.self.inside.journal) c.self.inside.store c.self.inside.prepared c.args.self.now
     c.self.view_is c.self.invariant c.requires.idle
 
 pub ready_in-requires-clause-counts : goal.ready_in-requires-clause-counts
 ready_in-requires-clause-counts g c =
-    counts c.self.inside.options c.self.inside.journal.items (vec_len c.self.inside.journal) (vec_capacity c.self.inside.journal) c.self.inside.store c.self.inside.readied c.args.self.now
+    counts c.self.inside.options c.self.inside.journal.items (vec_len c.self.inside.journal) (vec_capacity c.self.inside.journal) c.self.inside.store c.self.inside.prepared c.args.self.now
     c.self.view_is c.self.invariant
 
 pub answer-done-requires : goal.answer-done-requires
 answer-done-requires g c = record {
-  room = prepared_rises c.self.inside.options c.self.inside.journal.items (vec_len c.self.inside.journal) (vec_capacity c.self.inside.journal) c.self.inside.store c.self.inside.readied c.args.self.now
+  room = prepared_rises c.self.inside.options c.self.inside.journal.items (vec_len c.self.inside.journal) (vec_capacity c.self.inside.journal) c.self.inside.store c.self.inside.prepared c.args.self.now
       c.self.view_is c.self.invariant c.requires.idle
       c.args.request c.ready_in.new.journal.items c.ready_in.new.store c.ready_in.ensures.journal
       c.in-Ok.readied c.in-Ok.ensures.rises c.in-Ok.ensures.readied;
@@ -23,28 +23,28 @@ answer-done-requires g c = record {
 
 pub invariant_of-self : goal.invariant_of-self
 invariant_of-self g c =
-    prepared c.self.inside.options c.self.inside.journal.items (vec_len c.self.inside.journal) (vec_capacity c.self.inside.journal) c.self.inside.store c.self.inside.readied c.args.self.now
+    prepared c.self.inside.options c.self.inside.journal.items (vec_len c.self.inside.journal) (vec_capacity c.self.inside.journal) c.self.inside.store c.self.inside.prepared c.args.self.now
     c.self.view_is c.self.invariant c.requires.idle
     c.args.request c.ready_in.new.journal.items c.ready_in.new.store c.ready_in.ensures.journal
     c.in-Ok.readied (vec_len c.ready_in.new.journal) (vec_capacity c.ready_in.new.journal) c.in-Ok.ensures.rises c.in-Ok.ensures.room c.in-Ok.ensures.readied
 
 pub returns-in-Ok-clause-no_fault : goal.returns-in-Ok-clause-no_fault
 returns-in-Ok-clause-no_fault g c =
-    prepared_no_fault c.self.inside.options c.self.inside.journal.items (vec_len c.self.inside.journal) (vec_capacity c.self.inside.journal) c.self.inside.store c.self.inside.readied c.args.self.now
+    prepared_no_fault c.self.inside.options c.self.inside.journal.items (vec_len c.self.inside.journal) (vec_capacity c.self.inside.journal) c.self.inside.store c.self.inside.prepared c.args.self.now
     c.self.view_is c.self.invariant c.requires.idle
     c.args.request c.ready_in.new.journal.items c.ready_in.new.store c.ready_in.ensures.journal
     c.in-Ok.readied c.in-Ok.ensures.readied
 
 pub returns-in-Ok-clause-done : goal.returns-in-Ok-clause-done
 returns-in-Ok-clause-done g c =
-    prepared_done c.self.inside.options c.self.inside.journal.items (vec_len c.self.inside.journal) (vec_capacity c.self.inside.journal) c.self.inside.store c.self.inside.readied c.args.self.now
+    prepared_done c.self.inside.options c.self.inside.journal.items (vec_len c.self.inside.journal) (vec_capacity c.self.inside.journal) c.self.inside.store c.self.inside.prepared c.args.self.now
     c.self.view_is c.self.invariant c.requires.idle
     c.args.request c.ready_in.new.journal.items c.ready_in.new.store c.ready_in.ensures.journal
     c.in-Ok.readied c.answer-done.result c.in-Ok.ensures.readied c.answer-done.ensures.answer
 
-pub returns-in-Ok-clause-readied : goal.returns-in-Ok-clause-readied
-returns-in-Ok-clause-readied g c =
-    prepared_seen c.self.inside.options c.self.inside.journal.items (vec_len c.self.inside.journal) (vec_capacity c.self.inside.journal) c.self.inside.store c.self.inside.readied c.args.self.now
+pub returns-in-Ok-clause-prepared : goal.returns-in-Ok-clause-prepared
+returns-in-Ok-clause-prepared g c =
+    prepared_seen c.self.inside.options c.self.inside.journal.items (vec_len c.self.inside.journal) (vec_capacity c.self.inside.journal) c.self.inside.store c.self.inside.prepared c.args.self.now
     c.self.view_is c.self.invariant c.requires.idle
     c.args.request c.ready_in.new.journal.items c.ready_in.new.store c.ready_in.ensures.journal
     c.in-Ok.readied c.in-Ok.ensures.readied
@@ -54,20 +54,20 @@ returns-in-Ok-clause-cost g c = λ other.
     omega (
       arith,
       c.ready_in.ensures.cost other,
-      few_steps c.self.inside.options c.self.inside.journal.items (vec_len c.self.inside.journal) (vec_capacity c.self.inside.journal) c.self.inside.store c.self.inside.readied c.args.self.now
+      few_steps c.self.inside.options c.self.inside.journal.items (vec_len c.self.inside.journal) (vec_capacity c.self.inside.journal) c.self.inside.store c.self.inside.prepared c.args.self.now
           c.self.view_is c.self.invariant c.requires.idle c.horizon-horizon.ensures.live,
     )
 
 pub invariant_of-self-in-Err-Fault : goal.invariant_of-self-in-Err-Fault
 invariant_of-self-in-Err-Fault g c =
-    refused c.self.inside.options c.self.inside.journal.items (vec_len c.self.inside.journal) (vec_capacity c.self.inside.journal) c.self.inside.store c.self.inside.readied c.args.self.now
+    refused c.self.inside.options c.self.inside.journal.items (vec_len c.self.inside.journal) (vec_capacity c.self.inside.journal) c.self.inside.store c.self.inside.prepared c.args.self.now
     c.self.view_is c.self.invariant c.requires.idle
     c.args.request c.ready_in.new.journal.items c.ready_in.new.store c.ready_in.ensures.journal
     c.in-Err-Fault.field-0 (vec_len c.ready_in.new.journal) (vec_capacity c.ready_in.new.journal) c.in-Err-Fault.ensures.readied
 
 pub returns-in-Err-Fault-clause-cause : goal.returns-in-Err-Fault-clause-cause
 returns-in-Err-Fault-clause-cause g c =
-    refused_cause c.self.inside.options c.self.inside.journal.items (vec_len c.self.inside.journal) (vec_capacity c.self.inside.journal) c.self.inside.store c.self.inside.readied c.args.self.now
+    refused_cause c.self.inside.options c.self.inside.journal.items (vec_len c.self.inside.journal) (vec_capacity c.self.inside.journal) c.self.inside.store c.self.inside.prepared c.args.self.now
     c.self.view_is c.self.invariant c.requires.idle
     c.args.request c.ready_in.new.journal.items c.ready_in.new.store c.ready_in.ensures.journal
     c.in-Err-Fault.field-0 c.in-Err-Fault.fault c.refused.result c.in-Err-Fault.field-0-is c.refused.ensures.error c.in-Err-Fault.ensures.readied
@@ -77,13 +77,13 @@ returns-in-Err-Fault-clause-cost g c = λ other.
     omega (
       arith,
       c.ready_in.ensures.cost other,
-      few_steps c.self.inside.options c.self.inside.journal.items (vec_len c.self.inside.journal) (vec_capacity c.self.inside.journal) c.self.inside.store c.self.inside.readied c.args.self.now
+      few_steps c.self.inside.options c.self.inside.journal.items (vec_len c.self.inside.journal) (vec_capacity c.self.inside.journal) c.self.inside.store c.self.inside.prepared c.args.self.now
           c.self.view_is c.self.invariant c.requires.idle c.horizon-horizon.ensures.live,
     )
 
 pub invariant_of-self-in-Err-Memory : goal.invariant_of-self-in-Err-Memory
 invariant_of-self-in-Err-Memory g c =
-    refused c.self.inside.options c.self.inside.journal.items (vec_len c.self.inside.journal) (vec_capacity c.self.inside.journal) c.self.inside.store c.self.inside.readied c.args.self.now
+    refused c.self.inside.options c.self.inside.journal.items (vec_len c.self.inside.journal) (vec_capacity c.self.inside.journal) c.self.inside.store c.self.inside.prepared c.args.self.now
     c.self.view_is c.self.invariant c.requires.idle
     c.args.request c.ready_in.new.journal.items c.ready_in.new.store c.ready_in.ensures.journal
     c.in-Err-Memory.field-0 (vec_len c.ready_in.new.journal) (vec_capacity c.ready_in.new.journal) c.in-Err-Memory.ensures.readied
@@ -93,6 +93,6 @@ returns-clause-cost g c = λ other.
     omega (
       arith,
       c.ready_in.ensures.cost other,
-      few_steps c.self.inside.options c.self.inside.journal.items (vec_len c.self.inside.journal) (vec_capacity c.self.inside.journal) c.self.inside.store c.self.inside.readied c.args.self.now
+      few_steps c.self.inside.options c.self.inside.journal.items (vec_len c.self.inside.journal) (vec_capacity c.self.inside.journal) c.self.inside.store c.self.inside.prepared c.args.self.now
           c.self.view_is c.self.invariant c.requires.idle c.horizon-horizon.ensures.live,
     )

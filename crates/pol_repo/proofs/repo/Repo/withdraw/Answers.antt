@@ -7,20 +7,20 @@ use Rattle.pol_repo.proofs.repo.Repo.withdraw.Goals as goal
 pub unwrap-readied-requires : goal.unwrap-readied-requires
 unwrap-readied-requires c =
     subst (λ (o : Option Readied). IsSome o) (sym c.take.ensures.value)
-    (there_is c.self.inside.options c.self.inside.journal.items (vec_len c.self.inside.journal) (vec_capacity c.self.inside.journal) c.self.inside.store c.self.inside.readied c.args.self.now
+    (there_is c.self.inside.options c.self.inside.journal.items (vec_len c.self.inside.journal) (vec_capacity c.self.inside.journal) c.self.inside.store c.self.inside.prepared c.args.self.now
     c.self.view_is c.self.invariant
     c.args.ready.request c.requires.request)
 
 pub take_back-requires : goal.take_back-requires
 take_back-requires c = record {
-  ready = can_be_done c.self.inside.options c.self.inside.journal.items (vec_len c.self.inside.journal) (vec_capacity c.self.inside.journal) c.self.inside.store c.self.inside.readied c.args.self.now
+  ready = can_be_done c.self.inside.options c.self.inside.journal.items (vec_len c.self.inside.journal) (vec_capacity c.self.inside.journal) c.self.inside.store c.self.inside.prepared c.args.self.now
       c.self.view_is c.self.invariant
       c.args.ready.request c.requires.request c.unwrap-readied.result (sym c.take.ensures.value ∙ c.unwrap-readied.ensures);
 }
 
 pub invariant_of-self : goal.invariant_of-self
 invariant_of-self c =
-    withdrawn c.self.inside.options c.self.inside.journal.items (vec_len c.self.inside.journal) (vec_capacity c.self.inside.journal) c.self.inside.store c.self.inside.readied c.args.self.now
+    withdrawn c.self.inside.options c.self.inside.journal.items (vec_len c.self.inside.journal) (vec_capacity c.self.inside.journal) c.self.inside.store c.self.inside.prepared c.args.self.now
     c.self.view_is c.self.invariant
     c.args.ready.request c.requires.request c.unwrap-readied.result (sym c.take.ensures.value ∙ c.unwrap-readied.ensures)
     c.take_back.new.self c.take.new.self c.take.ensures.after c.take_back.ensures.back

@@ -1,3 +1,6 @@
+use Rattle.std.proofs.Common.{subst}
+use Rattle.pol_peers.specs.Numbering.{LosesSelectors}
+use Rattle.pol_store.specs.Store.{Stored}
 use Rattle.pol_store.proofs.UnderWay.{under_way}
 use Rattle.pol_store.proofs.store.Store.carry_out.Goals as goal
 
@@ -17,8 +20,9 @@ change-requires c =
       };
     }
 
-pub returns : goal.returns
-returns c = record {
-  done = λ s request keeps ready.
-      c.change.ensures.done s request keeps (under_way s request c.args.self.now c.args.readied c.begin.new.self ready c.begin.ensures.begun c.begin.ensures.newest) ready.change;
-}
+pub returns-clause-done : goal.returns-clause-done
+returns-clause-done c = λ s request keeps ready.
+    c.change.ensures.done s request keeps (under_way s request c.args.self.now c.args.readied c.begin.new.self ready c.begin.ensures.begun c.begin.ensures.newest) ready.change
+
+pub returns-clause-selectors : goal.returns-clause-selectors
+returns-clause-selectors c = subst (λ (t : Stored). LosesSelectors t.cache c.change.new.self.cache) c.begin.ensures.begun c.change.ensures.selectors

@@ -13,5 +13,5 @@ put_endpoint-requires c =
       within = may.within;
     }
 
-pub returns : goal.returns
-returns c = record { done = endpoint_placed c.args.endpoint c.args.name c.args.self.now c.put_endpoint.new.self c.put_endpoint.ensures.placed }
+pub returns-clause-done : goal.returns-clause-done
+returns-clause-done c = endpoint_placed c.args.endpoint c.args.name c.args.self.now c.put_endpoint.new.self c.put_endpoint.ensures.placed

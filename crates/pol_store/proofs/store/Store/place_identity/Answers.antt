@@ -6,5 +6,5 @@ put_name-requires c =
     let may = name_may_stand c.args.name c.args.number c.args.self.now c.requires.may in
     record { room = may.0; new = may.1 }
 
-pub returns : goal.returns
-returns c = record { done = name_placed c.args.name c.args.number c.args.self.now c.put_name.new.self c.put_name.ensures.placed }
+pub returns-clause-done : goal.returns-clause-done
+returns-clause-done c = name_placed c.args.name c.args.number c.args.self.now c.put_name.new.self c.put_name.ensures.placed

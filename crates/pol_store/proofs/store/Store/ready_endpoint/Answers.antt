@@ -14,7 +14,7 @@ use Rattle.pol_store.proofs.store.Store.ready_endpoint.Goals as goal
 pub returns-in-Some-clause-readied : goal.returns-in-Some-clause-readied
 returns-in-Some-clause-readied g c =
     let old = c.args.self.now in
-    let told = ap (λ (name : List ℕ). endpoint_fault name c.args.labels.now c.args.address old.state.endpoints) (sym c.as_str.ensures) ∙ sym c.in-Some.ensures.fault in
+    let told = ap (λ (name : List ℕ). endpoint_fault old.state name c.args.labels.now c.args.address) (sym c.as_str.ensures) ∙ sym c.in-Some.ensures.fault in
     refused (AddEndpoint c.args.name.now c.args.labels.now c.args.address) old old c.in-Some.fault (same_before old old refl)
     (endpoint_first old.state c.args.name.now c.args.labels.now c.args.address c.in-Some.fault told)
 
@@ -25,8 +25,8 @@ returns-in-Ok-clause-readied g c =
     let new = c.hold_labels.new.self in
     let rooms : Rooms = record old.rooms { endpoints = mid.rooms.endpoints } in
     let labels = c.args.labels.now in
-    let none : endpoint_fault c.args.name.now labels c.args.address old.state.endpoints ≡ None =
-    ap (λ (name : List ℕ). endpoint_fault name labels c.args.address old.state.endpoints) (sym c.as_str.ensures) ∙ sym c.endpoint_fault.ensures.fault ∙ c.in_default.is in
+    let none : endpoint_fault old.state c.args.name.now labels c.args.address ≡ None =
+    ap (λ (name : List ℕ). endpoint_fault old.state name labels c.args.address) (sym c.as_str.ensures) ∙ sym c.endpoint_fault.ensures.fault ∙ c.in_default.is in
     let free = false_from_ne_true (is_exhausted labels mid.state.identities) (λ full. let wrong = c.in-Ok.ensures.exhausted.1 full in absurd cc) in
     let room = ap (λ (stored : Stored). is_exhausted labels stored.state.identities) (sym c.reserve_endpoint.ensures.same) ∙ free in
     let number = c.in-Ok.field-0.number in
@@ -42,8 +42,8 @@ returns-in-Err-Exhausted-clause-readied g c =
     let new = c.hold_labels.new.self in
     let rooms : Rooms = record old.rooms { endpoints = mid.rooms.endpoints } in
     let labels = c.args.labels.now in
-    let none : endpoint_fault c.args.name.now labels c.args.address old.state.endpoints ≡ None =
-    ap (λ (name : List ℕ). endpoint_fault name labels c.args.address old.state.endpoints) (sym c.as_str.ensures) ∙ sym c.endpoint_fault.ensures.fault ∙ c.in_default.is in
+    let none : endpoint_fault old.state c.args.name.now labels c.args.address ≡ None =
+    ap (λ (name : List ℕ). endpoint_fault old.state name labels c.args.address) (sym c.as_str.ensures) ∙ sym c.endpoint_fault.ensures.fault ∙ c.in_default.is in
     let full = ap (λ (stored : Stored). is_exhausted labels stored.state.identities) (sym c.reserve_endpoint.ensures.same) ∙ c.in-Err-Exhausted.ensures.exhausted.0 (ap Err c.in-Err-Exhausted.field-0-is) in
     refused (AddEndpoint c.args.name.now labels c.args.address) old new fault.IdentitiesExhausted
     (before_both old mid new (as_before rooms old mid c.reserve_endpoint.ensures.same) (same_before mid new c.in-Err-Exhausted.ensures.err))

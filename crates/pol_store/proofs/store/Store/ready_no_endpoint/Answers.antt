@@ -6,5 +6,5 @@ use Rattle.pol_store.proofs.store.Store.ready_no_endpoint.Goals as goal
 
 pub plan_release-requires-clause-held : goal.plan_release-requires-clause-held
 plan_release-requires-clause-held g c =
-    endpoint_held c.args.self.now c.requires.settled c.args.name.now c.in-Some.number
+    endpoint_held c.args.self.now c.requires.stands c.args.name.now c.in-Some.number
     (c.in-Some.ensures.number ∙ ap (λ (name : List ℕ). option_map (λ (e : Endpoint). e.identity) (endpoint_of name c.args.self.now.state.endpoints)) c.as_str.ensures)

@@ -13,9 +13,9 @@ release-requires c =
       not_local = may.1;
     }
 
-pub returns : goal.returns
-returns c =
+pub returns-clause-done : goal.returns-clause-done
+returns-clause-done c =
     let old = c.args.self.now in
     let mid = c.drop_endpoint.new.self in
     let gone = subst (λ (name : List ℕ). mid ≡ record old { state = record old.state { endpoints = without_endpoint name old.state.endpoints }; rooms = mid.rooms }) c.as_str.ensures c.drop_endpoint.ensures.gone in
-    record { done = endpoint_gone c.args.name c.args.number old mid c.release.new.self gone c.release.ensures.released }
+    endpoint_gone c.args.name c.args.number old mid c.release.new.self gone c.release.ensures.released

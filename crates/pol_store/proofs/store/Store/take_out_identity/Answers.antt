@@ -14,9 +14,9 @@ release-requires c =
       not_local = may.1;
     }
 
-pub returns : goal.returns
-returns c =
+pub returns-clause-done : goal.returns-clause-done
+returns-clause-done c =
     let old = c.args.self.now in
     let mid = c.drop_name.new.self in
     let same = subst (λ (name : List ℕ). SameNumbers mid.state.named (without_named name old.state.named)) c.as_str.ensures c.drop_name.ensures.numbers in
-    record { done = name_gone c.args.name c.args.number old mid c.release.new.self c.drop_name.ensures.gone same c.release.ensures.released }
+    name_gone c.args.name c.args.number old mid c.release.new.self c.drop_name.ensures.gone same c.release.ensures.released

@@ -1,0 +1,213 @@
+//! What no clause says: that memory is there, that calls return, that each hint is worked on once, and that workers run at
+//! the same time.
+ghost use Rattle.std.specs.Prelude.{◌≡◌, true, Some, None, IfOk};
+ghost use Rattle.pol_pool.specs.Passes.{IsHintPassOf};
+
+use pol_pool::{Calls, Gate, HintPass, Hints, HintsFull, Job, Over, work};
+use std::alloc::{AllocError as Memory, Global};
+use std::sync::Wait;
+use std::sync::atomic::{AtomicBool, AtomicU32, Ordering};
+use std::test::Fail;
+use std::thread;
+use std::thread::Threads;
+
+// What the only pass of a queue with room for one is answered: a hint is put, the next finds no room, the first is taken, and
+// then there is none.
+fn full_and_empty<R: Wait>(
+    rt: &R,
+    alloc: Global,
+    slot: u32,
+) -> Result<(bool, bool, Option<u32>, Option<u32>), Memory>
+    ensures { IfOk result (λ r. r ≡ (true, true, Some slot, None)) }
+{
+    let (hints, mut pass) = Hints::new(alloc, 1)?;
+    let put = hints.put(rt, &mut pass, slot).is_ok();
+    let full = hints.put(rt, &mut pass, slot).is_err();
+    let first = hints.take(rt, &mut pass);
+    let second = hints.take(rt, &mut pass);
+    Ok((put, full, first, second))
+}
+
+#[test]
+fn a_queue_fills_and_empties(rt: HostRuntime) -> Result<(), Fail> {
+    assert!(rt; full_and_empty(&rt, rt.alloc(), 7)? == (true, true, Some(7), None));
+    let (hints, mut pass) = Hints::new(rt.alloc(), 2)?;
+    let mut other = hints.split(&rt, &mut pass)?;
+    assert!(rt; hints.put(&rt, &mut pass, 5).is_ok() && hints.put(&rt, &mut pass, 6).is_ok());
+    assert!(rt; hints.take(&rt, &mut other) == Some(5));
+    hints.join(&rt, &mut pass, other);
+    assert!(rt; hints.take(&rt, &mut pass) == Some(6));
+    Ok(())
+}
+
+// How often each slot was worked on.
+#[derive(Drop)]
+struct Counts {
+    counts: Vec<AtomicU32>,
+}
+
+impl Job for Counts {
+    fn run<R: Wait>(&self, _rt: &R, _alloc: Global, slot: u32) -> Result<(), Memory> {
+        if let Some(count) = self.counts.as_slice().get(slot as usize) {
+            count.fetch_add(1, Ordering::SeqCst);
+        }
+        Ok(())
+    }
+}
+
+// Holds the first call until the second has ended, for so many turns at most.
+#[derive(Drop)]
+struct FirstWaits {
+    second_ended: AtomicBool,
+    saw: AtomicBool,
+}
+
+impl Gate for FirstWaits {
+    fn start<R: Wait>(&self, _rt: &R, _session: u32) {}
+
+    fn enter<R: Wait>(&self, _rt: &R, call: u32) {
+        if call != 1 {
+            return;
+        }
+        for _ in 0..100_000_000u32 {
+            if self.second_ended.load(Ordering::SeqCst) {
+                self.saw.store(true, Ordering::SeqCst);
+                return;
+            }
+            thread::yield_now();
+        }
+    }
+
+    fn leave<R: Wait>(&self, _rt: &R, call: u32) {
+        if call == 2 {
+            self.second_ended.store(true, Ordering::SeqCst);
+        }
+    }
+}
+
+// What two threads that put and two that take share.
+#[derive(Drop)]
+struct Yard {
+    hints: Hints,
+    half: u32,
+    counts: Counts,
+    gate: FirstWaits,
+    calls: Calls,
+    over: Over,
+}
+
+impl Yard {
+    // The threads 0 and 1 put half of the hints each, and the others take them.
+    fn play<R: Wait>(&self, rt: &R, alloc: Global, mut pass: HintPass, thread: u32) -> bool
+        requires { IsHintPassOf self.now.hints pass }
+    {
+        if thread < 2 {
+            self.put_half(rt, pass, thread);
+            return true;
+        }
+        let Yard {
+            hints,
+            counts,
+            gate,
+            calls,
+            over,
+            ..
+        } = self;
+        work(rt, alloc, hints, &mut pass, counts, gate, calls, over).is_ok()
+    }
+
+    // Waits where the queue is full.
+    fn put_half<R: Wait>(&self, rt: &R, mut pass: HintPass, thread: u32)
+        requires { IsHintPassOf self.now.hints pass }
+    {
+        let mut left = self.half;
+        for _ in rt.forever() {
+            if left == 0 {
+                return;
+            }
+            let slot = self.half.wrapping_mul(thread).wrapping_add(left - 1);
+            match self.hints.put(rt, &mut pass, slot) {
+                Ok(()) => left -= 1,
+                Err(HintsFull) => thread::yield_now(),
+            }
+        }
+    }
+
+    // Two threads next to each other. Behind those that put, the end is told.
+    fn two<R: Threads + Wait + Sync>(
+        &self,
+        rt: &R,
+        alloc: Global,
+        one: HintPass,
+        two: HintPass,
+        thread: u32,
+    ) -> bool
+        requires one { IsHintPassOf self.now.hints one }
+        requires two { IsHintPassOf self.now.hints two }
+    {
+        let (first, second) = thread::join(
+            rt,
+            move ||
+                requires { IsHintPassOf self.now.hints one }
+            { self.play(rt, alloc, one, thread) },
+            move ||
+                requires { IsHintPassOf self.now.hints two }
+            { self.play(rt, alloc, two, thread.saturating_add(1)) },
+        );
+        if thread == 0 {
+            self.over.set();
+        }
+        first && second
+    }
+}
+
+// Twice so many hints, put by two threads and worked on by two workers, the first of which is held in its gate until the
+// other has gone on.
+fn is_each_worked_on_once<R: Threads + Wait + Sync>(
+    rt: &R,
+    alloc: Global,
+    half: u32,
+) -> Result<bool, Memory> {
+    let mut counts = Vec::new(alloc);
+    for _ in 0..half as u64 * 2 {
+        counts.push(AtomicU32::new(0))?;
+    }
+    let (hints, mut pass) = Hints::new(alloc, 64)?;
+    let one = hints.split(rt, &mut pass)?;
+    let two = hints.split(rt, &mut pass)?;
+    let three = hints.split(rt, &mut pass)?;
+    let yard = Yard {
+        hints,
+        half,
+        counts: Counts { counts },
+        gate: FirstWaits {
+            second_ended: AtomicBool::new(false),
+            saw: AtomicBool::new(false),
+        },
+        calls: Calls::new(),
+        over: Over::new(),
+    };
+    let shared = &yard;
+    let (put, taken) = thread::join(
+        rt,
+        move ||
+            requires { IsHintPassOf shared.now.hints pass × IsHintPassOf shared.now.hints one }
+        { shared.two(rt, alloc, pass, one, 0) },
+        move ||
+            requires { IsHintPassOf shared.now.hints two × IsHintPassOf shared.now.hints three }
+        { shared.two(rt, alloc, two, three, 2) },
+    );
+    let once = yard
+        .counts
+        .counts
+        .as_slice()
+        .iter()
+        .all(|count| count.load(Ordering::SeqCst) == 1);
+    Ok(put && taken && once && yard.gate.saw.load(Ordering::SeqCst))
+}
+
+#[test]
+fn each_hint_is_worked_on_once(rt: HostRuntime) -> Result<(), Fail> {
+    assert!(rt; is_each_worked_on_once(&rt, rt.alloc(), 50_000)?);
+    Ok(())
+}
