@@ -3,3 +3,4 @@ pub mod LabelPeers
 pub mod Longest
 pub mod Sides
 pub mod Standing
+pub mod Taking

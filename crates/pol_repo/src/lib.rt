@@ -11,6 +11,8 @@ pub mod laws;
 mod look;
 mod prepare;
 mod repo;
+mod take;
 
+pub use pol_taken::{Addresses, Move, Moves, SetRow, Sets, TakeError, Taken};
 pub use prepare::Ready;
 pub use repo::Repo;
