@@ -1,5 +1,5 @@
-//! Times look-ups in tables of 1,000 and 65,535 prefixes, beside a scan of the list of their entries. The figures
-//! go to standard error.
+//! Times look-ups in tables of 1,000 and 65,535 prefixes, beside a scan of the list of their entries, and how long it takes to
+//! fill and to empty them. The figures go to standard error.
 #![tactic(auto)]
 
 use anyhow::Result;
@@ -84,10 +84,21 @@ fn differing(table: &PrefixTable, list: &[(Prefix, u32)], count: u32) -> u32 {
     differ
 }
 
+/// Takes the prefixes out. How many were there.
+fn emptied(table: &mut PrefixTable, list: &[(Prefix, u32)]) -> u32 {
+    let mut removed = 0u32;
+    for entry in list {
+        if table.remove(entry.0).is_some() {
+            removed = removed.wrapping_add(1);
+        }
+    }
+    removed
+}
+
 fn measure<R: Clock + Eprint + AllocGlobal>(rt: &R, count: u32) -> Result<()> {
     let list = prefixes(rt.alloc(), count)?;
     let start = Instant::now(rt)?;
-    let table = table_of(rt.alloc(), list.as_slice())?;
+    let mut table = table_of(rt.alloc(), list.as_slice())?;
     let filled = start.elapsed(rt)?.as_nanos() / 1000;
     let start = Instant::now(rt)?;
     let found = found_in_table(&table, LOOK_UPS);
@@ -96,8 +107,12 @@ fn measure<R: Clock + Eprint + AllocGlobal>(rt: &R, count: u32) -> Result<()> {
     let scanned = found_by_scan(list.as_slice(), SCANS);
     let scan_time = start.elapsed(rt)?.as_nanos() / u128::from(SCANS);
     let differ = differing(&table, list.as_slice(), SCANS);
+    let nodes = table.nodes();
+    let start = Instant::now(rt)?;
+    let removed = emptied(&mut table, list.as_slice());
+    let removal_time = start.elapsed(rt)?.as_nanos() / 1000;
     eprintln!(rt;
-        "{count} prefixes: filled in {filled} us, find {looked} ns ({found} found), scan {scan_time} ns ({scanned} found), {differ} differ"
+        "{count} prefixes, {nodes} nodes: filled in {filled} us, emptied in {removal_time} us ({removed} removed), find {looked} ns ({found} found), scan {scan_time} ns ({scanned} found), {differ} differ"
     )?;
     Ok(())
 }

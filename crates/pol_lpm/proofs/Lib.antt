@@ -11,6 +11,7 @@ pub mod Maps
 pub mod Scan
 pub mod Reached
 pub mod StartLists
+pub mod Slots
 pub mod Sums
 pub mod Balance
 pub mod Tight

@@ -1,10 +1,9 @@
 -- The trie as a finite map.
-use Rattle.std.proofs.Common.{◌≡◌, ℕ, ◌≤◌, ◌↔◌, subst, true, cond, IsSome, is_some, IsNone, IfSome, IfNone, IsTrue, List, [], ◌∷◌, Option, Some, None, refl, sym, ap, ◌∙◌, arith}
+use Rattle.std.proofs.Common.{◌≡◌, ℕ, ◌≤◌, ◌↔◌, subst, true, cond, IsSome, is_some, IsNone, IfSome, IfNone, IsTrue, Option, Some, None, refl, sym, ap, ◌∙◌, arith}
 use Rattle.std.proofs.lemmas.Option.{none-some}
 use Rattle.std.specs.Ordering.{eq_by_cmp}
 use Rattle.std.specs.FinMap as map
-use Rattle.std.specs.List.{AllZip}
-use Rattle.slab.specs.Slab.{Slab, get, IsSlotClone, IsSlabClone}
+use Rattle.slab.specs.Slab.{Slab, get}
 use Rattle.pol_addr.specs.declared.address.Addr.{Addr}
 use Rattle.pol_addr.specs.declared.network.Prefix.{Prefix}
 use Rattle.pol_addr.specs.Prefix.{host_prefix, contains, covers}
@@ -92,18 +91,3 @@ module _ (s : Slab Node) (t : IsTree (get s)) (addr : Addr) where
     λ is. absurd (cc),
     λ no. let m = longest_match x h in absurd (no m.prefix (ap is_some m.found, m.inside)),
   )
-
--- ---- a copy
-same_slots : (slots copies : List (Option Node)) → AllZip (IsSlotClone (λ (n copy : Node). copy ≡ n)) slots copies → copies ≡ slots
-same_slots [] [] all = refl
-same_slots [] (c ∷ copies) all = absurd all
-same_slots (x ∷ slots) [] all = absurd all
-same_slots (None ∷ slots) (c ∷ copies) all = λ i. all.0 i ∷ same_slots slots copies all.1 i
-same_slots (Some n ∷ slots) (None ∷ copies) all = absurd all.0
-same_slots (Some n ∷ slots) (Some m ∷ copies) all = λ i. Some (all.0 i) ∷ same_slots slots copies all.1 i
-
-pub copied : (s copy : Slab Node) → IsSlabClone (λ (n copy : Node). copy ≡ n) s copy → copy ≡ record s { capacity = copy.capacity }
-copied s copy h =
-    let slots = same_slots s.slots copy.slots h.slots in
-    let vacant = h.vacant_key in
-    λ i. record { slots = slots i; vacant_key = vacant i; capacity = copy.capacity }

@@ -5,11 +5,11 @@ ghost use Rattle.pol_lpm.specs.declared.node.Node.{Node};
 ghost use Rattle.pol_lpm.specs.Sizes.{weight, IsTightBut, IsTight, loosened};
 ghost use Rattle.pol_lpm.specs.Trie.{IsTrie, HasRoot, FitsBelow, HasOnly, Numbers, SameNumbers, StillThere, AllStillThere, number_of, with_child};
 
-use crate::node::{Node, link_of};
-use slab::Slab;
+use crate::node::Node;
+use crate::nodes::Nodes;
 
 /// Puts this key on one side of a node.
-fn link(nodes: &mut Slab<Node>, at: usize, high: bool, key: Option<usize>)
+fn link(nodes: &mut Nodes, at: usize, high: bool, key: Option<usize>)
     requires there { ContainsKey nodes.old at }
     requires small { IfSome key (λ k. k + 1 < 2 ^ 32) }
     ensures updates { (n : Node) → get nodes.old at ≡ Some n → Updates nodes.old nodes.new at (Some (with_child n high key)) }
@@ -17,17 +17,12 @@ fn link(nodes: &mut Slab<Node>, at: usize, high: bool, key: Option<usize>)
     ensures capacity { nodes.new.capacity ≡ nodes.old.capacity }
     ensures vacant_key { nodes.new.vacant_key ≡ nodes.old.vacant_key }
 {
-    let link = link_of(key);
-    let node = &mut nodes[at];
-    if high {
-        node.high = link;
-    } else {
-        node.low = link;
-    }
+    let node = nodes.at(at).with_child(high, key);
+    nodes.set(at, node);
 }
 
 /// Gives a node this number, or none.
-pub(crate) fn set_number(nodes: &mut Slab<Node>, at: usize, number: Option<u32>)
+pub(crate) fn set_number(nodes: &mut Nodes, at: usize, number: Option<u32>)
     requires trie { IsTrie nodes.old }
     requires there { ContainsKey nodes.old at }
     ensures trie { IsTrie nodes.new }
@@ -38,11 +33,13 @@ pub(crate) fn set_number(nodes: &mut Slab<Node>, at: usize, number: Option<u32>)
     ensures len { slab_len nodes.new ≡ slab_len nodes.old }
     ensures capacity { nodes.new.capacity ≡ nodes.old.capacity }
 {
-    nodes[at].number = number;
+    let mut node = nodes.at(at);
+    node.number = number;
+    nodes.set(at, node);
 }
 
 /// Puts a node below another on one side, over what stood there. Gives its key.
-pub(crate) fn attach(nodes: &mut Slab<Node>, parent: usize, high: bool, node: Node) -> usize
+pub(crate) fn attach(nodes: &mut Nodes, parent: usize, high: bool, node: Node) -> usize
     requires trie { IsTrie nodes.old }
     requires fits { FitsBelow nodes.old parent high node }
     requires room { HasRoomFor nodes.old 1 }
@@ -63,13 +60,7 @@ pub(crate) fn attach(nodes: &mut Slab<Node>, parent: usize, high: bool, node: No
 }
 
 /// Takes out a node without a number that has at most one child, and puts the child in its place.
-pub(crate) fn splice(
-    nodes: &mut Slab<Node>,
-    parent: usize,
-    high: bool,
-    at: usize,
-    only: Option<usize>,
-)
+pub(crate) fn splice(nodes: &mut Nodes, parent: usize, high: bool, at: usize, only: Option<usize>)
     requires trie { IsTrie nodes.old }
     requires only { HasOnly nodes.old parent high at only }
     requires small { IfSome only (λ k. k + 1 < 2 ^ 32) }

@@ -1,13 +1,15 @@
 //! A table from prefixes to numbers, looked up by the longest prefix that contains an address.
 //!
-//! The table is a path-compressed binary trie, whose nodes stand under keys in one slab. A look-up starts at the longest node
+//! The table is a path-compressed binary trie, whose nodes stand under keys in one list. A look-up starts at the longest node
 //! over the address's first bits, which a second table keeps.
 #![tactic(auto)]
 
 mod edit;
 pub mod laws;
 mod node;
+mod nodes;
 mod put;
+mod slot;
 mod starts;
 mod table;
 mod take;

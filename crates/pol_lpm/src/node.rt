@@ -3,11 +3,10 @@ ghost use Rattle.std.specs.Prelude.{◌≡◌, ◌+◌, ◌<◌, ◌≤◌, ◌^
 ghost use Rattle.pol_lpm.specs.Links.{key_of, link_of};
 
 use pol_addr::Prefix;
-use std::alloc::AllocError;
 
 /// A prefix with its number, if it has one, and the links to the nodes below it on either side. A link is the key and one, or 0
-/// for none, so that a node takes 24 bytes.
-#[derive(Debug, Drop)]
+/// for none.
+#[derive(Clone, Copy, Debug)]
 pub(crate) struct Node {
     pub(crate) prefix: Prefix,
     pub(crate) number: Option<u32>,
@@ -18,7 +17,7 @@ pub(crate) struct Node {
 }
 
 /// The link to this key.
-pub(crate) fn link_of(key: Option<usize>) -> u32
+fn link_of(key: Option<usize>) -> u32
     requires { IfSome key (λ k. k + 1 < 2 ^ 32) }
     ensures { result ≡ link_of key }
 {
@@ -66,11 +65,19 @@ impl Node {
         ensures { result ≡ with_child (record { prefix = prefix; number = number; low = 0; high = 0 }) (bit_of below.now prefix.len) (Some key) }
     {
         let _ = below.len();
-        let mut node = Node::leaf(prefix, number);
-        if below.bit(node.prefix.len()) {
-            node.high = link_of(Some(key));
+        Node::leaf(prefix, number).with_child(below.bit(prefix.len()), Some(key))
+    }
+
+    /// The node with this key below it on this side.
+    pub(crate) fn with_child(self, high: bool, key: Option<usize>) -> Node
+        requires small { IfSome key (λ k. k + 1 < 2 ^ 32) }
+        ensures { result ≡ with_child self high key }
+    {
+        let mut node = self;
+        if high {
+            node.high = link_of(key);
         } else {
-            node.low = link_of(Some(key));
+            node.low = link_of(key);
         }
         node
     }
@@ -96,18 +103,5 @@ impl Node {
         ensures small { IfSome result (λ k. k + 1 < 2 ^ 32) }
     {
         self.child(false).or(self.child(true))
-    }
-}
-
-impl Clone for Node {
-    ghost is_clone = { λ node copy. copy ≡ node };
-
-    fn clone(&self) -> Result<Self, AllocError> {
-        Ok(Node {
-            prefix: self.prefix,
-            number: self.number,
-            low: self.low,
-            high: self.high,
-        })
     }
 }

@@ -8,12 +8,12 @@ ghost use Rattle.pol_lpm.specs.Trie.{IsTrie, HasRoot, IsSpot, Numbers, SameNumbe
 
 use crate::edit::{attach, set_number};
 use crate::node::Node;
+use crate::nodes::Nodes;
 use crate::walk::spot_of;
 use pol_addr::Prefix;
-use slab::Slab;
 
 /// Makes the root, if no node is there yet.
-fn make_root(nodes: &mut Slab<Node>)
+fn make_root(nodes: &mut Nodes)
     requires trie { IsTrie nodes.old }
     requires tight { IsTight nodes.old }
     requires room { HasRoomFor nodes.old 1 }
@@ -33,7 +33,7 @@ fn make_root(nodes: &mut Slab<Node>)
 
 /// Puts the number under the prefix, and makes the root before, if no node is there yet. Gives the prefix of the node below
 /// which that changes nodes.
-pub(crate) fn put(nodes: &mut Slab<Node>, prefix: Prefix, number: u32) -> Prefix
+pub(crate) fn put(nodes: &mut Nodes, prefix: Prefix, number: u32) -> Prefix
     requires trie { IsTrie nodes.old }
     requires tight { IsTight nodes.old }
     requires room { HasRoomFor nodes.old 3 }
@@ -50,7 +50,7 @@ pub(crate) fn put(nodes: &mut Slab<Node>, prefix: Prefix, number: u32) -> Prefix
 }
 
 /// The same where the root is there.
-fn put_below(nodes: &mut Slab<Node>, prefix: Prefix, number: u32) -> Prefix
+fn put_below(nodes: &mut Nodes, prefix: Prefix, number: u32) -> Prefix
     requires trie { IsTrie nodes.old }
     requires tight { IsTight nodes.old }
     requires rooted { HasRoot (get nodes.old) }
@@ -67,13 +67,13 @@ fn put_below(nodes: &mut Slab<Node>, prefix: Prefix, number: u32) -> Prefix
         return prefix;
     }
     let spot = spot_of(nodes, &prefix);
-    let over = nodes[spot.0].prefix;
+    let over = nodes.at(spot.0).prefix;
     put_in(nodes, spot, prefix, number);
     over
 }
 
 /// The same in the prefix's spot.
-fn put_in(nodes: &mut Slab<Node>, spot: (usize, bool), prefix: Prefix, number: u32)
+fn put_in(nodes: &mut Nodes, spot: (usize, bool), prefix: Prefix, number: u32)
     requires trie { IsTrie nodes.old }
     requires tight { IsTight nodes.old }
     requires spot { IsSpot nodes.old prefix spot.0 spot.1 }
@@ -84,7 +84,7 @@ fn put_in(nodes: &mut Slab<Node>, spot: (usize, bool), prefix: Prefix, number: u
     ensures numbers { Numbers nodes.old nodes.new prefix (Some number) }
     ensures kept { AllStillThere nodes.old nodes.new }
 {
-    match nodes[spot.0].child(spot.1) {
+    match nodes.at(spot.0).child(spot.1) {
         None => {
             attach(nodes, spot.0, spot.1, Node::leaf(prefix, Some(number)));
         }
@@ -93,7 +93,7 @@ fn put_in(nodes: &mut Slab<Node>, spot: (usize, bool), prefix: Prefix, number: u
 }
 
 /// The same where a node is in the spot already.
-fn put_over(nodes: &mut Slab<Node>, spot: (usize, bool), below: usize, prefix: Prefix, number: u32)
+fn put_over(nodes: &mut Nodes, spot: (usize, bool), below: usize, prefix: Prefix, number: u32)
     requires trie { IsTrie nodes.old }
     requires tight { IsTight nodes.old }
     requires spot { IsSpot nodes.old prefix spot.0 spot.1 }
@@ -106,7 +106,7 @@ fn put_over(nodes: &mut Slab<Node>, spot: (usize, bool), below: usize, prefix: P
     ensures numbers { Numbers nodes.old nodes.new prefix (Some number) }
     ensures kept { AllStillThere nodes.old nodes.new }
 {
-    let other = nodes[below].prefix;
+    let other = nodes.at(below).prefix;
     if other == prefix {
         set_number(nodes, below, Some(number));
     } else if prefix.covers(&other) {
@@ -118,13 +118,7 @@ fn put_over(nodes: &mut Slab<Node>, spot: (usize, bool), below: usize, prefix: P
 }
 
 /// The same where that node and the prefix part below the spot: a node without a number comes over both.
-fn put_beside(
-    nodes: &mut Slab<Node>,
-    spot: (usize, bool),
-    below: usize,
-    prefix: Prefix,
-    number: u32,
-)
+fn put_beside(nodes: &mut Nodes, spot: (usize, bool), below: usize, prefix: Prefix, number: u32)
     requires trie { IsTrie nodes.old }
     requires tight { IsTight nodes.old }
     requires spot { IsSpot nodes.old prefix spot.0 spot.1 }
@@ -140,7 +134,7 @@ fn put_beside(
     ensures numbers { Numbers nodes.old nodes.new prefix (Some number) }
     ensures kept { AllStillThere nodes.old nodes.new }
 {
-    let other = nodes[below].prefix;
+    let other = nodes.at(below).prefix;
     let fork = prefix.common(&other);
     let len = fork.len();
     let node = Node::over(fork, None, &other, below);

@@ -5,10 +5,9 @@ ghost use Rattle.pol_addr.specs.Prefix.{covers, host_prefix};
 ghost use Rattle.pol_lpm.specs.Trie.{IsTrie, HasRoot, IsNumberOver, NoNumberOver};
 ghost use Rattle.pol_lpm.specs.Starts.{HasReached, AreStarts, AreStartsOutside};
 
-use crate::node::Node;
+use crate::nodes::Nodes;
 use crate::walk::{Reached, at_root, to_end};
 use pol_addr::{Addr, Prefix};
-use slab::Slab;
 use std::alloc::{AllocError as Memory, Global};
 
 /// The most bits that a prefix with a start has.
@@ -29,7 +28,7 @@ fn bits_for(nodes: usize) -> Option<u8>
 }
 
 /// The start of a prefix.
-fn start_over(nodes: &Slab<Node>, over: Prefix) -> Reached
+fn start_over(nodes: &Nodes, over: Prefix) -> Reached
     requires trie { IsTrie nodes.now }
     requires rooted { HasRoot (get nodes.now) }
     ensures to { result.to ≡ over }
@@ -39,7 +38,7 @@ fn start_over(nodes: &Slab<Node>, over: Prefix) -> Reached
 }
 
 /// Makes starts for more bits, where the table has outgrown those that it has.
-pub(crate) fn grow(nodes: &Slab<Node>, starts: &mut Vec<Reached>) -> Result<(), Memory>
+pub(crate) fn grow(nodes: &Nodes, starts: &mut Vec<Reached>) -> Result<(), Memory>
     requires trie { IsTrie nodes.now }
     requires starts { AreStarts nodes.now starts.old.items }
     ensures { AreStarts nodes.now starts.new.items }
@@ -54,7 +53,7 @@ pub(crate) fn grow(nodes: &Slab<Node>, starts: &mut Vec<Reached>) -> Result<(), 
 }
 
 /// Makes the starts of all prefixes of this length.
-fn fill(nodes: &Slab<Node>, starts: &mut Vec<Reached>, bits: u8) -> Result<(), Memory>
+fn fill(nodes: &Nodes, starts: &mut Vec<Reached>, bits: u8) -> Result<(), Memory>
     requires trie { IsTrie nodes.now }
     requires rooted { HasRoot (get nodes.now) }
     requires some { 0 < bits }
@@ -72,7 +71,7 @@ fn fill(nodes: &Slab<Node>, starts: &mut Vec<Reached>, bits: u8) -> Result<(), M
 }
 
 /// The start once more, where the prefix covers the start's.
-fn renewed(nodes: &Slab<Node>, over: &Prefix, start: Reached) -> Reached
+fn renewed(nodes: &Nodes, over: &Prefix, start: Reached) -> Reached
     requires trie { IsTrie nodes.now }
     requires rooted { HasRoot (get nodes.now) }
     requires outside { covers over.now start.to ≡ false → HasReached nodes.now start }
@@ -87,7 +86,7 @@ fn renewed(nodes: &Slab<Node>, over: &Prefix, start: Reached) -> Reached
 }
 
 /// Makes the starts of all prefixes that this one covers once more.
-pub(crate) fn renew(nodes: &Slab<Node>, starts: &mut Vec<Reached>, over: &Prefix)
+pub(crate) fn renew(nodes: &Nodes, starts: &mut Vec<Reached>, over: &Prefix)
     requires trie { IsTrie nodes.now }
     requires rooted { HasRoot (get nodes.now) }
     requires outside { AreStartsOutside nodes.now over.now starts.old.items }
@@ -107,7 +106,7 @@ fn place_of(addr: Addr, starts: usize) -> usize {
 }
 
 /// Where a walk to an address may begin: at its start, or else at the root.
-fn start_of(nodes: &Slab<Node>, starts: &[Reached], addr: Addr) -> Reached
+fn start_of(nodes: &Nodes, starts: &[Reached], addr: Addr) -> Reached
     requires trie { IsTrie nodes.now }
     requires rooted { HasRoot (get nodes.now) }
     requires starts { AreStarts nodes.now starts.now }
@@ -127,7 +126,7 @@ fn start_of(nodes: &Slab<Node>, starts: &[Reached], addr: Addr) -> Reached
 }
 
 /// The number of the longest node that covers the address.
-pub(crate) fn longest_over(nodes: &Slab<Node>, starts: &[Reached], addr: Addr) -> Option<u32>
+pub(crate) fn longest_over(nodes: &Nodes, starts: &[Reached], addr: Addr) -> Option<u32>
     requires trie { IsTrie nodes.now }
     requires starts { AreStarts nodes.now starts.now }
     ensures found { IfSome result (IsNumberOver nodes.now (host_prefix addr)) }

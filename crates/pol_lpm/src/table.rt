@@ -3,13 +3,12 @@ ghost use Rattle.std.specs.Prelude.{◌≡◌, ◌+◌, ◌*◌, ◌≤◌, ◌�
 ghost use Rattle.std.specs.FinMap as map;
 ghost use Rattle.pol_lpm.specs.Table.{IsLongestMatch, NoneMatches, look_up};
 
-use crate::node::Node;
+use crate::nodes::Nodes;
 use crate::put::put;
 use crate::starts::{copied, grow, longest_over, renew};
 use crate::take::take;
 use crate::walk::Reached;
 use pol_addr::{Addr, Prefix};
-use slab::Slab;
 use std::alloc::{AllocError as Memory, Global};
 use std::marker::Model;
 
@@ -20,7 +19,7 @@ const MOST_NODES: usize = 4_294_967_295;
 /// (longest-prefix match, RFC 4632, section 5.1).
 #[derive(Drop)]
 pub struct PrefixTable {
-    nodes: Slab<Node>,
+    nodes: Nodes,
     // In the order of their prefixes, which all have one length. None in a small table.
     starts: Vec<Reached>,
 }
@@ -47,7 +46,7 @@ impl PrefixTable {
         ensures { result ≡ map.empty }
     {
         PrefixTable {
-            nodes: Slab::new(alloc),
+            nodes: Nodes::new(alloc),
             starts: Vec::new(alloc),
         }
     }
@@ -101,7 +100,7 @@ impl PrefixTable {
         ensures { IfOk result (λ copy. copy ≡ self.now) }
     {
         Ok(PrefixTable {
-            nodes: self.nodes.clone()?,
+            nodes: self.nodes.copy(alloc)?,
             starts: copied(alloc, self.starts.as_slice())?,
         })
     }

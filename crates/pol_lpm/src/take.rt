@@ -7,13 +7,12 @@ ghost use Rattle.pol_lpm.specs.Sizes.{weight, IsTightBut, IsTight};
 ghost use Rattle.pol_lpm.specs.Trie.{IsTrie, HasRoot, IsNodeOf, IsSpot, Numbers, SameNumbers, StillThere, StillThereOutside, number_of};
 
 use crate::edit::{set_number, splice};
-use crate::node::Node;
+use crate::nodes::Nodes;
 use crate::walk::spot_of;
 use pol_addr::Prefix;
-use slab::Slab;
 
 /// The key of the node of this prefix.
-fn node_of(nodes: &Slab<Node>, prefix: &Prefix) -> Option<usize>
+fn node_of(nodes: &Nodes, prefix: &Prefix) -> Option<usize>
     requires { IsTrie nodes.now }
     ensures found { IfSome result (IsNodeOf nodes.now prefix.now) }
     ensures absent { IfNone result ((j : ℕ) (n : Node) → get nodes.now j ≡ Some n → n.prefix ≢ prefix.now) }
@@ -25,8 +24,8 @@ fn node_of(nodes: &Slab<Node>, prefix: &Prefix) -> Option<usize>
         return Some(0);
     }
     let (parent, high) = spot_of(nodes, prefix);
-    let child = nodes[parent].child(high)?;
-    if nodes[child].prefix == *prefix {
+    let child = nodes.at(parent).child(high)?;
+    if nodes.at(child).prefix == *prefix {
         Some(child)
     } else {
         None
@@ -35,7 +34,7 @@ fn node_of(nodes: &Slab<Node>, prefix: &Prefix) -> Option<usize>
 
 /// Takes this node out of its spot where nothing needs it, or leaves it. No number changes, and each other node stays. Whether
 /// nothing is in the spot then, so that the node above has one less below it.
-fn prune(nodes: &mut Slab<Node>, at: usize, spot: (usize, bool)) -> bool
+fn prune(nodes: &mut Nodes, at: usize, spot: (usize, bool)) -> bool
     requires trie { IsTrie nodes.old }
     requires tight { IsTightBut (get nodes.old) at }
     requires there { ContainsKey nodes.old at }
@@ -48,7 +47,7 @@ fn prune(nodes: &mut Slab<Node>, at: usize, spot: (usize, bool)) -> bool
     ensures left { IsTrue result → (n : Node) → get nodes.new spot.0 ≡ Some n → spot.0 ≢ 0 → 1 ≤ weight n }
     ensures stays { (n : Node) → get nodes.old at ≡ Some n → 1 ≤ weight n → result ≡ false }
 {
-    let node = &nodes[at];
+    let node = nodes.at(at);
     if node.is_needed() {
         return false;
     }
@@ -58,7 +57,7 @@ fn prune(nodes: &mut Slab<Node>, at: usize, spot: (usize, bool)) -> bool
 }
 
 /// The same of a node that has one below it or a number, so that no node above loses one, or of the root, which stays.
-fn prune_above(nodes: &mut Slab<Node>, at: usize)
+fn prune_above(nodes: &mut Nodes, at: usize)
     requires trie { IsTrie nodes.old }
     requires tight { IsTightBut (get nodes.old) at }
     requires there { ContainsKey nodes.old at }
@@ -72,13 +71,13 @@ fn prune_above(nodes: &mut Slab<Node>, at: usize)
     if at == 0 {
         return;
     }
-    let prefix = nodes[at].prefix;
+    let prefix = nodes.at(at).prefix;
     let spot = spot_of(nodes, &prefix);
     prune(nodes, at, spot);
 }
 
 /// Takes the number of the prefix out. Gives it, and the prefix of the node below which that changes nodes.
-pub(crate) fn take(nodes: &mut Slab<Node>, prefix: &Prefix) -> Option<(u32, Prefix)>
+pub(crate) fn take(nodes: &mut Nodes, prefix: &Prefix) -> Option<(u32, Prefix)>
     requires trie { IsTrie nodes.old }
     requires tight { IsTight nodes.old }
     ensures value { option_map (λ r. r.0) result ≡ number_of nodes.old prefix.now }
@@ -91,14 +90,14 @@ pub(crate) fn take(nodes: &mut Slab<Node>, prefix: &Prefix) -> Option<(u32, Pref
     ensures tight { IsTight nodes.new }
 {
     let at = node_of(nodes, prefix)?;
-    let number = nodes[at].number?;
+    let number = nodes.at(at).number?;
     set_number(nodes, at, None);
     let over = prune_from(nodes, at);
     Some((number, over))
 }
 
 /// Prunes a node, and then the one above it. Gives the prefix of that one.
-fn prune_from(nodes: &mut Slab<Node>, at: usize) -> Prefix
+fn prune_from(nodes: &mut Nodes, at: usize) -> Prefix
     requires trie { IsTrie nodes.old }
     requires tight { IsTightBut (get nodes.old) at }
     requires there { ContainsKey nodes.old at }
@@ -109,12 +108,12 @@ fn prune_from(nodes: &mut Slab<Node>, at: usize) -> Prefix
     ensures kept { StillThereOutside nodes.old nodes.new result }
     ensures tight { IsTight nodes.new }
 {
-    let prefix = nodes[at].prefix;
+    let prefix = nodes.at(at).prefix;
     if prefix.len() == 0 {
         return prefix;
     }
     let spot = spot_of(nodes, &prefix);
-    let over = nodes[spot.0].prefix;
+    let over = nodes.at(spot.0).prefix;
     if !prune(nodes, at, spot) {
         return over;
     }

@@ -6,8 +6,8 @@ ghost use Rattle.pol_lpm.specs.Trie.{IsTrie, HasRoot, child_toward, StandsOver, 
 ghost use Rattle.pol_lpm.specs.Starts.{HasReached};
 
 use crate::node::Node;
+use crate::nodes::Nodes;
 use pol_addr::Prefix;
-use slab::Slab;
 
 /// The key of the node below that may cover the target: the one on the target's side.
 fn toward(node: &Node, target: &Prefix) -> Option<usize>
@@ -22,7 +22,7 @@ fn toward(node: &Node, target: &Prefix) -> Option<usize>
 }
 
 /// The next node on the way to the target that covers it and is shorter than the limit.
-pub(crate) fn step(nodes: &Slab<Node>, at: usize, target: &Prefix, limit: u8) -> Option<usize>
+pub(crate) fn step(nodes: &Nodes, at: usize, target: &Prefix, limit: u8) -> Option<usize>
     requires trie { IsTrie nodes.now }
     requires stands { StandsOver nodes.now target.now limit at }
     ensures stands { IfSome result (StandsOver nodes.now target.now limit) }
@@ -30,8 +30,8 @@ pub(crate) fn step(nodes: &Slab<Node>, at: usize, target: &Prefix, limit: u8) ->
     ensures between { IfSome result (NoneBetween nodes.now target.now at) }
     ensures deepest { IfNone result (IsDeepest nodes.now target.now limit at) }
 {
-    let next = toward(&nodes[at], target)?;
-    let node = &nodes[next];
+    let next = toward(&nodes.at(at), target)?;
+    let node = nodes.at(next);
     if node.prefix.len() < limit && node.prefix.covers(target) {
         Some(next)
     } else {
@@ -40,7 +40,7 @@ pub(crate) fn step(nodes: &Slab<Node>, at: usize, target: &Prefix, limit: u8) ->
 }
 
 /// The key of the longest node that covers the target and is shorter.
-pub(crate) fn parent_of(nodes: &Slab<Node>, target: &Prefix) -> usize
+pub(crate) fn parent_of(nodes: &Nodes, target: &Prefix) -> usize
     requires trie { IsTrie nodes.now }
     requires rooted { HasRoot (get nodes.now) }
     requires longer { 0 < target.now.len }
@@ -55,7 +55,7 @@ pub(crate) fn parent_of(nodes: &Slab<Node>, target: &Prefix) -> usize
 }
 
 /// Where the prefix belongs: the key of the longest node that covers it and is shorter, and the side.
-pub(crate) fn spot_of(nodes: &Slab<Node>, prefix: &Prefix) -> (usize, bool)
+pub(crate) fn spot_of(nodes: &Nodes, prefix: &Prefix) -> (usize, bool)
     requires trie { IsTrie nodes.now }
     requires rooted { HasRoot (get nodes.now) }
     requires longer { 0 < prefix.now.len }
@@ -64,7 +64,7 @@ pub(crate) fn spot_of(nodes: &Slab<Node>, prefix: &Prefix) -> (usize, bool)
 {
     let _ = prefix.len();
     let parent = parent_of(nodes, prefix);
-    (parent, prefix.bit(nodes[parent].prefix.len()))
+    (parent, prefix.bit(nodes.at(parent).prefix.len()))
 }
 
 /// How far a walk has come: the prefix that it leads to, the longest node so far that covers it, the number of the longest
@@ -78,7 +78,7 @@ pub(crate) struct Reached {
 }
 
 /// At the root.
-pub(crate) fn at_root(nodes: &Slab<Node>, to: Prefix) -> Reached
+pub(crate) fn at_root(nodes: &Nodes, to: Prefix) -> Reached
     requires trie { IsTrie nodes.now }
     requires rooted { HasRoot (get nodes.now) }
     ensures to { result.to ≡ to }
@@ -88,13 +88,13 @@ pub(crate) fn at_root(nodes: &Slab<Node>, to: Prefix) -> Reached
     Reached {
         to,
         at: 0,
-        number: nodes[0].number,
+        number: nodes.at(0).number,
         visits: 1,
     }
 }
 
 /// On to the longest node that covers the prefix. The walk comes by at most one node of each length from 0 to 32.
-pub(crate) fn to_end(nodes: &Slab<Node>, from: Reached) -> Reached
+pub(crate) fn to_end(nodes: &Nodes, from: Reached) -> Reached
     requires trie { IsTrie nodes.now }
     requires reached { HasReached nodes.now from }
     ensures to { result.to ≡ from.to }
@@ -109,7 +109,7 @@ pub(crate) fn to_end(nodes: &Slab<Node>, from: Reached) -> Reached
     let mut visits = from.visits;
     while let Some(next) = step(nodes, at, &to, limit) {
         at = next;
-        number = nodes[at].number.or(number);
+        number = nodes.at(at).number.or(number);
         visits += 1;
     }
     Reached {

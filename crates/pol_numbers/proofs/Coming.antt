@@ -16,14 +16,9 @@ use Rattle.pol_facts.proofs.Parts.{free_row, part-labels_held}
 use Rattle.pol_changes.specs.Ids.{has}
 use Rattle.pol_changes.specs.Log.{newest}
 use Rattle.pol_selcache.specs.Cache.{Cache, MayPlan}
-use Rattle.pol_selcache.specs.Live.{AreExact, rows_without}
+use Rattle.pol_selcache.specs.Live.{AreExact}
 use Rattle.pol_selcache.proofs.Coming.{one_comes}
 use Rattle.pol_selcache.proofs.Staying.{exact_as_come}
-
--- where no number comes or goes, all rows stay
-pub rows_without_none : (rows : List IdentityRow) → rows_without [] rows ≡ rows
-rows_without_none [] = refl
-rows_without_none (row ∷ rows) = ap (λ rest. row ∷ rest) (rows_without_none rows)
 
 module _ (labels : List Label) (rows : List IdentityRow) (ascend : RowsAscend rows) where
   -- a number that the set has, has a row

@@ -18,7 +18,7 @@ use Rattle.pol_changes.specs.Log.{newest}
 use Rattle.pol_selcache.specs.Cache.{Cache, MayPlan}
 use Rattle.pol_selcache.specs.Live.{Live, AreExact, rows_without}
 use Rattle.pol_selcache.proofs.Staying.{exact_as_gone}
-use Rattle.pol_numbers.proofs.Coming.{rows_without_none}
+use Rattle.pol_selcache.proofs.Coming.{rows_without_none}
 
 module _ (number : ℕ) (rows : List IdentityRow) (keeps : KeepsRows rows) where
   has_it : (row : IdentityRow) (others : List IdentityRow) → In row others → row.number ≡ number → has_row number others ≡ true

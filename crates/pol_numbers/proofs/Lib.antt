@@ -1,5 +1,4 @@
 pub mod Apart
-pub mod Carried
 pub mod Coming
 pub mod Going
 pub mod Moving

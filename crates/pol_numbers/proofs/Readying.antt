@@ -8,7 +8,7 @@ use Rattle.pol_facts.specs.Keeps.{KeepsRows}
 use Rattle.pol_selcache.specs.Live.{AreExact, rows_without}
 use Rattle.pol_selcache.specs.Plan.{Plan, changed, plan_for}
 use Rattle.pol_numbers.specs.Held.{Readies}
-use Rattle.pol_numbers.proofs.Coming.{rows_without_none}
+use Rattle.pol_selcache.proofs.Coming.{rows_without_none}
 use Rattle.pol_numbers.proofs.Going.{exact_as_released}
 
 pub readied : (revision : ℕ) (rows : List IdentityRow) (old new : Cache) (plan : Plan) → plan ≡ plan_for revision rows old.live → IsPlanFor plan new

@@ -1,9 +1,11 @@
 //! The numbers that are held, and what is told of them.
 ghost use Rattle.std.specs.Prelude.{◌≡◌, ◌≤◌, IfOk, option_map};
+ghost use Rattle.std.specs.Arc.{arc_value};
 ghost use Rattle.pol_model.specs.Remote.{longest_at};
 ghost use Rattle.pol_facts.specs.Keeps.{KeepsRows};
 ghost use Rattle.pol_changes.specs.Log.{newest};
 ghost use Rattle.pol_selcache.specs.Cache.{IsPlanFor, IsSound, carried};
+ghost use Rattle.pol_prefixes.specs.Tables.{IsTableOf};
 ghost use Rattle.pol_numbers.specs.Held.{nothing_held};
 
 use pol_addr::Addr;
@@ -14,6 +16,7 @@ use pol_prefixes::table_of_start;
 use pol_selcache::{Plan, SelectorCache};
 use std::alloc::Global;
 use std::marker::Model;
+use std::sync::Arc;
 
 /// The security identities that are held, and the selectors, whose sets are of their numbers (Cilium, Terminology,
 /// "Identity", and "Selector cache"). Contracts see the rows and the selectors.
@@ -80,6 +83,14 @@ impl Numbers {
         ensures sound { IsSound self.now.cache }
     {
         self.selectors.horizon()
+    }
+
+    /// The numbers of the held prefixes, as they are now. The one error is want of memory.
+    pub fn prefix_table(&self) -> Result<Arc<PrefixTable>, Memory>
+        ensures table { IfOk result (λ table. IsTableOf self.now.rows (arc_value table)) }
+    {
+        let table = self.prefixes.copy(self.alloc)?;
+        Ok(Arc::new(self.alloc, table)?)
     }
 
     /// Makes the changes of the last plan, since which no selector came or went. It takes no memory.

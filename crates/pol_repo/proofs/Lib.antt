@@ -3,3 +3,5 @@ pub mod LabelPeers
 pub mod Longest
 pub mod Sides
 pub mod Standing
+pub mod Taking
+pub mod Telling

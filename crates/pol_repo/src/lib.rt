@@ -9,8 +9,11 @@
 mod commit;
 pub mod laws;
 mod look;
+mod moves;
 mod prepare;
 mod repo;
+mod take;
 
+pub use pol_taken::{Addresses, Move, Moves, SetRow, Sets, TakeError, Taken};
 pub use prepare::Ready;
 pub use repo::Repo;

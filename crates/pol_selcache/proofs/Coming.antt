@@ -15,7 +15,7 @@ use Rattle.pol_changes.specs.Ids.{has}
 use Rattle.pol_changes.specs.Log.{Log, newest, recorded}
 use Rattle.pol_selcache.specs.Cache.{Cache, MayPlan, carried, change_at, with_room}
 use Rattle.pol_selcache.specs.Live.{Live, AreExact, is_live, rows_without}
-use Rattle.pol_selcache.specs.Plan.{Plan, Planned, changed, changes_for, plan_for}
+use Rattle.pol_selcache.specs.Plan.{Plan, Planned, changed, plan_for}
 use Rattle.pol_selcache.proofs.Staying.{exact_as_come, exact_as_gone}
 
 module _ (labels : List Label) (rows : List IdentityRow) (number : ℕ) (ascend : RowsAscend rows) (its : number ≡ number_for labels rows) (new : has_row number rows ≡ false) where
@@ -54,10 +54,13 @@ newest_each : (revision : ℕ) (changes : List Planned) (log : Log) → newest l
 newest_each revision [] log before = before
 newest_each revision (change ∷ changes) log before = newest_each revision changes (recorded log (change_at revision change)) (omega arith)
 
+pub newest_carried : (plan : Plan) (cache : Cache) → newest cache.log ≤ plan.revision → newest (carried plan cache).log ≤ plan.revision
+newest_carried plan cache before = newest_each plan.revision plan.changes cache.log before
+
 pub newest_changed : (revision : ℕ) (rows : List IdentityRow) (old new : Cache) → (spare : ℕ) × (new ≡ carried (plan_for revision rows old.live) (with_room spare old))
     → newest old.log < revision → newest new.log ≤ revision
 newest_changed revision rows old new is before =
-    subst (λ (cache : Cache). newest cache.log ≤ revision) (sym is.1) (newest_each revision (changes_for rows old.live) (with_room is.0 old).log (omega arith))
+    subst (λ (cache : Cache). newest cache.log ≤ revision) (sym is.1) (newest_carried (plan_for revision rows old.live) (with_room is.0 old) (omega arith))
 
 -- ---- a label set without a number comes
 pub new_may_come : (labels : List Label) (rows : List IdentityRow) (number : ℕ) → RowsAscend rows → number ≡ number_for labels rows → number_of_labels labels rows ≡ None
@@ -70,7 +73,7 @@ pub it_is_held : (labels : List Label) (rows : List IdentityRow) (number : ℕ) 
 it_is_held labels rows number its = ap (λ m. has_row m (labels_held labels rows)) its ∙ held_has _ _ rows
 
 -- ---- all rows stay where no number comes
-rows_without_none : (rows : List IdentityRow) → rows_without [] rows ≡ rows
+pub rows_without_none : (rows : List IdentityRow) → rows_without [] rows ≡ rows
 rows_without_none [] = refl
 rows_without_none (row ∷ rows) = ap (λ rest. row ∷ rest) (rows_without_none rows)
 

@@ -1,5 +1,5 @@
 //! Sets of numbers, made of numbers and of other sets.
-ghost use Rattle.std.specs.Prelude.{◌≡◌, ℕ, ◌≤◌, ◌&&◌, ◌||◌, not, IfOk, filter, length, vec_len};
+ghost use Rattle.std.specs.Prelude.{◌≡◌, ℕ, ◌≤◌, ◌&&◌, ◌||◌, not, if◌then◌else◌, IfOk, [], ◌∷◌, filter, length, vec_len};
 ghost use Rattle.std.specs.List.Sorted.{IsStrictlySortedBy};
 ghost use Rattle.std.specs.Ordering.{nat_cmp};
 ghost use Rattle.pol_sets.specs.IdSet.{IsIdSet};
@@ -31,6 +31,17 @@ pub(crate) fn set_of_slice(alloc: Global, numbers: &[u32]) -> Result<IdSet, Memo
     Ok(set)
 }
 
+/// The set with this one number, or with none. It takes no memory.
+pub(crate) fn one_if(alloc: Global, number: u32, wanted: bool) -> IdSet
+    ensures { result ≡ (if wanted then number ∷ [] else []) }
+{
+    if wanted {
+        IdSet::one(number)
+    } else {
+        IdSet::new(alloc)
+    }
+}
+
 /// Those of the numbers that the set has too.
 fn found_in(alloc: Global, numbers: &[u32], set: &IdSet) -> Result<Vec<u32>, Memory>
     ensures { IfOk result (λ found. found.items ≡ filter (λ number. has number set.now) numbers.now) }
@@ -55,12 +66,18 @@ fn missing_in(alloc: Global, numbers: &[u32], set: &IdSet, more: usize) -> Resul
     Ok(missing)
 }
 
-/// The numbers of both sets.
+/// The numbers of both sets. It takes no memory where the first has one number at most.
 pub(crate) fn in_both(alloc: Global, numbers: &IdSet, others: &IdSet) -> Result<IdSet, Memory>
     ensures { IfOk result (λ set. set ≡ filter (λ number. has number others.now) numbers.now) }
 {
-    let both = found_in(alloc, numbers.as_slice(), others)?;
-    Ok(IdSet::from_ascending(both))
+    match numbers.as_slice() {
+        [] => Ok(IdSet::new(alloc)),
+        [number] => Ok(one_if(alloc, *number, others.contains(*number))),
+        several => {
+            let both = found_in(alloc, several, others)?;
+            Ok(IdSet::from_ascending(both))
+        }
+    }
 }
 
 /// The set with the numbers that it gained and without those that it lost.

@@ -6,6 +6,7 @@ ghost use Rattle.pol_ident.specs.Look.{selects_held};
 ghost use Rattle.pol_rule.specs.declared.policy.Peer.TheVariants.{Labels as LabelPeer};
 ghost use Rattle.pol_selcache.specs.Held.{steps_at, steps_of};
 
+use crate::ids::one_if;
 use pol_data::{Memory, Steps};
 use pol_ident::Identities;
 use pol_labels::Selector;
@@ -70,6 +71,18 @@ fn selected<L: Ledger>(
     Ok(own)
 }
 
+/// The held numbers that are judged for a peer: no prefix selects a number without one.
+fn judged_for(alloc: Global, peer: &Peer, identities: &Identities) -> Result<Vec<u32>, Memory>
+    ensures set { IfOk result (λ numbers. filter (selects_held identities.now peer.now) numbers.items ≡ set_at identities.now peer.now) }
+    ensures cost { IfOk result (λ numbers. steps_of peer.now * length numbers.items ≤ steps_of peer.now * length identities.now) }
+    ensures sound { KeepsRows identities.now }
+{
+    match peer {
+        Peer::Cidr { .. } => identities.numbers_with_prefix(alloc),
+        Peer::Labels(_) | Peer::Entity(_) => identities.numbers(alloc),
+    }
+}
+
 /// The held numbers that the peer selects.
 pub(crate) fn set_of<L: Ledger>(
     alloc: Global,
@@ -80,12 +93,12 @@ pub(crate) fn set_of<L: Ledger>(
     ensures set { IfOk result (λ set. set ≡ set_at identities.now peer.now) }
     ensures cost { steps.new ≤ steps.old + steps_of peer.now * length identities.now }
 {
-    let numbers = identities.numbers(alloc)?;
+    let numbers = judged_for(alloc, peer, identities)?;
     let own = selected(alloc, peer, numbers.as_slice(), identities, steps)?;
     Ok(IdSet::from_ascending(own))
 }
 
-/// Those of a set of numbers that the peer selects.
+/// Those of a set of numbers that the peer selects. It takes no memory where there is one number at most.
 pub(crate) fn selected_of<L: Ledger>(
     alloc: Global,
     peer: &Peer,
@@ -96,6 +109,15 @@ pub(crate) fn selected_of<L: Ledger>(
     ensures selected { IfOk result (λ own. own ≡ filter (selects_held identities.now peer.now) numbers.now) }
     ensures cost { steps.new ≤ steps.old + steps_of peer.now * length numbers.now }
 {
-    let own = selected(alloc, peer, numbers.as_slice(), identities, steps)?;
-    Ok(IdSet::from_ascending(own))
+    match numbers.as_slice() {
+        [] => Ok(IdSet::new(alloc)),
+        [number] => {
+            let is_selected = selects_held(peer, *number, identities, steps);
+            Ok(one_if(alloc, *number, is_selected))
+        }
+        several => {
+            let own = selected(alloc, peer, several, identities, steps)?;
+            Ok(IdSet::from_ascending(own))
+        }
+    }
 }

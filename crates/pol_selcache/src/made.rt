@@ -1,4 +1,4 @@
-//! Sets that are made once for all selectors whose sets are equal and change alike.
+//! A set that is made once for selectors, one tried after another, whose sets are equal and change alike.
 ghost use Rattle.std.specs.Prelude.{◌≡◌, IfOk, IfSome};
 ghost use Rattle.std.specs.Arc.{arc_value};
 ghost use Rattle.pol_selcache.specs.Made.{IsMadeOf, is_of};

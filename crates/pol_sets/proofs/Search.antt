@@ -1,7 +1,7 @@
--- What a binary search in an id set says, and the set with no number.
-use Rattle.std.proofs.Common.{◌≡◌, ℕ, ◌==◌, ◌<◌, ◌^◌, List, [], false, get_or, Result, Ok, Err, is_ok, sym, inl, inr, arith}
+-- What a binary search in an id set says, and the sets with no number and with one.
+use Rattle.std.proofs.Common.{◌≡◌, ℕ, ◌==◌, ◌<◌, ◌^◌, List, [], ◌∷◌, false, get_or, Result, Ok, Err, is_ok, sym, inl, inr, arith}
 use Rattle.std.proofs.lemmas.Bool.{cases_lt, eq-eqb, ne_eqb}
-use Rattle.std.proofs.lemmas.List.Elements.{All-from_get_or, All-nil}
+use Rattle.std.proofs.lemmas.List.Elements.{All-cons, All-from_get_or, All-nil}
 use Rattle.std.proofs.lemmas.List.Folds.{list_any_at, list_any_none}
 use Rattle.std.proofs.lemmas.List.Sorted.{searched}
 use Rattle.std.proofs.lemmas.Map.Keys.{non_decreasing_from_sorted}
@@ -13,6 +13,10 @@ use Rattle.pol_sets.specs.IdSet.{IsIdSet}
 pub no_ids : IsIdSet []
 unfolding IsStrictlySortedBy
 no_ids = record { ascends = tt; small = All-nil (λ id. id < 2 ^ 32) }
+
+pub one_id : (id : ℕ) → id < 2 ^ 32 → IsIdSet (id ∷ [])
+unfolding IsStrictlySortedBy
+one_id id small = record { ascends = (tt, tt); small = All-cons (λ id. id < 2 ^ 32) id [] small no_ids.small }
 
 pub found_is : (xs : List ℕ) (x : ℕ) (r : Result ℕ ℕ) → IsBinarySearchResult (λ y. nat_cmp y x) xs r → IsStrictlySortedBy nat_cmp xs
     → is_ok r ≡ list_any (λ y. y == x) xs

@@ -1,2 +1,3 @@
 pub mod IdSet
+pub mod Inside
 pub mod Sets

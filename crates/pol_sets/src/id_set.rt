@@ -1,5 +1,5 @@
 //! A set of identity numbers.
-ghost use Rattle.std.specs.Prelude.{◌≡◌, ◌==◌, ◌↔◌, IsTrue, IfOk, [], length, nat_eq};
+ghost use Rattle.std.specs.Prelude.{◌≡◌, ◌==◌, ◌↔◌, ◌∷◌, IsTrue, IfOk, [], length, nat_eq};
 ghost use Rattle.std.specs.List.{list_any};
 ghost use Rattle.std.specs.List.Sorted.{IsStrictlySortedBy};
 ghost use Rattle.std.specs.Ordering.{nat_cmp};
@@ -10,23 +10,32 @@ ghost use Rattle.pol_sets.specs.IdSet.{IsIdSet};
 use pol_data::{Items, Memory, TryCopy};
 use std::alloc::Global;
 use std::marker::Model;
+use std::slice;
+
+/// Where the numbers of a set are: one in the set itself, or any in memory of their own.
+#[derive(Debug, Drop)]
+enum Ids {
+    One(u32),
+    Any(Items<u32>),
+}
 
 /// A set of identity numbers. A contract sees it as the list of its numbers, which ascend, each once.
 /// So two sets with the same numbers are equal.
 #[derive(Debug, Drop)]
 pub struct IdSet {
-    ids: Items<u32>,
+    ids: Ids,
 }
 
 impl Model for IdSet {
     ghost use Rattle.std.specs.Prelude.{ℕ, List};
     ghost use Rattle.pol_sets.specs.IdSet.{IsIdSet};
+    ghost use Rattle.pol_sets.specs.Inside.{ids_in};
 
     ghost Value = { List ℕ };
 
-    ghost view = { λ set. set.ids };
+    ghost view = { λ set. ids_in set.ids };
 
-    ghost invariant = { λ set. IsIdSet set.ids };
+    ghost invariant = { λ set. IsIdSet (ids_in set.ids) };
 }
 
 impl IdSet {
@@ -35,8 +44,15 @@ impl IdSet {
         ensures { result ≡ [] }
     {
         IdSet {
-            ids: Items::empty(alloc),
+            ids: Ids::Any(Items::empty(alloc)),
         }
+    }
+
+    /// The set of this one number. It takes no memory.
+    pub fn one(id: u32) -> IdSet
+        ensures { result ≡ id ∷ [] }
+    {
+        IdSet { ids: Ids::One(id) }
     }
 
     /// The set of these numbers, each of which is less than those after it. It takes no memory.
@@ -45,7 +61,7 @@ impl IdSet {
         ensures { result ≡ ids.items }
     {
         IdSet {
-            ids: Items::from_vec(ids),
+            ids: Ids::Any(Items::from_vec(ids)),
         }
     }
 
@@ -54,37 +70,43 @@ impl IdSet {
         ensures ids { result.now ≡ self.now }
         ensures set { IsIdSet self.now }
     {
-        self.ids.as_slice()
+        match &self.ids {
+            Ids::One(id) => slice::from_ref(id),
+            Ids::Any(ids) => ids.as_slice(),
+        }
     }
 
     /// How many numbers the set has.
     pub fn len(&self) -> usize
         ensures { result ≡ length self.now }
     {
-        self.ids.len()
+        self.as_slice().len()
     }
 
     /// Whether the set has no number.
     pub fn is_empty(&self) -> bool
         ensures { IsTrue result ↔ (length self.now ≡ 0) }
     {
-        self.ids.is_empty()
+        self.as_slice().is_empty()
     }
 
     /// Whether the set has the number, found by a binary search.
     pub fn contains(&self, id: u32) -> bool
         ensures { result ≡ list_any (λ own. own == id) self.now }
     {
-        self.ids.as_slice().binary_search(&id).is_ok()
+        self.as_slice().binary_search(&id).is_ok()
     }
 
-    /// A set equal to this one, in memory of its own. The one error is want of memory.
+    /// A set equal to this one. It takes no memory for one number, and the one error is want of memory.
     pub fn copy(&self, alloc: Global) -> Result<IdSet, Memory>
         ensures equal { IfOk result (λ copy. copy ≡ self.now) }
     {
-        Ok(IdSet {
-            ids: self.ids.copy(alloc)?,
-        })
+        match &self.ids {
+            Ids::One(id) => Ok(IdSet::one(*id)),
+            Ids::Any(ids) => Ok(IdSet {
+                ids: Ids::Any(ids.copy(alloc)?),
+            }),
+        }
     }
 }
 
@@ -101,7 +123,7 @@ impl PartialEq for IdSet {
     ghost laws = { partial_equiv_from_equiv nat_list_eq_equiv };
 
     fn eq(&self, other: &IdSet) -> bool {
-        self.ids == other.ids
+        self.as_slice() == other.as_slice()
     }
 }
 

@@ -14,4 +14,5 @@ pub mod PolicyRows
 pub mod PolicyRefs
 pub mod PolicySteps
 pub mod PolicyMoves
+pub mod Taking
 pub mod Selectors

@@ -16,6 +16,7 @@ mod policy_parts;
 mod readied;
 mod ready;
 mod store;
+mod take;
 
 pub use error::ReadyError;
 pub use readied::{Change, Readied};

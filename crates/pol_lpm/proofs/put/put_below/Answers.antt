@@ -15,4 +15,4 @@ returns-then-len-eq0-clause-numbers c =
     subst (λ p. Numbers c.args.nodes.now c.set_number.new.nodes p (Some c.args.number)) same (c.set_number.ensures.numbers root is)
 
 pub returns-clause-over : goal.returns-clause-over
-returns-clause-over c = spot_over c.args.nodes.now c.requires.trie.tree c.args.prefix c.spot_of-spot.result.0 c.spot_of-spot.result.1 c.spot_of-spot.ensures.spot c.index.result.now c.index.ensures
+returns-clause-over c = spot_over c.args.nodes.now c.requires.trie.tree c.args.prefix c.spot_of-spot.result.0 c.spot_of-spot.result.1 c.spot_of-spot.ensures.spot c.at-over.result c.at-over.ensures

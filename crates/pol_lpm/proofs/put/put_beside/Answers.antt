@@ -11,41 +11,41 @@ use Rattle.pol_lpm.proofs.put.put_beside.Goals as goal
 pub over-node-requires-clause-longer : goal.over-node-requires-clause-longer
 over-node-requires-clause-longer c =
     let h = c.requires.spot in
-    let m = c.index.result.now in
+    let m = c.at-other.result in
     let f = c.common-fork.ensures in
-    fork_over_node c.args.nodes.now c.requires.trie.tree c.args.prefix c.args.spot.0 c.args.spot.1 h c.args.below m (c.requires.link h.parent h.there) c.index.ensures c.common-fork.result c.len-len.ensures.valid f.this f.that f.longest (c.requires.differs m c.index.ensures) (c.requires.parts m c.index.ensures)
+    fork_over_node c.args.nodes.now c.requires.trie.tree c.args.prefix c.args.spot.0 c.args.spot.1 h c.args.below m (c.requires.link h.parent h.there) c.at-other.ensures c.common-fork.result c.len-len.ensures.valid f.this f.that f.longest (c.requires.differs m c.at-other.ensures) (c.requires.parts m c.at-other.ensures)
 
 pub attach-key-requires-clause-fits : goal.attach-key-requires-clause-fits
 attach-key-requires-clause-fits c =
     let h = c.requires.spot in
-    let m = c.index.result.now in
+    let m = c.at-other.result in
     let f = c.common-fork.ensures in
     subst (FitsBelow c.args.nodes.now c.args.spot.0 c.args.spot.1) (sym c.over-node.ensures)
-    (fork_fits c.args.nodes.now c.requires.trie.tree c.args.prefix c.args.spot.0 c.args.spot.1 h c.args.below m (c.requires.link h.parent h.there) c.index.ensures c.common-fork.result c.len-len.ensures.valid f.this f.that f.longest (c.requires.differs m c.index.ensures) (c.requires.parts m c.index.ensures) None)
+    (fork_fits c.args.nodes.now c.requires.trie.tree c.args.prefix c.args.spot.0 c.args.spot.1 h c.args.below m (c.requires.link h.parent h.there) c.at-other.ensures c.common-fork.result c.len-len.ensures.valid f.this f.that f.longest (c.requires.differs m c.at-other.ensures) (c.requires.parts m c.at-other.ensures) None)
 
 pub bit-requires : goal.bit-requires
 bit-requires c =
     let h = c.requires.spot in
-    let m = c.index.result.now in
+    let m = c.at-other.result in
     let f = c.common-fork.ensures in
-    let shorter = fork_over_new c.args.nodes.now c.requires.trie.tree c.args.prefix c.args.spot.0 c.args.spot.1 h c.args.below m (c.requires.link h.parent h.there) c.index.ensures c.common-fork.result c.len-len.ensures.valid f.this f.that f.longest (c.requires.differs m c.index.ensures) (c.requires.parts m c.index.ensures) in
+    let shorter = fork_over_new c.args.nodes.now c.requires.trie.tree c.args.prefix c.args.spot.0 c.args.spot.1 h c.args.below m (c.requires.link h.parent h.there) c.at-other.ensures c.common-fork.result c.len-len.ensures.valid f.this f.that f.longest (c.requires.differs m c.at-other.ensures) (c.requires.parts m c.at-other.ensures) in
     let valid = h.valid in
     omega (arith, shorter, valid.len_in_range, c.len-len.ensures.value)
 
 pub attach-requires-clause-fits : goal.attach-requires-clause-fits
 attach-requires-clause-fits c =
     let h = c.requires.spot in
-    let m = c.index.result.now in
+    let m = c.at-other.result in
     let f = c.common-fork.ensures in
     let there = c.attach-key.ensures.there ∙ ap Some c.over-node.ensures in
     let side = c.bit.ensures ∙ ap (bit_of c.args.prefix) c.len-len.ensures.value in
     subst (FitsBelow c.attach-key.new.nodes c.attach-key.result c.bit.result) (sym c.leaf.ensures)
     (subst (λ b. FitsBelow c.attach-key.new.nodes c.attach-key.result b (leaf_of c.args.prefix (Some c.args.number))) (sym side)
-    (leaf_fits c.args.nodes.now c.requires.trie.tree c.args.prefix c.args.spot.0 c.args.spot.1 h c.args.below m (c.requires.link h.parent h.there) c.index.ensures c.common-fork.result c.len-len.ensures.valid f.this f.that f.longest (c.requires.differs m c.index.ensures) (c.requires.parts m c.index.ensures) c.attach-key.new.nodes c.attach-key.result None (Some c.args.number) there))
+    (leaf_fits c.args.nodes.now c.requires.trie.tree c.args.prefix c.args.spot.0 c.args.spot.1 h c.args.below m (c.requires.link h.parent h.there) c.at-other.ensures c.common-fork.result c.len-len.ensures.valid f.this f.that f.longest (c.requires.differs m c.at-other.ensures) (c.requires.parts m c.at-other.ensures) c.attach-key.new.nodes c.attach-key.result None (Some c.args.number) there))
 
 pub returns-clause-numbers : goal.returns-clause-numbers
 returns-clause-numbers c =
-    let bit = bit_of c.index.result.now.prefix c.common-fork.result.len in
+    let bit = bit_of c.at-other.result.prefix c.common-fork.result.len in
     let prefix_is = ap (λ n. n.prefix) c.over-node.ensures ∙ over_prefix c.common-fork.result None bit (Some c.args.below) in
     let number_is = ap (λ n. n.number) c.over-node.ensures ∙ over_number c.common-fork.result None bit (Some c.args.below) in
     let first : Numbers c.args.nodes.now c.attach-key.new.nodes c.common-fork.result None =
@@ -61,13 +61,13 @@ returns-clause-kept c = still_twice c.args.nodes.now c.attach-key.new.nodes c.at
 pub returns-clause-tight : goal.returns-clause-tight
 returns-clause-tight c =
     let h = c.requires.spot in
-    let m = c.index.result.now in
+    let m = c.at-other.result in
     let f = c.common-fork.ensures in
     let key = c.attach-key.result in
     let bit = bit_of m.prefix c.common-fork.result.len in
     let side = c.bit.ensures ∙ ap (bit_of c.args.prefix) c.len-len.ensures.value in
     let parts : c.bit.result ≡ bit → ⊥ = λ same.
-    fork_parts c.args.nodes.now c.requires.trie.tree c.args.prefix c.args.spot.0 c.args.spot.1 h c.args.below m (c.requires.link h.parent h.there) c.index.ensures c.common-fork.result c.len-len.ensures.valid f.this f.that f.longest (c.requires.differs m c.index.ensures) (c.requires.parts m c.index.ensures) (sym side ∙ same) in
+    fork_parts c.args.nodes.now c.requires.trie.tree c.args.prefix c.args.spot.0 c.args.spot.1 h c.args.below m (c.requires.link h.parent h.there) c.at-other.ensures c.common-fork.result c.len-len.ensures.valid f.this f.that f.longest (c.requires.differs m c.at-other.ensures) (c.requires.parts m c.at-other.ensures) (sym side ∙ same) in
     let first = c.attach-key.ensures.tight key (tight_weaker (get c.args.nodes.now) key c.requires.tight) (λ differs. absurd (differs refl)) in
     let leaf = needed_with_number c.leaf.result c.args.number (ap (λ n. n.number) c.leaf.ensures) in
     let second = c.attach.ensures.tight key first (λ _. leaf) in

@@ -8,8 +8,8 @@ use Rattle.pol_lpm.proofs.Places.{fits_between, over_number}
 use Rattle.pol_lpm.proofs.Tight.{needed_with_number}
 use Rattle.pol_lpm.proofs.put.put_over.Goals as goal
 
-pub index-requires : goal.index-requires
-index-requires c =
+pub at-other-requires : goal.at-other-requires
+at-other-requires c =
     let h = c.requires.spot in
     let tree = c.requires.trie.tree in
     let (_, is, _) = tree.linked c.args.spot.0 h.parent c.args.spot.1 c.args.below h.there (c.requires.link h.parent h.there) in
@@ -18,24 +18,24 @@ index-requires c =
 pub over-node-requires-clause-longer : goal.over-node-requires-clause-longer
 over-node-requires-clause-longer c =
     let tree = c.requires.trie.tree in
-    let differs : c.index.result.now.prefix ≢ c.args.prefix = search rules in
-    strictly c.args.prefix c.index.result.now.prefix (tree.valid c.args.below c.index.result.now c.index.ensures) (sym c.covers.ensures.value ∙ c.if-covers.true) differs
+    let differs : c.at-other.result.prefix ≢ c.args.prefix = search rules in
+    strictly c.args.prefix c.at-other.result.prefix (tree.valid c.args.below c.at-other.result c.at-other.ensures) (sym c.covers.ensures.value ∙ c.if-covers.true) differs
 
 pub attach-requires-clause-fits : goal.attach-requires-clause-fits
 attach-requires-clause-fits c =
     let h = c.requires.spot in
-    let differs : c.index.result.now.prefix ≢ c.args.prefix = search rules in
+    let differs : c.at-other.result.prefix ≢ c.args.prefix = search rules in
     subst (FitsBelow c.args.nodes.now c.args.spot.0 c.args.spot.1) (sym c.over-node.ensures)
-    (fits_between c.args.nodes.now c.requires.trie.tree c.args.prefix c.args.spot.0 c.args.spot.1 h c.args.below c.index.result.now (c.requires.link h.parent h.there) c.index.ensures (Some c.args.number) (sym c.covers.ensures.value ∙ c.if-covers.true) differs)
+    (fits_between c.args.nodes.now c.requires.trie.tree c.args.prefix c.args.spot.0 c.args.spot.1 h c.args.below c.at-other.result (c.requires.link h.parent h.there) c.at-other.ensures (Some c.args.number) (sym c.covers.ensures.value ∙ c.if-covers.true) differs)
 
 pub put_beside-requires-clause-differs : goal.put_beside-requires-clause-differs
 put_beside-requires-clause-differs c = λ n is.
-    let differs : c.index.result.now.prefix ≢ c.args.prefix = search rules in
-    λ same. differs (ap (λ x. x.prefix) (same_Some c.index.result.now n (sym c.index.ensures ∙ is)) ∙ same)
+    let differs : c.at-other.result.prefix ≢ c.args.prefix = search rules in
+    λ same. differs (ap (λ x. x.prefix) (same_Some c.at-other.result n (sym c.at-other.ensures ∙ is)) ∙ same)
 
 pub put_beside-requires-clause-parts : goal.put_beside-requires-clause-parts
 put_beside-requires-clause-parts c = λ n is over.
-    both_ways _ c.if-covers.false (c.covers.ensures.value ∙ ap (λ x. covers c.args.prefix x.prefix) (same_Some c.index.result.now n (sym c.index.ensures ∙ is)) ∙ over)
+    both_ways _ c.if-covers.false (c.covers.ensures.value ∙ ap (λ x. covers c.args.prefix x.prefix) (same_Some c.at-other.result n (sym c.at-other.ensures ∙ is)) ∙ over)
 
 pub returns-then-covers-clause-tight : goal.returns-then-covers-clause-tight
 returns-then-covers-clause-tight c =

@@ -13,8 +13,8 @@ pub returns-else-eq-clause-absent : goal.returns-else-eq-clause-absent
 returns-else-eq-clause-absent c = λ j n is same.
     let h = c.spot_of-parent.ensures.spot in
     let link = in_spot c.args.nodes.now c.requires.tree c.args.prefix.now c.spot_of-parent.result.0 c.spot_of-parent.result.1 h j n is same in
-    let parent : h.parent ≡ c.index.result.now = same_Some h.parent c.index.result.now (sym h.there ∙ c.index.ensures) in
+    let parent : h.parent ≡ c.at.result = same_Some h.parent c.at.result (sym h.there ∙ c.at.ensures) in
     let key : c.in_ok-child.child ≡ j = same_Some c.in_ok-child.child j (c.in_ok-child.ensures.key ∙ ap (λ x. child x c.spot_of-parent.result.1) (sym parent) ∙ link) in
-    let node : c.index-2.result.now ≡ n = same_Some c.index-2.result.now n (sym c.index-2.ensures ∙ ap (get c.args.nodes.now) key ∙ is) in
-    let differs : c.index-2.result.now.prefix ≢ c.args.prefix.now = search rules in
+    let node : c.at-2.result ≡ n = same_Some c.at-2.result n (sym c.at-2.ensures ∙ ap (get c.args.nodes.now) key ∙ is) in
+    let differs : c.at-2.result.prefix ≢ c.args.prefix.now = search rules in
     differs (ap (λ x. x.prefix) node ∙ same)

@@ -12,16 +12,16 @@ returns-in_err-at-clause-numbers c = numbers_unchanged c.args.nodes.now c.args.p
 pub returns-in_err-number-clause-value : goal.returns-in_err-number-clause-value
 returns-in_err-number-clause-value c =
     ap (option_map (λ r. r.0)) c.from_residual-in_err-number.ensures
-    ∙ sym (number_of-at c.args.nodes.now c.requires.trie.tree c.args.prefix.now c.in_ok-at.at c.index.result.now c.in_ok-at.ensures.found c.index.ensures ∙ c.in_err-number.was)
+    ∙ sym (number_of-at c.args.nodes.now c.requires.trie.tree c.args.prefix.now c.in_ok-at.at c.at.result c.in_ok-at.ensures.found c.at.ensures ∙ c.in_err-number.was)
 
 pub returns-in_err-number-clause-numbers : goal.returns-in_err-number-clause-numbers
 returns-in_err-number-clause-numbers c =
     numbers_unchanged c.args.nodes.now c.args.prefix.now
-    (number_of-at c.args.nodes.now c.requires.trie.tree c.args.prefix.now c.in_ok-at.at c.index.result.now c.in_ok-at.ensures.found c.index.ensures ∙ c.in_err-number.was)
+    (number_of-at c.args.nodes.now c.requires.trie.tree c.args.prefix.now c.in_ok-at.at c.at.result c.in_ok-at.ensures.found c.at.ensures ∙ c.in_err-number.was)
 
 pub returns-clause-value : goal.returns-clause-value
 returns-clause-value c =
-    sym (number_of-at c.args.nodes.now c.requires.trie.tree c.args.prefix.now c.in_ok-at.at c.index.result.now c.in_ok-at.ensures.found c.index.ensures ∙ c.in_ok-number.was)
+    sym (number_of-at c.args.nodes.now c.requires.trie.tree c.args.prefix.now c.in_ok-at.at c.at.result c.in_ok-at.ensures.found c.at.ensures ∙ c.in_ok-number.was)
 
 pub returns-clause-over : goal.returns-clause-over
 returns-clause-over c =

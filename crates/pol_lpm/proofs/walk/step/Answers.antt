@@ -7,30 +7,30 @@ use Rattle.pol_lpm.proofs.walk.step.Goals.{else-len-limit-via-then-len-limit+els
 
 pub returns-in_err-next-clause-deepest : goal.returns-in_err-next-clause-deepest
 returns-in_err-next-clause-deepest c =
-    let h = at_node c.args.nodes.now c.args.target.now c.args.limit c.args.at c.index.result.now c.requires.stands c.index.ensures in
-    rw c.from_residual.ensures (deepest_at_end c.args.nodes.now c.requires.trie.tree c.args.target.now c.toward.ensures.valid c.args.limit c.args.at c.index.result.now h (sym c.in_err-next.ensures.next))
+    let h = at_node c.args.nodes.now c.args.target.now c.args.limit c.args.at c.at.result c.requires.stands c.at.ensures in
+    rw c.from_residual.ensures (deepest_at_end c.args.nodes.now c.requires.trie.tree c.args.target.now c.toward.ensures.valid c.args.limit c.args.at c.at.result h (sym c.in_err-next.ensures.next))
 
-pub index-node-requires : goal.index-node-requires
-index-node-requires c =
-    let (_, is_c, _, _) = child_there c.args.nodes.now c.requires.trie.tree c.args.target.now c.toward.ensures.valid c.args.at c.index.result.now c.in_ok-next.next c.index.ensures (sym c.in_ok-next.ensures.next) in
+pub at-node-requires : goal.at-node-requires
+at-node-requires c =
+    let (_, is_c, _, _) = child_there c.args.nodes.now c.requires.trie.tree c.args.target.now c.toward.ensures.valid c.args.at c.at.result c.in_ok-next.next c.at.ensures (sym c.in_ok-next.ensures.next) in
     ap is_some is_c
 
 pub returns-then-covers-clause-deeper : goal.returns-then-covers-clause-deeper
 returns-then-covers-clause-deeper c =
-    let (n, is_c, _, longer) = child_there c.args.nodes.now c.requires.trie.tree c.args.target.now c.toward.ensures.valid c.args.at c.index.result.now c.in_ok-next.next c.index.ensures (sym c.in_ok-next.ensures.next) in
-    omega (arith, longer, len_at-node c.args.nodes.now c.args.at c.index.result.now c.index.ensures, len_at-node c.args.nodes.now c.in_ok-next.next n is_c)
+    let (n, is_c, _, longer) = child_there c.args.nodes.now c.requires.trie.tree c.args.target.now c.toward.ensures.valid c.args.at c.at.result c.in_ok-next.next c.at.ensures (sym c.in_ok-next.ensures.next) in
+    omega (arith, longer, len_at-node c.args.nodes.now c.args.at c.at.result c.at.ensures, len_at-node c.args.nodes.now c.in_ok-next.next n is_c)
 
 pub returns-then-covers-clause-between : goal.returns-then-covers-clause-between
 returns-then-covers-clause-between c =
-    let h = at_node c.args.nodes.now c.args.target.now c.args.limit c.args.at c.index.result.now c.requires.stands c.index.ensures in
-    none_between c.args.nodes.now c.requires.trie.tree c.args.target.now c.toward.ensures.valid c.args.at c.index.result.now c.in_ok-next.next c.index-node.result.now c.index.ensures h.over (sym c.in_ok-next.ensures.next) c.index-node.ensures
+    let h = at_node c.args.nodes.now c.args.target.now c.args.limit c.args.at c.at.result c.requires.stands c.at.ensures in
+    none_between c.args.nodes.now c.requires.trie.tree c.args.target.now c.toward.ensures.valid c.args.at c.at.result c.in_ok-next.next c.at-node.result c.at.ensures h.over (sym c.in_ok-next.ensures.next) c.at-node.ensures
 
 pub returns-else-len-limit-clause-deepest : goal.returns-else-len-limit-clause-deepest
 returns-else-len-limit-clause-deepest c =
-    let h = at_node c.args.nodes.now c.args.target.now c.args.limit c.args.at c.index.result.now c.requires.stands c.index.ensures in
-    let far : covers c.index-node.result.now.prefix c.args.target.now ≡ true → c.index-node.result.now.prefix.len < c.args.limit → ⊥ =
+    let h = at_node c.args.nodes.now c.args.target.now c.args.limit c.args.at c.at.result c.requires.stands c.at.ensures in
+    let far : covers c.at-node.result.prefix c.args.target.now ≡ true → c.at-node.result.prefix.len < c.args.limit → ⊥ =
     elim c.else-len-limit.branch [
       | else-len-limit-via-then-len-limit+else-covers w ↦ λ over _. both_ways _ w.if-covers.false (w.covers.ensures.value ∙ over)
       | else-len-limit-via-else-len-limit w ↦ λ _ short. omega (arith, short, c.len.ensures.value, w.if-len-limit.false)
     ] in
-    deepest_before c.args.nodes.now c.requires.trie.tree c.args.target.now c.toward.ensures.valid c.args.limit c.args.at c.index.result.now h c.in_ok-next.next c.index-node.result.now (sym c.in_ok-next.ensures.next) c.index-node.ensures far
+    deepest_before c.args.nodes.now c.requires.trie.tree c.args.target.now c.toward.ensures.valid c.args.limit c.args.at c.at.result h c.in_ok-next.next c.at-node.result (sym c.in_ok-next.ensures.next) c.at-node.ensures far

@@ -8,4 +8,4 @@ use Rattle.pol_selcache.proofs.judge.selected_of.Goals as goal
 pub from_ascending-requires : goal.from_ascending-requires
 from_ascending-requires g c =
     let up = subst (IsStrictlySortedBy nat_cmp) (sym c.as_slice.ensures.ids) c.as_slice.ensures.set.ascends in
-    record { ascending = subst (IsStrictlySortedBy nat_cmp) (sym c.in_ok-own.ensures.selected) (IsStrictlySortedBy-filter nat_cmp (selects_held c.args.identities.now c.args.peer.now) _ up) }
+    record { ascending = subst (IsStrictlySortedBy nat_cmp) (sym c.in_ok-own-in_default.ensures.selected) (IsStrictlySortedBy-filter nat_cmp (selects_held c.args.identities.now c.args.peer.now) _ up) }

@@ -1,17 +1,17 @@
 use Rattle.std.proofs.Common.{sym, ap, subst, ◌∙◌}
 use Rattle.pol_lpm.specs.Starts.{AreStarts}
 use Rattle.pol_lpm.specs.Trie.{map_of}
-use Rattle.pol_lpm.proofs.Maps.{IsTrie-room, tight_room, copied}
+use Rattle.pol_lpm.proofs.Maps.{IsTrie-room, tight_room}
 use Rattle.pol_lpm.proofs.StartLists.{starts_room}
 use Rattle.pol_lpm.proofs.table.PrefixTable.copy.Goals as goal
 
 pub invariant_of-result : goal.invariant_of-result
 invariant_of-result c =
     let nodes = c.self.inside.nodes in
-    let copy = c.in_ok-clone.field-0 in
-    let same = copied nodes copy c.in_ok-clone.ensures.cases in
+    let copy = c.in_ok-copy.field-0 in
+    let same = c.in_ok-copy.ensures in
     let trie = IsTrie-room nodes copy same c.self.invariant.0 in
     (trie, subst (AreStarts copy) (sym (c.in_ok-copied.ensures ∙ c.as_slice.ensures.value)) (starts_room nodes copy same c.self.invariant.0 trie c.self.inside.starts.items c.self.invariant.1), tight_room nodes copy same c.self.invariant.2)
 
 pub returns : goal.returns
-returns c = ap map_of (copied c.self.inside.nodes c.in_ok-clone.field-0 c.in_ok-clone.ensures.cases) ∙ c.self.view_is
+returns c = ap map_of c.in_ok-copy.ensures ∙ c.self.view_is

@@ -2,7 +2,7 @@ use Rattle.std.proofs.Common.{◌≤◌, ◌<◌, sym, subst, arith}
 use Rattle.pol_changes.specs.Log.{newest}
 use Rattle.pol_selcache.specs.Cache.{Cache}
 use Rattle.pol_numbers.specs.Held.{Held}
-use Rattle.pol_numbers.proofs.Carried.{newest_carried}
+use Rattle.pol_selcache.proofs.Coming.{newest_carried}
 use Rattle.pol_numbers.proofs.numbers.Numbers.carry_out.Goals as goal
 
 pub returns-clause-newest : goal.returns-clause-newest

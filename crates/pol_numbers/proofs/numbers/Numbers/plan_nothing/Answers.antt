@@ -1,6 +1,6 @@
 use Rattle.std.proofs.Common.{sym, subst}
 use Rattle.pol_selcache.specs.Live.{AreExact}
-use Rattle.pol_numbers.proofs.Coming.{rows_without_none}
+use Rattle.pol_selcache.proofs.Coming.{rows_without_none}
 use Rattle.pol_numbers.proofs.Readying.{readied_all}
 use Rattle.pol_numbers.proofs.numbers.Numbers.plan_nothing.Goals as goal
 

@@ -7,7 +7,7 @@ use Rattle.pol_sets.proofs.id_set.IdSet.contains.Goals as goal
 
 pub returns : goal.returns
 returns c =
-    let up = subst (IsStrictlySortedBy nat_cmp) (sym c.as_slice.ensures) c.self.invariant.ascends in
+    let up = subst (IsStrictlySortedBy nat_cmp) (sym c.as_slice.ensures.ids) c.as_slice.ensures.set.ascends in
     c.is_ok.ensures.value
     ∙ found_is _ _ _ c.binary_search.ensures.position up
-    ∙ ap (list_any (λ own. own == c.args.id)) (c.as_slice.ensures ∙ c.self.view_is)
+    ∙ ap (list_any (λ own. own == c.args.id)) c.as_slice.ensures.ids

@@ -1,0 +1,2 @@
+pub mod PeerRows
+pub mod OfState
