@@ -6,3 +6,4 @@ pub mod PoolLemmas
 pub mod PoolRunLemmas
 pub mod TwinRunLemmas
 pub mod RunLemmas
+pub mod SlotLemmas

@@ -1,18 +1,14 @@
 -- How each change of a pool keeps it sound.
-use Rattle.std.proofs.Common.{◌≡◌, ℕ, ◌+◌, ◌-◌, ◌<◌, ◌≤◌, Bool, true, false, ◌&&◌, List, [], ◌∷◌, ◌++◌, length, get_or, set, reverse, Option, Some, None, is_some, IsSome, cond, count_by, refl, sym, ap, ◌∙◌, inl, inr, arith, eqb, ltb}
+use Rattle.std.proofs.Common.{◌≡◌, ℕ, ◌+◌, ◌-◌, ◌<◌, ◌≤◌, Bool, true, false, ◌&&◌, List, [], ◌∷◌, ◌++◌, length, get_or, set, Option, Some, None, is_some, IsSome, cond, count_by, refl, sym, ap, ◌∙◌, inl, inr, arith, eqb, ltb}
 use Rattle.std.specs.Prelude.{is_none}
 use Rattle.std.proofs.lemmas.Bool.{eq-eqb, lt-ltb, le-ltb}
 use Rattle.std.proofs.lemmas.Bool.Decides.{eqb_tells}
 use Rattle.std.proofs.lemmas.Grind.{common_steps}
-use Rattle.std.proofs.lemmas.List.{get_or-set_same, get_or-set_other, get_or_past, get_or_default, get_or_append_left, length-set, length_push, reverse-append}
+use Rattle.std.proofs.lemmas.List.{get_or-set_same, get_or-set_other, get_or_past, get_or_append_left, length-set, length_push}
 use Rattle.std.proofs.lemmas.List.Sums.{sum_by-cons, sum_by-set, sum_by_push}
 use Rattle.std.proofs.Math.Seq.{get_or-append_seam}
-use Rattle.pol_arena.specs.Pool.{Pool, IsSound, Updates}
+use Rattle.pol_arena.specs.Pool.{Pool, IsInUse, nodes_in_use, next_of, after_put, after_take, with_value, IsSound, Updates}
 use Rattle.pol_arena.specs.Room.{IsKept}
-
--- the last of a stack is the first of the list that contracts see
-pub reverse_of_push : (front : List ℕ) (node : ℕ) → reverse (front ++ node ∷ []) ≡ node ∷ reverse front
-reverse_of_push front node = reverse-append front (node ∷ [])
 
 module _ {T : Type 0} where
   -- the index lies below the length and has no value
@@ -160,45 +156,40 @@ module _ {T : Type 0} where
         fits = omega arith;
       }
 
-  -- each change keeps what the pool keeps, where the free list's capacity stays
-  pub IsKept-put_again : (slots : List (Option T)) (node : ℕ) (rest : List ℕ) (spare : ℕ) (value : T) (slots_capacity old_capacity new_capacity : ℕ) → new_capacity ≡ old_capacity → IsKept (record { slots = slots; free = node ∷ rest; spare = spare }) slots_capacity old_capacity → IsKept (record { slots = set slots node (Some value); free = rest; spare = spare - 1 }) slots_capacity new_capacity
-  IsKept-put_again slots node rest spare value slots_capacity old_capacity new_capacity same kept =
-      let first = first_is_free slots node rest spare kept.sound in
-      let in_use = count-fill slots node value (empty_within slots node first) (empty_is_none slots node first) in
-      let covered = kept.sound.covered in
-      let slots_room = kept.slots_room in
-      let free_room = kept.free_room in
-      record { sound = IsSound-put_again slots node rest spare value kept.sound; slots_room = omega arith; free_room = omega arith }
+  -- the node that a put gives has no value
+  pub next_is_free : (slots : List (Option T)) (free : List ℕ) (spare : ℕ) → IsSound (record { slots = slots; free = free; spare = spare }) → get_or slots (next_of free slots) None ≡ None
+  next_is_free slots [] spare sound = get_or_past slots (length slots) None (omega arith)
+  next_is_free slots (node ∷ rest) spare sound = empty_is_none slots node (first_is_free slots node rest spare sound)
 
-  pub IsKept-take : (slots : List (Option T)) (free : List ℕ) (spare node slots_capacity old_capacity new_capacity : ℕ) → IsSome (get_or slots node None) → new_capacity ≡ old_capacity → IsKept (record { slots = slots; free = free; spare = spare }) slots_capacity old_capacity → IsKept (record { slots = set slots node None; free = node ∷ free; spare = spare + 1 }) slots_capacity new_capacity
-  IsKept-take slots free spare node slots_capacity old_capacity new_capacity used same kept =
-      let in_use = count-empty slots node used in
-      let slots_room = kept.slots_room in
-      let free_room = kept.free_room in
-      record { sound = IsSound-take slots free spare node used kept.sound; slots_room = omega arith; free_room = omega arith }
+  -- a put keeps a pool sound, and uses one node more
+  pub IsSound-put : (slots : List (Option T)) (free : List ℕ) (spare : ℕ) (value : T) → IsSound (record { slots = slots; free = free; spare = spare }) → 1 ≤ spare → IsSound (after_put (record { slots = slots; free = free; spare = spare }) value)
+  IsSound-put slots [] spare value sound some = IsSound-put_new slots spare value sound some
+  IsSound-put slots (node ∷ rest) spare value sound some = IsSound-put_again slots node rest spare value sound
 
-  pub IsKept-write : (slots : List (Option T)) (free : List ℕ) (spare node : ℕ) (value : T) (slots_capacity free_capacity : ℕ) → IsSome (get_or slots node None) → IsKept (record { slots = slots; free = free; spare = spare }) slots_capacity free_capacity → IsKept (record { slots = set slots node (Some value); free = free; spare = spare }) slots_capacity free_capacity
-  IsKept-write slots free spare node value slots_capacity free_capacity used kept =
-      let in_use = count-write slots node value used in
-      let slots_room = kept.slots_room in
-      let free_room = kept.free_room in
-      record { sound = IsSound-write slots free spare node value used kept.sound; slots_room = omega arith; free_room = omega arith }
+  pub count-put : (slots : List (Option T)) (free : List ℕ) (spare : ℕ) (value : T) → IsSound (record { slots = slots; free = free; spare = spare }) → nodes_in_use (after_put (record { slots = slots; free = free; spare = spare }) value) ≡ count_by is_some slots + 1
+  count-put slots [] spare value sound = sum_by_push (λ o. cond (is_some o) 1 0) slots (Some value)
+  count-put slots (node ∷ rest) spare value sound =
+      let first = first_is_free slots node rest spare sound in
+      count-fill slots node value (empty_within slots node first) (empty_is_none slots node first)
 
-  -- a pool whose stack has this node at its end
-  pub IsKept-popped : (slots : List (Option T)) (stack rest : List ℕ) (node spare slots_capacity free_capacity : ℕ) → stack ≡ rest ++ node ∷ [] → IsKept (record { slots = slots; free = reverse stack; spare = spare }) slots_capacity free_capacity → IsKept (record { slots = slots; free = node ∷ reverse rest; spare = spare }) slots_capacity free_capacity
-  IsKept-popped slots stack rest node spare slots_capacity free_capacity popped kept =
-      let first : reverse stack ≡ node ∷ reverse rest = ap reverse popped ∙ reverse_of_push rest node in
-      rw first at kept
+  -- each change keeps what the pool keeps
+  pub IsKept-put : (p : Pool T) (value : T) (capacity : ℕ) → 1 ≤ p.spare → IsKept p capacity → IsKept (after_put p value) capacity
+  IsKept-put p value capacity some kept =
+      let in_use = count-put p.slots p.free p.spare value kept.sound in
+      let room = kept.room in
+      record { sound = IsSound-put p.slots p.free p.spare value kept.sound some; room = omega arith }
 
-  -- that node is empty
-  pub popped_is_empty : (slots : List (Option T)) (stack rest : List ℕ) (node spare slots_capacity free_capacity : ℕ) → stack ≡ rest ++ node ∷ [] → IsKept (record { slots = slots; free = reverse stack; spare = spare }) slots_capacity free_capacity → empty_at slots node ≡ true
-  popped_is_empty slots stack rest node spare slots_capacity free_capacity popped kept =
-      first_is_free slots node (reverse rest) spare (IsKept-popped slots stack rest node spare slots_capacity free_capacity popped kept).sound
+  pub IsKept-take : (p : Pool T) (node capacity : ℕ) → IsInUse p node → IsKept p capacity → IsKept (after_take p node) capacity
+  IsKept-take p node capacity used kept =
+      let in_use = count-empty p.slots node used in
+      let room = kept.room in
+      record { sound = IsSound-take p.slots p.free p.spare node used kept.sound; room = omega arith }
 
-  -- an empty index reads as nothing, whatever the default
-  pub empty_reads_none : (slots : List (Option T)) (node : ℕ) (read : Option T) → empty_at slots node ≡ true → read ≡ get_or slots node read → read ≡ None
-  empty_reads_none slots node read empty is =
-      is ∙ get_or_default slots node read None (empty_within slots node empty) ∙ empty_is_none slots node empty
+  pub IsKept-write : (p : Pool T) (node : ℕ) (value : T) (capacity : ℕ) → IsInUse p node → IsKept p capacity → IsKept (with_value p node value) capacity
+  IsKept-write p node value capacity used kept =
+      let in_use = count-write p.slots node value used in
+      let room = kept.room in
+      record { sound = IsSound-write p.slots p.free p.spare node value used kept.sound; room = omega arith }
 
   -- a write of one slot changes what that node has, and no other
   pub Updates-set : (old new : Pool T) (node : ℕ) (slot : Option T) → node < length old.slots → new.slots ≡ set old.slots node slot → Updates old new node slot

@@ -2,12 +2,12 @@
 use Rattle.std.proofs.Common.{◌≡◌, ◌≢◌, ◌↔◌, ℕ, zero, suc, ◌<◌, ◌≤◌, Bool, true, false, List, [], ◌∷◌, length, get_or, Option, Some, None, is_some, cond, count_by, refl, sym, ap, ◌∙◌, inl, inr, arith, eqb, Contains}
 use Rattle.std.proofs.lemmas.Bool.{eq-eqb}
 use Rattle.std.proofs.lemmas.Bool.Decides.{eqb_tells}
-use Rattle.std.proofs.lemmas.List.{get_or-set_other, get_or_past, get_or_append_left}
+use Rattle.std.proofs.lemmas.List.{get_or-set_other, get_or_append_left}
 use Rattle.std.proofs.lemmas.List.Sums.{sum_by-cons}
-use Rattle.pol_arena.specs.Pool.{Pool, node_at, next_of, filled, IsSound, after_put, with_value}
+use Rattle.pol_arena.specs.Pool.{Pool, node_at, filled, IsSound, with_value}
 use Rattle.pol_arena.specs.PoolRuns.{Operation, Reserve, Put, Take, Write, IsAllowed, after, AreAllowed, after_all, Leaves, AllLeave, WriteChangesOneNode}
 use Rattle.pol_arena.proofs.RunLemmas.{kept_through, both_in_turn, in_turn_from_every}
-use Rattle.pol_arena.proofs.PoolLemmas.{empty_at, empty_within, empty_is_none, empty_from_none, first_is_free, in_use_within, IsSound-put_new, IsSound-put_again, IsSound-take, IsSound-write, count-write, Updates-set}
+use Rattle.pol_arena.proofs.PoolLemmas.{empty_at, empty_within, empty_is_none, empty_from_none, first_is_free, in_use_within, IsSound-put, IsSound-take, IsSound-write, count-write, Updates-set}
 
 -- a number that a list has is counted
 pub counted_where_listed : (xs : List ℕ) (x k : ℕ) → k < length xs → get_or xs k x ≡ x → 1 ≤ count_by (eqb x) xs
@@ -39,16 +39,6 @@ counted_where_empty : (b : Bool) (n : ℕ) → n ≡ cond b 1 0 → b ≡ true �
 counted_where_empty b n is empty = grind arith
 
 module _ {T : Type 0} where
-  -- the node that a put gives has no value
-  pub next_is_free : (slots : List (Option T)) (free : List ℕ) (spare : ℕ) → IsSound (record { slots = slots; free = free; spare = spare }) → get_or slots (next_of free slots) None ≡ None
-  next_is_free slots [] spare sound = get_or_past slots (length slots) None (omega arith)
-  next_is_free slots (node ∷ rest) spare sound = empty_is_none slots node (first_is_free slots node rest spare sound)
-
-  -- a put keeps a pool sound
-  pub IsSound-put : (slots : List (Option T)) (free : List ℕ) (spare : ℕ) (value : T) → IsSound (record { slots = slots; free = free; spare = spare }) → 1 ≤ spare → IsSound (after_put (record { slots = slots; free = free; spare = spare }) value)
-  IsSound-put slots [] spare value sound some = IsSound-put_new slots spare value sound some
-  IsSound-put slots (node ∷ rest) spare value sound some = IsSound-put_again slots node rest spare value sound
-
   -- an allowed operation keeps a pool sound
   pub IsSound-after : (p : Pool T) (o : Operation T) → IsSound p → IsAllowed p o → IsSound (after p o)
   IsSound-after p (Reserve nodes) sound allowed =

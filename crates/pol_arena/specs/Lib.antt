@@ -4,5 +4,6 @@ pub mod PoolRuns
 pub mod Queue
 pub mod Room
 pub mod Runs
+pub mod Slots
 pub mod Twin
 pub mod TwinRuns

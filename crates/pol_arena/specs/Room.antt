@@ -2,8 +2,7 @@
 use Rattle.std.specs.Prelude.{ℕ, ◌+◌, ◌≤◌}
 use Rattle.pol_arena.specs.Pool.{Pool, IsSound, nodes_in_use}
 
--- the pool is sound, and both vectors have room for the nodes in use and the spare ones
-pub record IsKept {T : Type 0} (p : Pool T) (slots_capacity free_capacity : ℕ) : Type 0 where
+-- the pool is sound, and its slots have room for the nodes in use and the spare ones
+pub record IsKept {T : Type 0} (p : Pool T) (capacity : ℕ) : Type 0 where
   pub sound : IsSound p
-  pub slots_room : nodes_in_use p + p.spare ≤ slots_capacity
-  pub free_room : nodes_in_use p + p.spare ≤ free_capacity
+  pub room : nodes_in_use p + p.spare ≤ capacity

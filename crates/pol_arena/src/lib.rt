@@ -7,6 +7,7 @@
 pub mod laws;
 mod node;
 mod pool;
+mod slot;
 mod twin;
 
 pub use pool::Pool;

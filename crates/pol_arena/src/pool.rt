@@ -1,55 +1,40 @@
 //! Values by index, with a free list.
-ghost use Rattle.std.specs.Prelude.{◌≡◌, ◌+◌, ◌-◌, ◌^◌, ◌<◌, ◌≤◌, Some, None, IsSome, IsOk, IfOk, OnOk, OnErr, max, length, vec_capacity};
+ghost use Rattle.std.specs.Prelude.{◌≡◌, ◌+◌, ◌-◌, ◌^◌, ◌<◌, ◌≤◌, Some, None, IsOk, IfOk, OnOk, OnErr, max, length, vec_capacity};
 ghost use Rattle.std.specs.Borrow.{sem};
-ghost use Rattle.std.specs.Option.Follows.{option_follows_value};
 ghost use Rattle.pol_arena.specs.Pool.{empty_pool, node_at, IsInUse, nodes_in_use, next_node, after_put, after_take, Updates, IsSound};
 
+use crate::slot::Slot;
 use pol_data::Memory;
 use std::alloc::Global;
 use std::marker::Model;
 
 /// Values of one type, each under an index that the pool picks: a node. A node keeps its value until it is taken,
 /// and only then can a put give it out again. The free nodes are used last in, first out. All of this is profile.
+///
+/// A free node's slot names the node that was taken before it, so a pool keeps one slot a node and nothing else.
 #[derive(Drop)]
 pub struct Pool<T> {
-    slots: Vec<Option<T>>,
-    // The free nodes, the one taken last at the end.
-    free: Vec<u32>,
+    slots: Vec<Slot<T>>,
+    // How many nodes are free, and the one that was taken last, where there is one.
+    free: u32,
+    first: u32,
     spare: u32,
 }
 
 impl<T> Model for Pool<T> {
-    ghost use Rattle.std.specs.Prelude.{reverse, vec_capacity};
+    ghost use Rattle.std.specs.Prelude.{vec_capacity};
     ghost use Rattle.pol_arena.specs.Pool.{Pool as Nodes, pool_code};
 
     ghost Value = { Nodes T };
 
     ghost coded = { pool_code T.code };
 
+    ghost use Rattle.pol_arena.specs.Slots.{pool_of};
     ghost use Rattle.pol_arena.specs.Room.{IsKept};
 
-    ghost view = { λ p. record {
-      slots = p.slots.items;
-      free = reverse p.free.items;
-      spare = p.spare;
-    } };
+    ghost view = { λ p. pool_of p.slots.items p.first p.free p.spare };
 
-    ghost invariant = { λ p. IsKept
-        (record { slots = p.slots.items; free = reverse p.free.items; spare = p.spare })
-        (vec_capacity p.slots)
-        (vec_capacity p.free) };
-}
-
-/// The value of a slot that has one.
-fn value_mut<T>(slot: &mut Option<T>) -> &mut T
-    requires { IsSome slot.old }
-    ensures* lends { sem 𝓛 (option_follows_value T.row slot.entry result) }
-    ensures value { slot.old ≡ Some result.now }
-{
-    match slot {
-        Some(value) => value,
-        None => unreachable!(),
-    }
+    ghost invariant = { λ p. IsKept (pool_of p.slots.items p.first p.free p.spare) (vec_capacity p.slots) };
 }
 
 impl<T> Pool<T> {
@@ -62,7 +47,8 @@ impl<T> Pool<T> {
     {
         Pool {
             slots: Vec::new(alloc),
-            free: Vec::new(alloc),
+            free: 0,
+            first: 0,
             spare: 0,
         }
     }
@@ -79,9 +65,7 @@ impl<T> Pool<T> {
         if nodes <= self.spare {
             return Ok(());
         }
-        let room = self.slots.len() - self.free.len() + nodes as usize;
-        self.slots.reserve(room - self.slots.len())?;
-        self.free.reserve(room - self.free.len())?;
+        self.slots.reserve((nodes - self.free) as usize)?;
         self.spare = nodes;
         Ok(())
     }
@@ -98,19 +82,15 @@ impl<T> Pool<T> {
         ensures sound { IsSound self.new }
     {
         self.spare -= 1;
-        match self.free.pop() {
-            None => {
-                let node = self.slots.len() as u32;
-                self.slots.push_reserved(Some(value));
-                node
-            }
-            Some(node) => {
-                match self.slots[node as usize].replace(value) {
-                    None => node,
-                    Some(_) => unreachable!(),
-                }
-            }
+        if self.free == 0 {
+            let node = self.slots.len() as u32;
+            self.slots.push_reserved(Slot::Used(value));
+            return node;
         }
+        let node = self.first;
+        self.first = self.slots[node as usize].fill(value);
+        self.free -= 1;
+        node
     }
 
     /// Takes the value of a node in use. The node is free then, and the next put gives it. It takes no memory.
@@ -122,12 +102,11 @@ impl<T> Pool<T> {
         ensures count { nodes_in_use self.new + 1 ≡ nodes_in_use self.old }
         ensures sound { IsSound self.new }
     {
+        let value = self.slots[node as usize].empty(self.first);
+        self.first = node;
+        self.free += 1;
         self.spare += 1;
-        self.free.push_reserved(node);
-        match self.slots[node as usize].take() {
-            Some(value) => value,
-            None => unreachable!(),
-        }
+        value
     }
 
     /// The value of a node in use.
@@ -136,10 +115,7 @@ impl<T> Pool<T> {
         ensures value { node_at self.now node ≡ Some result.now }
         ensures sound { IsSound self.now }
     {
-        match &self.slots[node as usize] {
-            Some(value) => value,
-            None => unreachable!(),
-        }
+        self.slots[node as usize].value()
     }
 
     /// The value of a node in use, to be changed in place.
@@ -149,7 +125,7 @@ impl<T> Pool<T> {
         ensures value { node_at self.old node ≡ Some result.now }
         ensures sound { IsSound self.old }
     {
-        value_mut(&mut self.slots[node as usize])
+        self.slots[node as usize].value_mut()
     }
 
     /// How many nodes are in use.
@@ -157,7 +133,7 @@ impl<T> Pool<T> {
         ensures count { result ≡ nodes_in_use self.now }
         ensures sound { IsSound self.now }
     {
-        (self.slots.len() - self.free.len()) as u32
+        self.slots.len() as u32 - self.free
     }
 }
 
@@ -179,12 +155,11 @@ impl<T: Copy> Pool<T> {
     pub fn copy(&self, alloc: Global) -> Result<Pool<T>, Memory>
         ensures equal { IfOk result (λ copy. copy ≡ self.now) }
     {
-        let room = self.slots.len() - self.free.len() + self.spare as usize;
-        let slots = copied(alloc, self.slots.as_slice(), room)?;
-        let free = copied(alloc, self.free.as_slice(), room)?;
+        let room = self.slots.len() + (self.spare - self.free) as usize;
         Ok(Pool {
-            slots,
-            free,
+            slots: copied(alloc, self.slots.as_slice(), room)?,
+            free: self.free,
+            first: self.first,
             spare: self.spare,
         })
     }

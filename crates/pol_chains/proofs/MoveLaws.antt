@@ -1,8 +1,9 @@
 -- The moves that the log tells are those of the journal.
 use Rattle.std.proofs.Common.{◌≡◌, ℕ, ◌<◌, ◌≤◌, nat_lt, Bool, true, false, cond, List, [], ◌∷◌, filter, length, slice_get, Option, Some, None, refl, sym, ap, ◌∙◌, subst, arith}
+use Rattle.std.specs.Prelude.{IfSome, slice_index_or}
 use Rattle.std.specs.List.{AllByRecursion, cons_option, flat_map}
 use Rattle.std.proofs.lemmas.Bool.{cond-false, le-ltb, ltb-false, ltb-true}
-use Rattle.std.proofs.lemmas.Option.{same_Some}
+use Rattle.std.proofs.lemmas.Option.{same_Some, slice_get-get_or}
 use Rattle.pol_sets.specs.declared.sets.Move.{Move}
 use Rattle.pol_sets.specs.declared.sets.SetRow.{SetRow}
 use Rattle.pol_model.specs.declared.options.Options.{Options}
@@ -13,7 +14,7 @@ use Rattle.pol_selcache.specs.Cache.{Cache}
 use Rattle.pol_selcache.specs.Live.{number_of}
 use Rattle.pol_chains.specs.Chained.{IsChained}
 use Rattle.pol_chains.specs.Changes.{horizon_of}
-use Rattle.pol_chains.specs.Moves.{AreMovesOf, IsMoveOf, TellsMoves, move_since, moves_of}
+use Rattle.pol_chains.specs.Moves.{AreMovesOf, IsMoveOf, TellsMoves, TellsMovesSince, move_since, moves_by, moves_of}
 use Rattle.pol_chains.proofs.Chains.{chain_horizon, chain_moves}
 
 -- a move is of the selector that it is asked of
@@ -65,3 +66,12 @@ module _ (options : Options) (journal : List Request) (nexts : List ℕ) (cache 
           let kept : cache.log.horizon ≤ revision = ltb-false revision cache.log.horizon above in
           let each : AreMovesOf options journal revision rows (flat_map of rows) = (of, refl, all_moves kept rows are) in
           (subst (λ h. h ≤ revision) same kept, each)
+
+-- by the next numbers of all revisions
+pub moves_told_since : (options : Options) (journal : List Request) (nexts : List ℕ) (cache : Cache) → IsChained options journal nexts cache
+    → (known : Option ℕ) → IfSome known (λ revision. revision ≤ length journal) → (rows : List SetRow) → AllByRecursion (λ row. number_of row.peer cache.live ≡ Some row.selector) rows
+    → TellsMovesSince options journal known rows (moves_by cache.log nexts known rows)
+moves_told_since options journal nexts cache chained None within rows are = refl
+moves_told_since options journal nexts cache chained (Some revision) within rows are =
+    moves_told options journal nexts cache chained revision (slice_index_or nexts revision 0) within
+    (slice_get-get_or nexts revision 0 (omega (arith, within, chained.counted))) rows are

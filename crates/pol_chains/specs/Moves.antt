@@ -1,5 +1,5 @@
 -- What the sets of rows gained and lost since a revision.
-use Rattle.std.specs.Prelude.{ℕ, ◌≡◌, ◌<◌, ◌≤◌, nat_lt, if◌then◌else◌, List, [], ◌∷◌, Option, None, Some}
+use Rattle.std.specs.Prelude.{ℕ, ◌≡◌, ◌<◌, ◌≤◌, nat_lt, if◌then◌else◌, List, [], ◌∷◌, Option, None, Some, slice_index_or}
 use Rattle.std.specs.List.{AllByRecursion, cons_option, flat_map}
 use Rattle.pol_sets.specs.declared.sets.Move.{Move}
 use Rattle.pol_sets.specs.declared.sets.SetRow.{SetRow}
@@ -35,3 +35,13 @@ AreMovesOf options journal revision rows moves =
 abbrev pub TellsMoves : Options → List Request → ℕ → List SetRow → Option (List Move) → Type 0
 TellsMoves options journal revision rows None = revision < horizon_of options journal
 TellsMoves options journal revision rows (Some moves) = (horizon_of options journal ≤ revision) × AreMovesOf options journal revision rows moves
+
+-- What the log tells of rows since a revision that is known, by the next numbers of all revisions: none where none is known.
+abbrev pub moves_by : Log → List ℕ → Option ℕ → List SetRow → Option (List Move)
+moves_by log nexts None rows = None
+moves_by log nexts (Some revision) rows = moves_of log (slice_index_or nexts revision 0) revision rows
+
+-- None exactly where no revision is known, or where it is below the horizon of the journal.
+abbrev pub TellsMovesSince : Options → List Request → Option ℕ → List SetRow → Option (List Move) → Type 0
+TellsMovesSince options journal None rows moves = moves ≡ None
+TellsMovesSince options journal (Some revision) rows moves = TellsMoves options journal revision rows moves

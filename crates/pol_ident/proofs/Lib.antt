@@ -4,6 +4,7 @@ pub mod GivenBack
 pub mod HeldLabels
 pub mod HeldPrefixes
 pub mod Looks
+pub mod Prefixed
 pub mod Refusals
 pub mod RowLists
 pub mod RowsOf

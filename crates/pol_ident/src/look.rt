@@ -4,6 +4,7 @@ ghost use Rattle.std.specs.Option.{option_copied};
 ghost use Rattle.pol_facts.specs.Holding.{has_row, row_of};
 ghost use Rattle.pol_facts.specs.Keeps.{KeepsRows};
 ghost use Rattle.pol_ident.specs.Look.{labels_at, prefix_at};
+ghost use Rattle.pol_ident.specs.Prefixed.{numbers_with_prefix};
 
 use crate::Identities;
 use crate::place::{Place, place_of};
@@ -86,6 +87,19 @@ impl Identities {
         let mut numbers = numbers_of(alloc, &self.reserved)?;
         self.cluster.push_numbers(CLUSTER_FIRST, &mut numbers)?;
         self.local.push_numbers(LOCAL_FIRST, &mut numbers)?;
+        Ok(numbers)
+    }
+
+    /// The numbers that have a prefix, ascending: that of the world, and those that prefixes hold. The one error is want of
+    /// memory.
+    pub fn numbers_with_prefix(&self, alloc: Global) -> Result<Vec<u32>, Memory>
+        ensures numbers { IfOk result (λ numbers. numbers.items ≡ numbers_with_prefix self.now) }
+        ensures sound { KeepsRows self.now }
+    {
+        let local = &self.local;
+        let mut numbers = Vec::new(alloc);
+        numbers.push(WORLD_IDENTITY)?;
+        local.push_numbers(LOCAL_FIRST, &mut numbers)?;
         Ok(numbers)
     }
 }

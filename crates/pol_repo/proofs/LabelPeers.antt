@@ -1,8 +1,7 @@
 -- There are as many selectors of labels as distinct peers of labels.
 use Rattle.std.proofs.Common.{◌≡◌, ◌<◌, ◌&&◌, Bool, true, List, map, filter, find, Option, None, Some, refl, sym, ap, ◌∙◌, inl, inr, arith}
-use Rattle.std.specs.Cmp.{IsEquivalence}
 use Rattle.std.specs.List.{IsDistinct, list_any}
-use Rattle.std.proofs.lemmas.Bool.{both_ways, cases_Bool, false_from_ne_true}
+use Rattle.std.proofs.lemmas.Bool.{cases_Bool, false_from_ne_true}
 use Rattle.std.proofs.lemmas.List.{length-map}
 use Rattle.std.proofs.lemmas.List.Sums.{length-filter}
 use Rattle.std.proofs.lemmas.Map.Made.{length-from_keys}
@@ -16,7 +15,8 @@ use Rattle.pol_rule.specs.contracts.policy.PeerPartialEq.TheImpl as peers
 use Rattle.pol_rule.specs.declared.policy.Peer.{Peer}
 use Rattle.pol_model.specs.declared.row.Stamped.{Stamped}
 use Rattle.pol_peers.specs.References.{RefsOf, references_of}
-use Rattle.pol_peers.proofs.Found.{is_of, peer_itself, refs}
+use Rattle.pol_peers.proofs.Equality.{equal_peers}
+use Rattle.pol_peers.proofs.Found.{is_of, refs}
 use Rattle.pol_selcache.specs.Live.{AreLive, Live, is_label_peer, label_selectors}
 use Rattle.pol_store.specs.Store.{peers_of}
 use Rattle.pol_repo.specs.Cost.{label_peers}
@@ -24,19 +24,6 @@ use Rattle.pol_repo.specs.Cost.{label_peers}
 -- ---- peers that are equal
 peer_is : (p q : Peer) → peers.ghosts.eq p q ≡ true → p ≡ q
 peer_is p q same = (peer_eq-Decides p q).0 same
-
-turned : (p q : Peer) → peers.ghosts.eq p q ≡ true → peers.ghosts.eq q p ≡ true
-turned p q same = (peer_eq-Decides q p).1 (sym (peer_is p q same))
-
-equal_peers : IsEquivalence peers.ghosts.eq
-equal_peers = record {
-  refl = peer_itself;
-  symm = λ p q. elim (cases_Bool (peers.ghosts.eq p q)) [
-    | inl same ↦ same ∙ sym (turned p q same)
-    | inr other ↦ other ∙ sym (false_from_ne_true (peers.ghosts.eq q p) (λ same. both_ways (peers.ghosts.eq p q) other (turned q p same)))
-  ];
-  congr = λ p q r same. ap (λ s. peers.ghosts.eq s r) (peer_is p q same);
-}
 
 -- ---- a peer has a live selector where it is listed, and nowhere else
 module _ (listed : List Peer) (live : List Live) (referred : RefsOf listed live) (are : AreLive live) where

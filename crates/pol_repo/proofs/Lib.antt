@@ -4,3 +4,4 @@ pub mod Longest
 pub mod Sides
 pub mod Standing
 pub mod Taking
+pub mod Telling

@@ -98,7 +98,7 @@ module _ (options : Options) (journal : List Request) (len capacity : ℕ) (stor
     pub none_readied : readied ≡ None
     none_readied = no_readied _ readied (ap (λ (r : Repository). r.prepared) seen ∙ idle)
 
-    stands_now : StandsFor (state_of options journal) stored
+    pub stands_now : StandsFor (state_of options journal) stored
     stands_now = let idly : IsSound options journal len capacity stored None = subst (λ (o : Option Readied). IsSound options journal len capacity stored o) none_readied sound in idly.inside
 
     pub stands : StandsFor (state_in self) stored
@@ -190,7 +190,7 @@ module _ (options : Options) (journal : List Request) (len capacity : ℕ) (stor
           some_of : {X : Type 0} {x y : X} → Some x ≡ Some y → x ≡ y
           some_of e = cc
 
-      readied_now : IsReadied (state_of options journal) request stored one
+      pub readied_now : IsReadied (state_of options journal) request stored one
       readied_now = subst (λ (r : Request). IsReadied (state_of options journal) r stored one) is_it prepared_now.is_readied
 
       pub accepted : (journal' : List Request) (stored' : Stored) (len' capacity' : ℕ) (left : Option Readied) → journal' ≡ journal ++ request ∷ [] → left ≡ None

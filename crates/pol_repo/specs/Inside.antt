@@ -15,6 +15,7 @@ use Rattle.pol_store.specs.declared.readied.Change.TheVariants as change
 use Rattle.pol_store.specs.declared.readied.Readied.{Readied}
 use Rattle.pol_store.specs.Readied.{IsReadied}
 use Rattle.pol_store.specs.Store.{StandsFor, Stored}
+use Rattle.pol_chains.specs.Chained.{IsChained, IsChainedBefore}
 use Rattle.pol_repo.specs.Repository.{Repository}
 
 -- the labels of the number's row, none where it has none
@@ -56,3 +57,9 @@ IsIn s len capacity stored (Some readied) = IsPrepared s len capacity stored rea
 pub record IsSound (options : Options) (journal : List Request) (len capacity : ℕ) (stored : Stored) (readied : Option Readied) : Type 0 where
   pub without_faults : WithoutFaults options journal
   pub inside : IsIn (state_of options journal) len capacity stored readied
+
+-- What the selectors tell of each revision since: the list has for each the number that the next new selector would have
+-- taken. While a request is prepared, it is that of the selectors before, and there is room for one more.
+abbrev pub IsTold : Options → List Request → List ℕ → (many room : ℕ) → Stored → Option Readied → Type 0
+IsTold options journal nexts many room stored None = IsChained options journal nexts stored.cache
+IsTold options journal nexts many room stored (Some readied) = IsChainedBefore options journal nexts stored.cache × (many < room)

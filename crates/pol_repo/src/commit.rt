@@ -25,7 +25,11 @@ impl Repo {
     {
         let Ready { request, done } = ready;
         let readied = self.prepared.take().unwrap();
+        // These calls tell that the selectors fit together, before and after.
+        let _before = self.store.horizon();
         self.store.carry_out(readied);
+        let next = self.store.selectors().next_number();
+        self.nexts.push(next).unwrap();
         self.journal.push(request).unwrap();
         done
     }
@@ -37,6 +41,8 @@ impl Repo {
     {
         let readied = self.prepared.take().unwrap();
         self.store.take_back(readied);
+        // The call tells that the selectors fit together.
+        let _known = self.store.horizon();
     }
 
     /// Does the request, if it has no fault, and raises the revision by one. The errors are those of `Repo::prepare`; after

@@ -9,6 +9,7 @@
 mod commit;
 pub mod laws;
 mod look;
+mod moves;
 mod prepare;
 mod repo;
 mod take;

@@ -5,7 +5,9 @@ ghost use Rattle.pol_model.specs.After.{after};
 ghost use Rattle.pol_model.specs.Committed.{committed_of};
 ghost use Rattle.pol_model.specs.Fault.{fault_of};
 ghost use Rattle.pol_model.specs.Sizes.{IsShort};
+ghost use Rattle.pol_selcache.specs.Cache.{IsSound as AreSound};
 ghost use Rattle.pol_selcache.specs.Live.{label_selectors};
+ghost use Rattle.pol_peers.specs.Numbering.{GainsSelectors};
 ghost use Rattle.pol_store.specs.Readied.{ReadiesOrNot, is_of_policy};
 ghost use Rattle.pol_store.specs.Store.{StandsForSome};
 ghost use Rattle.pol_repo.specs.Causes.{IsCause};
@@ -27,9 +29,10 @@ pub struct Ready {
     pub done: Committed,
 }
 
-// The request is readied, with room in the journal for one more.
+// The request is readied, with room in the journal and in the list of next numbers for one more.
 fn ready_in<L: Ledger>(
     journal: &mut Vec<Request>,
+    nexts: &mut Vec<u64>,
     store: &mut Store,
     request: &Request,
     steps: &mut Steps<L>,
@@ -39,14 +42,24 @@ fn ready_in<L: Ledger>(
     requires short { IsShort request.now }
     ensures journal { journal.new.items ≡ journal.old.items }
     ensures room { OnOk result (vec_len journal.new < vec_capacity journal.new) }
+    ensures nexts { nexts.new.items ≡ nexts.old.items }
+    ensures more { OnOk result (vec_len nexts.new < vec_capacity nexts.new) }
+    ensures selectors { GainsSelectors store.old.cache store.new.cache }
+    ensures before { AreSound store.old.cache }
+    ensures sound { AreSound store.new.cache }
     ensures rises { OnOk result (store.old.state.revision < 2 ^ 64 - 1) }
     ensures readied { ReadiesOrNot request.now store.old store.new result }
     ensures cost { is_of_policy request.now ≡ false → steps.new ≤ steps.old + label_selectors store.old.cache.live }
 {
+    // The calls of this name tell that the selectors fit together.
+    let _before = store.horizon();
     journal.reserve(1)?;
+    nexts.reserve(1)?;
     // The call tells that a capacity is a number of 64 bits, and so the revision is below the last one.
     let _capacity = journal.capacity();
-    store.ready(request, steps)
+    let readied = store.ready(request, steps);
+    let _after = store.horizon();
+    readied
 }
 
 // The request has this fault, at the store's revision.
@@ -84,7 +97,13 @@ impl Repo {
     {
         // The call tells that each selector has a reference, and no two are of one peer.
         let _horizon = self.store.horizon();
-        match ready_in(&mut self.journal, &mut self.store, &request, steps) {
+        match ready_in(
+            &mut self.journal,
+            &mut self.nexts,
+            &mut self.store,
+            &request,
+            steps,
+        ) {
             Ok(readied) => {
                 let done = self.store.answer(&readied);
                 self.prepared = Some(readied);

@@ -15,6 +15,8 @@ use std::marker::Model;
 pub struct Repo {
     pub(crate) options: Options,
     pub(crate) journal: Vec<Request>,
+    // For each revision, from 0 on, the number that the next new selector would have taken.
+    pub(crate) nexts: Vec<u64>,
     pub(crate) store: Store,
     pub(crate) prepared: Option<Readied>,
 }
@@ -26,11 +28,12 @@ impl Model for Repo {
 
     ghost use Rattle.std.specs.Prelude.{vec_len};
     ghost use Rattle.std.specs.Vec.{vec_capacity};
-    ghost use Rattle.pol_repo.specs.Inside.{IsSound, seen_as};
+    ghost use Rattle.pol_repo.specs.Inside.{IsSound, IsTold, seen_as};
 
     ghost view = { λ repo. seen_as repo.options repo.journal.items repo.store repo.prepared };
 
-    ghost invariant = { λ repo. IsSound repo.options repo.journal.items (vec_len repo.journal) (vec_capacity repo.journal) repo.store repo.prepared };
+    ghost invariant = { λ repo. IsSound repo.options repo.journal.items (vec_len repo.journal) (vec_capacity repo.journal) repo.store repo.prepared
+        × IsTold repo.options repo.journal.items repo.nexts.items (vec_len repo.nexts) (vec_capacity repo.nexts) repo.store repo.prepared };
 }
 
 impl Repo {
@@ -48,9 +51,12 @@ impl Repo {
             localhost,
             map_max: None,
         };
+        let mut nexts = Vec::new(alloc);
+        nexts.push(0)?;
         Ok(Repo {
             options,
             journal: Vec::new(alloc),
+            nexts,
             store: Store::new(alloc, mode)?,
             prepared: None,
         })

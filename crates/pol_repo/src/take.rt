@@ -5,8 +5,10 @@ ghost use Rattle.pol_model.specs.PolicyMap.{policy_map};
 ghost use Rattle.pol_distill.specs.Distilled.{distilled};
 ghost use Rattle.pol_tables.specs.Tables.{endpoint_in};
 ghost use Rattle.pol_taken.specs.OfState.{IsTakenOf};
+ghost use Rattle.pol_chains.specs.Moves.{TellsMovesSince};
 ghost use Rattle.pol_repo.specs.Repository.{state_in};
 
+use crate::moves::moves_in;
 use crate::repo::Repo;
 use pol_taken::{TakeError, Taken};
 use std::alloc::Global;
@@ -14,8 +16,9 @@ use std::alloc::Global;
 impl Repo {
     /// What the policy map of the endpoint of that slot is made of, at the present revision: its filters, one row of a set
     /// for each distinct peer that they list, and what each address is (Cilium, "Endpoint regeneration"). It stays as it is
-    /// whatever is committed afterwards. `since` is a revision that is known, none where nothing is; so far no answer tells
-    /// the moves of the sets since then, so `moves` is None in each.
+    /// whatever is committed afterwards. `since` is a revision that is known, none where nothing is. Where it isn't below
+    /// the horizon of the journal, `moves` has a move for each row whose peer was listed ever since: what its set has now
+    /// and had not, and what it had and has not ('profile').
     ///
     /// `Gone` comes exactly where no live endpoint has the slot. `Memory` is want of memory.
     pub fn take(&self, alloc: Global, slot: u32, since: Option<u64>) -> Result<Taken, TakeError>
@@ -23,9 +26,17 @@ impl Repo {
         requires since { IfSome since (λ revision. revision ≤ (state_in self.now).revision) }
         ensures taken { IfOk result (IsTakenOf self.now.options (state_in self.now) slot) }
         ensures map { IfOk result (λ taken. distilled (arc_value taken.filters) taken.sets ≡ policy_map self.now.options (state_in self.now) taken.endpoint) }
+        ensures moves { IfOk result (λ taken. TellsMovesSince self.now.options self.now.journal since taken.sets taken.moves) }
         ensures gone { IsErrOf result TakeError.Gone ↔ (endpoint_in slot (state_in self.now).endpoints ≡ None) }
     {
-        let _ = since;
-        self.store.take(alloc, slot, self.options.localhost)
+        let mut taken = self.store.take(alloc, slot, self.options.localhost)?;
+        taken.moves = moves_in(
+            alloc,
+            &self.store,
+            self.nexts.as_slice(),
+            &taken.sets,
+            since,
+        )?;
+        Ok(taken)
     }
 }

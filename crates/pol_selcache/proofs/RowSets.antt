@@ -1,20 +1,24 @@
 -- Which numbers the sets of a peer over some rows have.
-use Rattle.std.proofs.Common.{◌≡◌, ℕ, ◌==◌, ◌<◌, ◌&&◌, ◌||◌, Bool, true, false, cond, not, List, [], ◌∷◌, map, filter, Some, refl, sym, ap, ◌∙◌, subst, inl, inr, arith}
+use Rattle.std.proofs.Common.{◌≡◌, ℕ, ◌==◌, ◌<◌, ◌&&◌, ◌||◌, Bool, true, false, cond, not, List, [], ◌∷◌, map, filter, Option, Some, None, is_some, refl, sym, ap, ◌∙◌, subst, inl, inr, arith}
 use Rattle.std.specs.List.{AllByRecursion, list_any}
 use Rattle.std.specs.List.Sorted.{IsStrictlySortedBy}
 use Rattle.std.specs.Option.{option_map_or}
 use Rattle.std.specs.Ordering.{nat_cmp}
 use Rattle.std.proofs.lemmas.Bool.{cases_Bool, eqb-true, and_right, ne_eqb}
 use Rattle.std.proofs.lemmas.Map.Views.{any-filter_same}
-use Rattle.pol_facts.proofs.Membership.{In-filter, In-map, list_any-map, map-In}
+use Rattle.pol_facts.proofs.Membership.{In-filter, In-map, filter-In, list_any-map, map-In}
 use Rattle.pol_facts.proofs.SelectedPeerSets.{set_ascends}
 use Rattle.pol_facts.specs.Holding.{row_of}
 use Rattle.pol_model.specs.declared.row.IdentityRow.{IdentityRow}
-use Rattle.pol_model.specs.Selects.{selects_row, set_at}
+use Rattle.pol_addr.specs.declared.network.Prefix.{Prefix}
+use Rattle.pol_labels.specs.declared.label.Label.{Label}
+use Rattle.pol_model.specs.Selects.{known_as, selects, selects_row, set_at}
 use Rattle.pol_model.proofs.AscendingStates.{RowsAscend}
 use Rattle.pol_model.proofs.Ascents.{filter_ascends}
 use Rattle.pol_rule.specs.declared.policy.Peer.{Peer}
+use Rattle.pol_rule.specs.declared.policy.Peer.TheVariants.{Cidr}
 use Rattle.pol_ident.specs.Look.{selects_held}
+use Rattle.pol_ident.specs.Prefixed.{has_prefix, numbers_with_prefix}
 use Rattle.pol_changes.specs.Ids.{has}
 use Rattle.pol_selcache.specs.Live.{rows_without}
 use Rattle.std.proofs.lemmas.List.Kept.{IsStrictlySortedBy-filter}
@@ -87,21 +91,43 @@ module _ (p : Peer) where
 pub rows_without_ascend : (numbers : List ℕ) (rows : List IdentityRow) → RowsAscend rows → RowsAscend (rows_without numbers rows)
 rows_without_ascend numbers rows ascend = filter_ascends (λ row. row.number) (λ row. not (has row.number numbers)) rows ascend
 
+-- of these rows' numbers those that the peer selects are its set, where these rows have all that it selects
+module _ (p : Peer) (rows few : List IdentityRow) (ascend : RowsAscend rows) (few_ascend : RowsAscend few)
+    (has_all : (row : IdentityRow) → In row rows → selects_row p row ≡ true → In row few) where
+  abbrev numbers : List ℕ
+  numbers = map (λ row. row.number) few
+
+  is_among : (n : ℕ) → has n (set_at rows p) ≡ true → has n numbers ≡ true
+  is_among n there =
+      let found = In-map (λ (row : IdentityRow). row.number) n (filter (selects_row p) rows) (In-has n (set_at rows p) there) in
+      let selected = In-filter (selects_row p) found.0 rows found.1 in
+      let its : In found.0 few = has_all found.0 selected.0 selected.1 in
+      has-In n numbers (subst (λ m. In m numbers) found.2 (map-In (λ (row : IdentityRow). row.number) found.0 few its))
+
+  pub selected_among : filter (selects_held rows p) numbers ≡ set_at rows p
+  selected_among =
+      same_numbers _ _
+      (IsStrictlySortedBy-filter nat_cmp (selects_held rows p) _ (strict_from_ascends numbers few_ascend))
+      (set_sorted p rows ascend)
+      (λ n. has-filter (selects_held rows p) n numbers
+      ∙ ap (λ b. b && has n numbers) (has-held p n rows ascend)
+      ∙ within (has n (set_at rows p)) (has n numbers) (is_among n))
+    where
+      within : (a b : Bool) → (a ≡ true → b ≡ true) → (a && b) ≡ a
+      within true b implies = implies refl
+      within false b implies = refl
+
 -- of all held numbers those that the peer selects are its set
 pub all_selected : (rows : List IdentityRow) (p : Peer) → RowsAscend rows → filter (selects_held rows p) (map (λ row. row.number) rows) ≡ set_at rows p
-all_selected rows p ascend =
-    same_numbers _ _
-    (IsStrictlySortedBy-filter nat_cmp (selects_held rows p) _ (strict_from_ascends (map (λ row. row.number) rows) ascend))
-    (set_sorted p rows ascend)
-    (λ n. has-filter (selects_held rows p) n (map (λ row. row.number) rows)
-    ∙ ap (λ b. b && has n (map (λ row. row.number) rows)) (has-held p n rows ascend)
-    ∙ within (has n (set_at rows p)) (has n (map (λ row. row.number) rows)) (is_held_too n rows))
-  where
-    within : (a b : Bool) → (a ≡ true → b ≡ true) → (a && b) ≡ a
-    within true b implies = implies refl
-    within false b implies = refl
+all_selected rows p ascend = selected_among p rows rows ascend ascend (λ row there selected. there)
 
-    is_held_too : (n : ℕ) (others : List IdentityRow) → has n (set_at others p) ≡ true → has n (map (λ row. row.number) others) ≡ true
-    is_held_too n others there =
-        let found = In-map (λ (row : IdentityRow). row.number) n (filter (selects_row p) others) (In-has n (set_at others p) there) in
-        has-In n (map (λ row. row.number) others) (subst (λ m. In m (map (λ row. row.number) others)) found.2 (map-In (λ (row : IdentityRow). row.number) found.0 others (In-filter (selects_row p) found.0 others found.1).0))
+-- no prefix selects an identity without one
+prefix_only : (prefix : Prefix) (except : List Prefix) (number : ℕ) (labels : List Label) (own : Option Prefix) → selects (known_as number labels own) (Cidr prefix except) ≡ true → is_some own ≡ true
+prefix_only prefix except number labels None selected = absurd (let wrong : ⊥ = cc in wrong)
+prefix_only prefix except number labels (Some own) selected = refl
+
+-- the same of the numbers that have a prefix
+pub prefixed_selected : (rows : List IdentityRow) (prefix : Prefix) (except : List Prefix) → RowsAscend rows → filter (selects_held rows (Cidr prefix except)) (numbers_with_prefix rows) ≡ set_at rows (Cidr prefix except)
+prefixed_selected rows prefix except ascend =
+    selected_among (Cidr prefix except) rows (filter has_prefix rows) ascend (filter_ascends (λ row. row.number) has_prefix rows ascend)
+    (λ row there selected. filter-In has_prefix row rows there (prefix_only prefix except row.number row.labels row.prefix selected))

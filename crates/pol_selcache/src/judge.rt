@@ -71,6 +71,18 @@ fn selected<L: Ledger>(
     Ok(own)
 }
 
+/// The held numbers that are judged for a peer: no prefix selects a number without one.
+fn judged_for(alloc: Global, peer: &Peer, identities: &Identities) -> Result<Vec<u32>, Memory>
+    ensures set { IfOk result (λ numbers. filter (selects_held identities.now peer.now) numbers.items ≡ set_at identities.now peer.now) }
+    ensures cost { IfOk result (λ numbers. steps_of peer.now * length numbers.items ≤ steps_of peer.now * length identities.now) }
+    ensures sound { KeepsRows identities.now }
+{
+    match peer {
+        Peer::Cidr { .. } => identities.numbers_with_prefix(alloc),
+        Peer::Labels(_) | Peer::Entity(_) => identities.numbers(alloc),
+    }
+}
+
 /// The held numbers that the peer selects.
 pub(crate) fn set_of<L: Ledger>(
     alloc: Global,
@@ -81,7 +93,7 @@ pub(crate) fn set_of<L: Ledger>(
     ensures set { IfOk result (λ set. set ≡ set_at identities.now peer.now) }
     ensures cost { steps.new ≤ steps.old + steps_of peer.now * length identities.now }
 {
-    let numbers = identities.numbers(alloc)?;
+    let numbers = judged_for(alloc, peer, identities)?;
     let own = selected(alloc, peer, numbers.as_slice(), identities, steps)?;
     Ok(IdSet::from_ascending(own))
 }

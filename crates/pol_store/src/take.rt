@@ -71,6 +71,7 @@ impl Store {
         requires refs { RefsOf (peers_of self.now.state.policies) self.now.cache.live }
         ensures taken { IfOk result (λ taken. (options : AllOptions) (s : State) (slot : ℕ) → options.localhost ≡ localhost → StandsFor s self.now
             → endpoint_in slot s.endpoints ≡ Some endpoint.now → IsTakenOf options s slot taken) }
+        ensures selectors { IfOk result (λ taken. AllByRecursion (λ row. number_of row.peer self.now.cache.live ≡ Some row.selector) taken.sets) }
     {
         let filters = self.filters_of(alloc, endpoint, localhost)?;
         let sets = self.sets_for(alloc, &filters)?;
@@ -86,11 +87,12 @@ impl Store {
     }
 
     /// What the policy map of the endpoint of that slot is made of, with or without leave for the local host (Cilium,
-    /// `--allow-localhost`). No moves of sets are told yet. `Gone` comes exactly where no live endpoint has the slot, and
-    /// `Memory` is want of memory.
+    /// `--allow-localhost`). It tells no moves of sets, which follow from the journal. `Gone` comes exactly where no live
+    /// endpoint has the slot, and `Memory` is want of memory.
     pub fn take(&self, alloc: Global, slot: u32, localhost: bool) -> Result<Taken, TakeError>
         requires refs { RefsOf (peers_of self.now.state.policies) self.now.cache.live }
         ensures taken { IfOk result (λ taken. (options : AllOptions) (s : State) → options.localhost ≡ localhost → StandsFor s self.now → IsTakenOf options s slot taken) }
+        ensures selectors { IfOk result (λ taken. AllByRecursion (λ row. number_of row.peer self.now.cache.live ≡ Some row.selector) taken.sets) }
         ensures gone { IsErrOf result TakeError.Gone ↔ (endpoint_in slot self.now.state.endpoints ≡ None) }
     {
         match self.endpoints.at_slot(slot) {

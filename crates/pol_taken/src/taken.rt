@@ -16,7 +16,7 @@ pub struct Taken {
     pub filters: Arc<Filters>,
     /// One row for each distinct peer that the filters list.
     pub sets: Sets,
-    /// How the sets changed since an earlier revision. None in every answer so far.
+    /// How the sets changed since an earlier revision, where one is known.
     pub moves: Option<Moves>,
     /// What each address is.
     pub addresses: Arc<Addresses>,

@@ -1,5 +1,5 @@
 -- How many keys and nodes there are.
-use Rattle.std.proofs.Common.{◌≡◌, ℕ, ◌+◌, ◌*◌, ◌^◌, ◌≤◌, false, cond, if◌then◌else◌, zero, suc, drop, slice_get, List, [], ◌∷◌, ◌++◌, length, map, flat_map, T, Option, Some, None, is_some, refl, sym, ap, subst, ◌∙◌, arith}
+use Rattle.std.proofs.Common.{◌≡◌, ℕ, ◌+◌, ◌*◌, ◌^◌, ◌≤◌, true, false, cond, if◌then◌else◌, zero, suc, drop, slice_get, List, [], ◌∷◌, ◌++◌, length, map, flat_map, T, Option, Some, None, is_some, refl, sym, ap, subst, ◌∙◌, arith}
 use Rattle.std.proofs.lemmas.List.{length-append, length-map}
 use Rattle.std.proofs.lemmas.Option.{same_Some}
 use Rattle.std.specs.Cmp.{IsTotalOrder}
@@ -26,7 +26,7 @@ use Rattle.pol_trie.specs.PortMap.{PortMap}
 use Rattle.pol_trie.specs.Tree.{Tree, Leaf, Fork, middle, Inside, Fits, IsFork, IsTight, node_count, listed, entry_before}
 use Rattle.pol_trie.specs.Roots.{root_of, every_entry, port_entries, entries_of, policy_of, row_keys}
 use Rattle.pol_trie.specs.KeySet.{key_count}
-use Rattle.pol_trie.specs.Standing.{IsTrie, ports_of}
+use Rattle.pol_trie.specs.Standing.{IsTrie, Stands, ports_of}
 use Rattle.pol_trie.specs.declared.node.Node.{Node}
 use Rattle.pol_arena.specs.Pool.{Pool, node_at}
 use Rattle.pol_trie.proofs.Reading.{both_true, less_than, not_less, found_listed}
@@ -133,6 +133,11 @@ nodes_spared (Fork p (Some k) low high) tight =
 
 pub nodes-below : (t : Tree) → IsTight t → node_count t ≤ 2 * length (listed t)
 nodes-below t tight = omega (arith, nodes_spared t tight)
+
+-- a tree that stands below a link has a prefix with a kind
+pub some_listed : (at : ℕ → Option Node) (link : Option ℕ) (t : Tree) → Stands at link t → is_some link ≡ true → IsTight t → 1 ≤ length (listed t)
+some_listed at link Leaf stands some tight = absurd (let wrong : false ≡ true = sym (ap is_some stands) ∙ some in cc)
+some_listed at link (Fork p kind low high) stands some tight = omega (arith, nodes_spared (Fork p kind low high) tight)
 
 -- ---- the entries of maps
 module _ {K X : Type 0} (R : K → K → Ordering) (total : IsTotalOrder R) (same : (a b : K) → R a b ≡ Equal → a ≡ b) where

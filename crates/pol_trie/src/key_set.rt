@@ -1,5 +1,5 @@
 //! The keys of one direction and identity.
-ghost use Rattle.std.specs.Prelude.{◌≡◌, ◌+◌, ◌*◌, ◌≤◌, None, Some, IfOk, OnOk, OnErr, IsTrue};
+ghost use Rattle.std.specs.Prelude.{◌≡◌, ◌+◌, ◌*◌, ◌≤◌, None, Some, IfOk, OnOk, OnErr, IsTrue, IsFalse};
 ghost use Rattle.std.specs.Option.{option_or};
 ghost use Rattle.pol_ports.specs.declared.PortPrefix.{PortPrefix as ThePrefix};
 ghost use Rattle.pol_mapkey.specs.declared.KeyProto.{KeyProto as TheKeyProto};
@@ -123,7 +123,8 @@ impl KeySet {
 
     /// Whether there is no key.
     pub(crate) fn is_empty(&self) -> bool
-        ensures { IsTrue result → (proto : TheKeyProto) (port : ThePrefix) → kind_of self.now proto port ≡ None }
+        ensures empty { IsTrue result → (proto : TheKeyProto) (port : ThePrefix) → kind_of self.now proto port ≡ None }
+        ensures some { IsFalse result → 1 ≤ key_count self.now }
     {
         self.every.is_none() && self.tcp.is_empty() && self.udp.is_empty() && self.sctp.is_empty()
     }

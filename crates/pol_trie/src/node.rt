@@ -6,6 +6,7 @@ use crate::halves::is_upper;
 use pol_mapkey::Kind;
 use pol_ports::PortPrefix;
 use std::marker::Model;
+use std::mem::size_of;
 
 /// The kind of a node, if it has one, in one byte.
 #[derive(Clone, Copy, PartialEq, Eq, Debug)]
@@ -30,6 +31,8 @@ pub(crate) struct Node {
     ghost short: { len ≤ 16 },
     ghost clear: { bits % 2 ^ (16 - len) ≡ 0 },
 }
+
+const _: () = prove!(size_of::<Node>() == 12);
 
 impl Model for Node {
     ghost use Rattle.std.specs.Prelude.{◌≡◌};

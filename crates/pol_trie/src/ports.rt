@@ -1,5 +1,5 @@
 //! The keys of one direction, identity and protocol: a trie seen as a finite map.
-ghost use Rattle.std.specs.Prelude.{◌≡◌, ◌+◌, ◌*◌, ◌^◌, ◌≤◌, None, IfOk, OnOk, OnErr, IsTrue};
+ghost use Rattle.std.specs.Prelude.{◌≡◌, ◌+◌, ◌*◌, ◌^◌, ◌≤◌, None, IfOk, OnOk, OnErr, IsTrue, IsFalse};
 ghost use Rattle.std.specs.FinMap as map;
 ghost use Rattle.pol_trie.specs.PortMap.{Decides};
 ghost use Rattle.pol_trie.specs.Tree.{Takes};
@@ -113,7 +113,8 @@ impl PortTrie {
 
     /// Whether there is no key.
     pub(crate) fn is_empty(&self) -> bool
-        ensures { IsTrue result → self.now ≡ map.empty }
+        ensures empty { IsTrue result → self.now ≡ map.empty }
+        ensures some { IsFalse result → 1 ≤ map.len self.now }
     {
         self.root.is_none()
     }

@@ -1,4 +1,4 @@
-use Rattle.pol_arena.proofs.PoolRunLemmas.{next_is_free}
+use Rattle.pol_arena.proofs.PoolLemmas.{next_is_free}
 use Rattle.pol_arena.proofs.laws.the_next_node_is_free.Goals as goal
 
 pub returns : goal.returns

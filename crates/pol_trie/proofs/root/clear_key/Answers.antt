@@ -42,7 +42,7 @@ returns-then-is_empty-clause-rest c =
     let h = c.get_mut.follows.holds w in
     policy_of-taken es c.swap_remove.new.self.entries c.requires c.swap_remove.ensures.unique key None
     (λ r. c.swap_remove.ensures.updates.0 r ∙ ap (cond (same_root root r) None) ((h.3 (ap is_some there)).0 r) ∙ taken_after (same_root root r) (Some w) (lookup (same_root r) es))
-    (λ p q. sym (c.is_empty.ensures c.if-is_empty.true p q) ∙ c.clear.ensures p q
+    (λ p q. sym (c.is_empty.ensures.empty c.if-is_empty.true p q) ∙ c.clear.ensures p q
     ∙ ap (λ x. if same_key_proto key.proto p && same_prefix key.port q then None else kinds_of x p q) (sym there))
 
 pub returns-else-is_empty-clause-rest : goal.returns-else-is_empty-clause-rest

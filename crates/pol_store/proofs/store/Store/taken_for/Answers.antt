@@ -19,4 +19,5 @@ returns c = record {
       c.in_ok-filters.ensures.filters
       (subst (λ (filters : Filters). AreSetsFor c.args.self.now.cache.live filters c.in_ok-sets.sets) c.deref.ensures c.in_ok-sets.ensures.sets)
       c.in_ok-addresses.ensures.numbers;
+  selectors = c.in_ok-sets.ensures.sets.selectors;
 }
