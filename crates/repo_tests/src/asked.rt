@@ -1,0 +1,85 @@
+//! An endpoint, and a policy that lets it reach a prefix but for a part of it.
+ghost use Rattle.std.specs.Prelude.{◌≡◌, None, IfSome};
+
+use pol_addr::{Addr, Prefix};
+use pol_data::{Items, Steps, Text};
+use pol_labels::{Label, LabelSet, Selector};
+use pol_model::Request;
+use pol_repo::Repo;
+use pol_rule::{
+    Entries, Entry, Peer, PeerList, Peers, Policy, PolicyKey, PortSpecs, Prefixes, Rule, Rules,
+};
+use std::alloc::Global;
+use std::sync::ledger::Ledger;
+
+fn labels(alloc: Global) -> Option<LabelSet> {
+    let label = Label::parse(alloc, "k8s:io.kubernetes.pod.namespace=default").ok()?;
+    let labels = Items::one(alloc, label).ok()?;
+    LabelSet::from_labels(alloc, labels.into_vec()).ok()
+}
+
+/// An endpoint `web` of the namespace `default`, with the address 192.168.0.1.
+pub(crate) fn endpoint(alloc: Global) -> Option<Request> {
+    Some(Request::AddEndpoint {
+        name: Text::from_str(alloc, "web").ok()?,
+        labels: labels(alloc)?,
+        address: Addr::from_octets(192, 168, 0, 1),
+    })
+}
+
+/// 10.0.0.0/8 without 10.1.0.0/16.
+fn peer(alloc: Global) -> Option<Peer> {
+    let except = Prefix::new(Addr::from_octets(10, 1, 0, 0), 16);
+    Some(Peer::Cidr {
+        prefix: Prefix::new(Addr::from_octets(10, 0, 0, 0), 8),
+        except: Prefixes::one(alloc, except).ok()?,
+    })
+}
+
+fn entries(alloc: Global) -> Option<Entries> {
+    let entry = Entry {
+        peers: Peers::Listed(PeerList::one(alloc, peer(alloc)?).ok()?),
+        ports: PortSpecs::empty(alloc),
+    };
+    Entries::one(alloc, entry).ok()
+}
+
+fn rules(alloc: Global) -> Option<Rules> {
+    let rule = Rule {
+        subject: Selector::from_requirements(alloc, Vec::new(alloc)).ok()?,
+        ingress: Entries::empty(alloc),
+        ingress_deny: Entries::empty(alloc),
+        egress: entries(alloc)?,
+        egress_deny: Entries::empty(alloc),
+    };
+    Rules::one(alloc, rule).ok()
+}
+
+/// The policy of one rule that lets every endpoint reach that prefix.
+pub(crate) fn policy(alloc: Global) -> Option<Request> {
+    let key = PolicyKey {
+        cluster_wide: true,
+        namespace: Text::empty(alloc),
+        name: Text::from_str(alloc, "p").ok()?,
+    };
+    Some(Request::Apply(Policy {
+        key,
+        rules: rules(alloc)?,
+    }))
+}
+
+/// Commits the request.
+pub(crate) fn commit<L: Ledger>(
+    repo: &mut Repo,
+    request: Request,
+    steps: &mut Steps<L>,
+) -> Option<()>
+    requires idle { repo.old.prepared ≡ None }
+    ensures idle { IfSome result (λ _. repo.new.prepared ≡ None) }
+{
+    if !request.is_short() {
+        return None;
+    }
+    let _done = repo.commit(request, steps).ok()?;
+    Some(())
+}
