@@ -20,7 +20,18 @@ fn fill<L: Ledger>(alloc: Global, repo: &mut Repo, steps: &mut Steps<L>) -> Opti
     commit(repo, policy(alloc)?, steps)
 }
 
-fn taken_over<L: Ledger>(blank: Blank, alloc: Global) -> Option<Taken>
+/// What is taken of slot 0, with the moves since a revision.
+fn take(alloc: Global, repo: &Repo, since: u64) -> Option<Taken>
+    requires idle { repo.now.prepared ≡ None }
+{
+    if repo.revision() < since {
+        return None;
+    }
+    repo.take(alloc, 0, Some(since)).ok()
+}
+
+/// What is taken with the moves since revision 1, at which no policy lists the peer, and since 2, at which one does.
+fn taken_over<L: Ledger>(blank: Blank, alloc: Global) -> Option<(Taken, Taken)>
     requires name { blank.name ≡ L.name }
     requires parts { blank.parts ≡ L.parts }
     requires some { blank.parts ≡ 1 }
@@ -28,7 +39,7 @@ fn taken_over<L: Ledger>(blank: Blank, alloc: Global) -> Option<Taken>
     let mut steps = Steps::<L>::new(blank);
     let mut repo = Repo::new(alloc, Mode::Default, true).ok()?;
     fill(alloc, &mut repo, &mut steps)?;
-    repo.take(alloc, 0, None).ok()
+    Some((take(alloc, &repo, 1)?, take(alloc, &repo, 2)?))
 }
 
 fn is_of_the_endpoint(taken: &Taken) -> bool {
@@ -55,13 +66,19 @@ fn tells_addresses(taken: &Taken) -> bool {
         && addresses.remote(Addr::from_octets(11, 0, 0, 1)) == 2
 }
 
+fn moves_of(taken: &Taken) -> Option<usize> {
+    Some(taken.moves.as_ref()?.len())
+}
+
 fn is_taken(alloc: Global) -> bool {
     match taken_over::<Brand>(Blank::new(1), alloc) {
-        Some(taken) => {
+        Some((since_1, taken)) => {
             is_of_the_endpoint(&taken)
                 && has_one_filter(&taken)
                 && has_one_set(&taken)
                 && tells_addresses(&taken)
+                && moves_of(&since_1) == Some(0)
+                && moves_of(&taken) == Some(1)
         }
         None => false,
     }
