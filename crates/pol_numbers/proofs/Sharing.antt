@@ -5,7 +5,6 @@ use Rattle.std.specs.List.{list_any}
 use Rattle.std.proofs.lemmas.Bool.{cases_Bool, cond-false, cond-true, both_ways, eqb-true, false≢true, or_parts}
 use Rattle.pol_addr.specs.declared.network.Prefix.{Prefix}
 use Rattle.pol_addr.specs.Prefix.{same_prefix}
-use Rattle.pol_data.proofs.Members.{In}
 use Rattle.pol_model.specs.declared.row.IdentityRow.{IdentityRow}
 use Rattle.pol_model.specs.Identities.{number_released}
 use Rattle.pol_model.specs.Prefixes.{number_of_prefix, prefix_held, prefix_released, prefixes_held, prefixes_released}

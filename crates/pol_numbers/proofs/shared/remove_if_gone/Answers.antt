@@ -1,4 +1,4 @@
-use Rattle.std.proofs.Common.{◌≡◌, not, true, is_none, is_some, ap, sym, subst, ◌∙◌}
+use Rattle.std.proofs.Common.{◌≡◌, not, true, is_none, ap, sym, subst, ◌∙◌}
 use Rattle.pol_model.specs.Prefixes.{number_of_prefix}
 use Rattle.pol_numbers.specs.Sharing.{IsWithoutGone}
 use Rattle.pol_numbers.proofs.Sharing.{gone_without}
