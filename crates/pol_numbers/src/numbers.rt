@@ -27,7 +27,7 @@ pub struct Numbers {
     pub(crate) identities: Identities,
     // The numbers of prefixes, for addresses.
     pub(crate) prefixes: PrefixTable,
-    // The same once more, to hand out. None where it wasn't made again since prefixes changed.
+    // The same once more, to hand out. None until a plan makes it.
     pub(crate) shared: Option<Arc<PrefixTable>>,
     pub(crate) selectors: SelectorCache,
 }
@@ -91,8 +91,9 @@ impl Numbers {
         self.selectors.horizon()
     }
 
-    /// The numbers of the held prefixes, as they are now. It is shared, and copied where no table that is shared was made
-    /// since prefixes changed. The one error is want of memory.
+    /// The numbers of the held prefixes, as they are now. The table is shared as long as no prefix comes or goes, and copied
+    /// here only where there is none to share: before the first plan, or after want of memory. The one error is want of
+    /// memory.
     pub fn prefix_table(&self) -> Result<Arc<PrefixTable>, Memory>
         ensures table { IfOk result (λ table. IsTableOf self.now.rows (arc_value table)) }
     {

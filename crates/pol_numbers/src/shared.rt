@@ -1,5 +1,5 @@
-//! The table of the prefixes that is handed out. It is changed in place where prefixes change, as long as nobody else has
-//! it.
+//! The table of the prefixes that is handed out. Where prefixes change, it is changed in place if nobody else has it. One
+//! that others have is never changed.
 ghost use Rattle.std.specs.Prelude.{◌≡◌, true, is_none, IfOk, IfSome, OnOk};
 ghost use Rattle.std.specs.Arc.{arc_value};
 ghost use Rattle.std.specs.List.{list_any};
@@ -109,7 +109,7 @@ pub(crate) fn once_released(
     Some(table)
 }
 
-/// Whether the table is there, and stays where numbers go: others that have it would lose it then.
+/// Whether the table is there, and what comes leaves it: where numbers go, nobody else may have it.
 pub(crate) fn stays(shared: &Option<Arc<PrefixTable>>, numbers_go: bool) -> bool {
     match shared {
         Some(table) => !numbers_go || Arc::strong_count(table) == 1,
