@@ -3,3 +3,4 @@ pub mod Coming
 pub mod Going
 pub mod Moving
 pub mod Readying
+pub mod Sharing

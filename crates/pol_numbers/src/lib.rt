@@ -14,6 +14,7 @@ mod peers;
 mod plan;
 mod prefixes;
 mod release;
+mod shared;
 
 pub use hold::LabelsHeld;
 pub use numbers::Numbers;

@@ -14,6 +14,7 @@ ghost use Rattle.pol_prefixes.specs.Beyond.{AreBeyond};
 ghost use Rattle.pol_numbers.specs.Held.{Readies, with_log_room};
 
 use crate::Numbers;
+use crate::shared::{copied, once_held, once_released, stays};
 use pol_addr::Prefix;
 use pol_data::{Memory, Steps};
 use pol_ident::IdentError;
@@ -31,7 +32,7 @@ impl Numbers {
         ensures within { OnOk result (AllByRecursion IsPrefix prefixes.now) }
         ensures sound { KeepsRows self.old.rows }
     {
-        let come = hold_prefixes(
+        let held = hold_prefixes(
             self.alloc,
             &mut self.identities,
             &mut self.prefixes,
@@ -39,7 +40,10 @@ impl Numbers {
         );
         // No identity has the number 0. The call tells that the rows fit together.
         let _none = self.identities.held(0);
-        come
+        let come = held?;
+        let shared = self.shared.take();
+        self.shared = once_held(shared, come.is_empty(), &self.identities, prefixes);
+        Ok(come)
     }
 
     /// Takes one holder away from each prefix. With its last one a prefix loses its number. The sets stay as they are. It
@@ -48,6 +52,8 @@ impl Numbers {
         ensures rows { self.new ≡ record self.old { rows = prefixes_released prefixes.now self.old.rows } }
     {
         release_prefixes(&mut self.identities, &mut self.prefixes, prefixes);
+        let shared = self.shared.take();
+        self.shared = once_released(shared, &self.identities, prefixes);
     }
 
     /// The numbers that a release of the prefixes lets go.
@@ -58,6 +64,19 @@ impl Numbers {
     {
         let gone = gone_numbers(self.alloc, &self.identities, prefixes)?;
         Ok(gone)
+    }
+
+    /// Makes the table that is handed out anew where it isn't there, or where a release would lose it. Without memory there
+    /// is none.
+    fn ready_shared(&mut self, numbers_go: bool)
+        ensures same { self.new ≡ self.old }
+    {
+        if !stays(&self.shared, numbers_go) {
+            self.shared = match copied(self.alloc, &self.prefixes) {
+                Ok(table) => Some(table),
+                Err(_) => None,
+            };
+        }
     }
 
     /// What changes of the sets where these numbers came and the prefixes are released.
@@ -79,6 +98,7 @@ impl Numbers {
     {
         let gone = self.gone(given_up)?;
         let plan = self.plan(revision, come, gone.as_slice(), steps)?;
+        self.ready_shared(!gone.is_empty());
         Ok(plan)
     }
 }

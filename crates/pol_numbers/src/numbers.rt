@@ -8,6 +8,7 @@ ghost use Rattle.pol_selcache.specs.Cache.{IsPlanFor, IsSound, carried};
 ghost use Rattle.pol_prefixes.specs.Tables.{IsTableOf};
 ghost use Rattle.pol_numbers.specs.Held.{nothing_held};
 
+use crate::shared::copied;
 use pol_addr::Addr;
 use pol_data::Memory;
 use pol_ident::Identities;
@@ -26,6 +27,8 @@ pub struct Numbers {
     pub(crate) identities: Identities,
     // The numbers of prefixes, for addresses.
     pub(crate) prefixes: PrefixTable,
+    // The same once more, to hand out. None until a plan makes it.
+    pub(crate) shared: Option<Arc<PrefixTable>>,
     pub(crate) selectors: SelectorCache,
 }
 
@@ -33,12 +36,14 @@ impl Model for Numbers {
     ghost use Rattle.pol_facts.specs.Keeps.{KeepsRows};
     ghost use Rattle.pol_numbers.specs.Held.{Held};
     ghost use Rattle.pol_prefixes.specs.Tables.{IsTableOf};
+    ghost use Rattle.std.specs.Prelude.{IfSome};
+    ghost use Rattle.std.specs.Arc.{arc_value};
 
     ghost Value = { Held };
 
     ghost view = { λ n. record { rows = n.identities; cache = n.selectors } };
 
-    ghost invariant = { λ n. KeepsRows n.identities × IsTableOf n.identities n.prefixes };
+    ghost invariant = { λ n. KeepsRows n.identities × IsTableOf n.identities n.prefixes × IfSome n.shared (λ table. IsTableOf n.identities (arc_value table)) };
 }
 
 impl Numbers {
@@ -50,6 +55,7 @@ impl Numbers {
             alloc,
             identities: Identities::new(alloc)?,
             prefixes: table_of_start(alloc)?,
+            shared: None,
             selectors: SelectorCache::new(alloc),
         })
     }
@@ -85,12 +91,16 @@ impl Numbers {
         self.selectors.horizon()
     }
 
-    /// The numbers of the held prefixes, as they are now. The one error is want of memory.
+    /// The numbers of the held prefixes, as they are now. The table is shared as long as no prefix comes or goes, and copied
+    /// here only where there is none to share: before the first plan, or after want of memory. The one error is want of
+    /// memory.
     pub fn prefix_table(&self) -> Result<Arc<PrefixTable>, Memory>
         ensures table { IfOk result (λ table. IsTableOf self.now.rows (arc_value table)) }
     {
-        let table = self.prefixes.copy(self.alloc)?;
-        Ok(Arc::new(self.alloc, table)?)
+        match &self.shared {
+            Some(table) => Arc::try_clone(table),
+            None => copied(self.alloc, &self.prefixes),
+        }
     }
 
     /// Makes the changes of the last plan, since which no selector came or went. It takes no memory.

@@ -1,5 +1,6 @@
-use Rattle.std.proofs.Common.{◌<◌, List, if◌then◌else◌, ◌∷◌, [], is_some, ap, sym, subst, ◌∙◌}
+use Rattle.std.proofs.Common.{◌<◌, List, IfSome, if◌then◌else◌, ◌∷◌, [], is_some, ap, sym, subst, ◌∙◌}
 use Rattle.std.proofs.lemmas.Bool.{false_from_ne_true}
+use Rattle.std.specs.Arc.{arc_value}
 use Rattle.pol_changes.specs.Log.{newest}
 use Rattle.pol_model.specs.declared.row.IdentityRow.{IdentityRow}
 use Rattle.pol_model.specs.Fault.{is_exhausted}
@@ -9,10 +10,12 @@ use Rattle.pol_facts.proofs.HoldingLaws.{held_has}
 use Rattle.pol_facts.proofs.RowLaws.{labels_undone}
 use Rattle.pol_selcache.specs.Cache.{Cache, MayPlan}
 use Rattle.pol_selcache.specs.Live.{AreExact}
+use Rattle.pol_lpm.specs.Table.{PrefixMap}
 use Rattle.pol_prefixes.specs.Tables.{IsTableOf}
 use Rattle.pol_prefixes.proofs.Numbers.{number_of_labelled}
 use Rattle.pol_numbers.specs.Held.{Held}
 use Rattle.pol_numbers.proofs.Coming.{labels_may_come, number_not_local}
+use Rattle.pol_numbers.proofs.Sharing.{each_some}
 use Rattle.pol_numbers.proofs.numbers.Numbers.hold_labels.Goals as goal
 
 pub plan_taken-requires : goal.plan_taken-requires
@@ -27,11 +30,23 @@ plan_taken-requires g c =
           (sym (ap is_some c.number_of.ensures.number) ∙ c.is_none-is_new.ensures) newer exact);
     }
 
-pub invariant_of-self-2 : goal.invariant_of-self-2
-invariant_of-self-2 g c = (
+pub invariant_of-self : goal.invariant_of-self
+invariant_of-self g c = (
   c.acquire.ensures.sound,
-  subst (λ rows. IsTableOf rows c.self.inside.prefixes) (sym c.in_ok-number.ensures.ok) (λ own. c.self.invariant.1 own ∙ sym (number_of_labelled c.args.labels.now own c.self.inside.identities)),
+  subst (λ rows. IsTableOf rows c.self.inside.prefixes) (sym c.in_err-number.ensures.err) c.self.invariant.1,
+  subst (λ rows. IfSome c.self.inside.shared (λ table. IsTableOf rows (arc_value table))) (sym c.in_err-number.ensures.err) c.self.invariant.2,
 )
+
+pub invariant_of-self-2 : goal.invariant_of-self-2
+invariant_of-self-2 g c =
+    let rows = c.self.inside.identities in
+    let labels = c.args.labels.now in
+    let held : (table : PrefixMap) → IsTableOf rows table → IsTableOf c.acquire.new.self table =
+    λ table is. subst (λ rows. IsTableOf rows table) (sym c.in_ok-number.ensures.ok) (λ own. is own ∙ sym (number_of_labelled labels own rows)) in (
+      c.acquire.ensures.sound,
+      held c.self.inside.prefixes c.self.invariant.1,
+      each_some c.self.inside.shared (λ table. held (arc_value table)) c.self.invariant.2,
+    )
 
 pub release-requires : goal.release-requires
 release-requires g c =
