@@ -34,15 +34,25 @@ impl Model for Filing {
     ghost invariant = { λ filing. IsUnique same_heading filing.drawers };
 }
 
-/// Puts the numbers of a drawer behind these, ascending.
+/// Puts the numbers of a drawer behind these.
 fn push_all(numbers: &mut Vec<u64>, filed: &BTreeSet<u64>) -> Result<(), Memory>
     ensures items { OnOk result (numbers.new.items ≡ numbers.old.items ++ filed.now.keys) }
-    ensures ascend { Ascends filed.now.keys }
+    ensures ascend { OnOk result (Ascends filed.now.keys) }
 {
     for number in filed {
         numbers.push(*number)?;
     }
     Ok(())
+}
+
+/// The numbers of a drawer, ascending.
+fn numbers_of(alloc: Global, filed: &BTreeSet<u64>) -> Result<Vec<u64>, Memory>
+    ensures items { IfOk result (λ numbers. numbers.items ≡ filed.now.keys) }
+    ensures ascend { IfOk result (λ numbers. Ascends numbers.items) }
+{
+    let mut numbers = Vec::new(alloc);
+    push_all(&mut numbers, filed)?;
+    Ok(numbers)
 }
 
 impl Filing {
@@ -76,11 +86,10 @@ impl Filing {
         ensures members { IfOk result (λ numbers. (n : ℕ) → has n numbers.items ≡ is_filed self.now (heading_by heading.now) n) }
         ensures ascend { IfOk result (λ numbers. Ascends numbers.items) }
     {
-        let mut numbers = Vec::new(alloc);
-        if let Some(filed) = self.drawers.get(heading) {
-            push_all(&mut numbers, filed)?;
+        match self.drawers.get(heading) {
+            None => Ok(Vec::new(alloc)),
+            Some(filed) => numbers_of(alloc, filed),
         }
-        Ok(numbers)
     }
 
     /// The numbers that are filed under some of the headings, in whatever order. The one error is want of memory.
