@@ -1,6 +1,6 @@
 -- What the table of selectors keeps, as one of them changes, goes or comes.
-use Rattle.std.proofs.Common.{zero, suc, ◌≡◌, ℕ, ◌==◌, ◌<◌, ◌&&◌, ◌||◌, not, Bool, true, false, cond, List, [], ◌∷◌, ◌++◌, map, find, slice_get, Option, Some, None, IfSome, option_map, refl, sym, ap, subst, ◌∙◌}
-use Rattle.std.specs.List.{AllByRecursion, IsDistinct, cons_option, list_any}
+use Rattle.std.proofs.Common.{◌≡◌, ℕ, ◌==◌, ◌<◌, ◌&&◌, ◌||◌, not, Bool, true, false, cond, List, [], ◌∷◌, ◌++◌, map, find, Some, None, option_map, refl, sym, ap, subst, ◌∙◌}
+use Rattle.std.specs.List.{IsDistinct, list_any}
 use Rattle.std.specs.Map.{lookup}
 use Rattle.std.proofs.lemmas.Bool.{and_parts, and_from, eq-eqb}
 use Rattle.std.proofs.lemmas.List.Folds.{list_any-append}
@@ -8,7 +8,7 @@ use Rattle.pol_data.proofs.Every.{every-append}
 use Rattle.pol_data.proofs.Members.{In}
 use Rattle.pol_facts.proofs.Membership.{In-list_any, list_any-In}
 use Rattle.pol_filing.specs.declared.heading.Heading.{Heading}
-use Rattle.pol_filing.specs.Filed.{Drawers, is_filed}
+use Rattle.pol_filing.specs.Filed.{Drawers}
 use Rattle.pol_filing.specs.Heading.{heading_of, same_heading}
 use Rattle.pol_filing.specs.Tried.{is_among}
 use Rattle.pol_model.specs.Ascending.{Ascends}
@@ -16,10 +16,10 @@ use Rattle.pol_rule.specs.contracts.policy.PeerPartialEq.TheImpl as peers
 use Rattle.pol_rule.specs.declared.policy.Peer.{Peer}
 use Rattle.pol_selectors.specs.declared.spots.Row.{Row}
 use Rattle.pol_selectors.specs.declared.spots.Spot.{Spot}
-use Rattle.pol_selectors.specs.Filed.{AreAlike, AreHeaded, AreKnown, IsFiled, IsFiledToo, IsTable, IsUnfiled, stands_in, stands_under}
-use Rattle.pol_selectors.specs.Inside.{IsHeaded, IsLiveAt, IsPutAt, live_at, live_in, live_of, spot_numbers}
-use Rattle.pol_selectors.specs.Live.{Live, AreLive, is_live, number_of, where_number, without_reference}
-use Rattle.pol_selectors.proofs.LiveLists.{AllReferenced, number_kept, numbers, peer_kept, pushed_ascend, unreference_keeps}
+use Rattle.pol_selectors.specs.Filed.{AreKnown, IsFiled, IsFiledToo, IsTable, IsUnfiled, stands_in, stands_under}
+use Rattle.pol_selectors.specs.Inside.{IsLiveAt, IsPutAt, live_in, live_of, spot_numbers}
+use Rattle.pol_selectors.specs.Live.{Live, AreLive, is_live, number_of, where_number}
+use Rattle.pol_selectors.proofs.LiveLists.{AllReferenced, number_kept, numbers, peer_kept, unreference_keeps}
 use Rattle.pol_selectors.proofs.Middle.{apart_pushed, number_gone, number_pushed, stands_gone}
 use Rattle.pol_selectors.proofs.Placed.{live_ascend, live_row, parted, put_gone, put_there}
 
@@ -42,23 +42,13 @@ module _ (n : ℕ) (change : Live → Live) (keeps_number : (s : Live) → (chan
       by false rest = rest
 
   pub table_changed : (known : List (Peer × ℕ)) (old new : List Spot) (drawers : Drawers) → IsTable known old drawers → spot_numbers new ≡ spot_numbers old
-      → live_in new ≡ map (where_number n change) (live_in old) → AreLive (live_in new) → AreHeaded new → IsTable known new drawers
-  table_changed known old new drawers table same is live headed = record {
+      → live_in new ≡ map (where_number n change) (live_in old) → AreLive (live_in new) → IsTable known new drawers
+  table_changed known old new drawers table same is live = record {
     ascend = subst Ascends (sym same) table.ascend;
     live = live;
     known_by_peer = λ p. table.known_by_peer p ∙ sym (known_kept p (live_in old)) ∙ ap (number_of p) (sym is);
     filed = λ heading number. table.filed heading number ∙ sym (stands_kept heading number (live_in old)) ∙ ap (list_any (stands_under heading number)) (sym is);
-    headed = headed;
   }
-
-every_at : (spots : List Spot) (i : ℕ) (spot : Spot) → AreHeaded spots → slice_get spots i ≡ Some spot → IsHeaded spot
-every_at [] i spot all at = absurd (let wrong : ⊥ = cc in wrong)
-every_at (f ∷ spots) zero spot all at = subst IsHeaded (let same : f ≡ spot = cc in same) all.0
-every_at (f ∷ spots) (suc i) spot all at = every_at spots i spot all.1 at
-
--- the row keeps its heading
-headed_at : (spots : List Spot) (n i : ℕ) (at : IsLiveAt n spots i) → AreHeaded spots → at.row.heading ≡ heading_of at.row.peer
-headed_at spots n i at headed = subst (λ o. IfSome o (λ row. row.heading ≡ heading_of row.peer)) at.live (every_at spots i at.spot headed at.at)
 
 -- ---- one that goes
 module _ (n i : ℕ) (old mid : List Spot) (at : IsLiveAt n old i) (are : AreLive (live_in old)) (put : IsPutAt i None old mid) where
@@ -72,25 +62,24 @@ module _ (n i : ℕ) (old mid : List Spot) (at : IsLiveAt n old i) (are : AreLiv
       ∙ sym (number_gone part.front l part.back (subst (λ (live : List Live). IsDistinct peers.ghosts.eq (map (λ s. s.peer) live)) part.is are.apart) p)
       ∙ ap (number_of p) (sym (put_there i None l old mid part put))
 
-  filed_gone : (drawers fewer : Drawers) → IsFiled drawers (live_in old) → at.row.heading ≡ heading_of at.row.peer → IsUnfiled at.row.heading n drawers fewer → IsFiled fewer (live_in mid)
-  filed_gone drawers fewer filed is less heading number =
+  filed_gone : (drawers fewer : Drawers) → IsFiled drawers (live_in old) → IsUnfiled (heading_of at.row.peer) n drawers fewer → IsFiled fewer (live_in mid)
+  filed_gone drawers fewer filed less heading number =
       let l = live_of n at.row in
       let part = parted old i at.spot l at.at (live_row n old i at) in
       less heading number
-      ∙ (λ k. filed heading number k && not (same_heading (is k) heading && (n == number)))
+      ∙ (λ k. filed heading number k && not (same_heading (heading_of at.row.peer) heading && (n == number)))
       ∙ ap (λ live. list_any (stands_under heading number) live && not (stands_under heading number l)) part.is
       ∙ sym (stands_gone l heading number part.front part.back (subst (λ (live : List Live). Ascends (numbers live)) part.is are.numbers))
       ∙ ap (list_any (stands_under heading number)) (sym (put_there i None l old mid part put))
 
   pub table_gone : (known others : List (Peer × ℕ)) (drawers fewer : Drawers) (new : List Spot) → IsTable known old drawers → at.row.references ≡ 1
-      → ((p : Peer) → lookup (peers.ghosts.eq p) others ≡ cond (peers.ghosts.eq at.row.peer p) None (lookup (peers.ghosts.eq p) known)) → IsUnfiled at.row.heading n drawers fewer
-      → live_in new ≡ live_in mid → Ascends (spot_numbers new) → AreHeaded new → IsTable others new fewer
-  table_gone known others drawers fewer new table last told less same ascend headed = record {
+      → ((p : Peer) → lookup (peers.ghosts.eq p) others ≡ cond (peers.ghosts.eq at.row.peer p) None (lookup (peers.ghosts.eq p) known)) → IsUnfiled (heading_of at.row.peer) n drawers fewer
+      → live_in new ≡ live_in mid → Ascends (spot_numbers new) → IsTable others new fewer
+  table_gone known others drawers fewer new table last told less same ascend = record {
     ascend = ascend;
     live = subst AreLive (sym (same ∙ put_gone n i old mid at are.numbers are.referenced last put)) (unreference_keeps n (live_in old) are);
     known_by_peer = λ p. known_gone known others table.known_by_peer told p ∙ ap (number_of p) (sym same);
-    filed = λ heading number. filed_gone drawers fewer table.filed (headed_at old n i at table.headed) less heading number ∙ ap (list_any (stands_under heading number)) (sym same);
-    headed = headed;
+    filed = λ heading number. filed_gone drawers fewer table.filed less heading number ∙ ap (list_any (stands_under heading number)) (sym same);
   }
 
 -- ---- one more
@@ -104,9 +93,9 @@ stands_more drawers more live l filed told heading number =
     last false = refl
 
 pub table_pushed : (known others : List (Peer × ℕ)) (old new : List Spot) (drawers more : Drawers) (n : ℕ) (row : Row) → IsTable known old drawers
-    → live_in new ≡ live_in old ++ live_of n row ∷ [] → Ascends (spot_numbers new) → AreHeaded new → 0 < row.references → number_of row.peer (live_in old) ≡ None
+    → live_in new ≡ live_in old ++ live_of n row ∷ [] → Ascends (spot_numbers new) → 0 < row.references → number_of row.peer (live_in old) ≡ None
     → ((p : Peer) → lookup (peers.ghosts.eq p) others ≡ cond (peers.ghosts.eq row.peer p) (Some n) (lookup (peers.ghosts.eq p) known)) → IsFiledToo (heading_of row.peer) n drawers more → IsTable others new more
-table_pushed known others old new drawers more n row table is ascend headed referenced fresh told filed = record {
+table_pushed known others old new drawers more n row table is ascend referenced fresh told filed = record {
   ascend = ascend;
   live = record {
     numbers = live_ascend new ascend;
@@ -117,7 +106,6 @@ table_pushed known others old new drawers more n row table is ascend headed refe
       told p ∙ ap (cond (peers.ghosts.eq row.peer p) (Some n)) (table.known_by_peer p)
       ∙ sym (number_pushed (live_in old) (live_of n row) fresh p) ∙ ap (number_of p) (sym is);
   filed = λ heading number. stands_more drawers more (live_in old) (live_of n row) table.filed filed heading number ∙ ap (list_any (stands_under heading number)) (sym is);
-  headed = headed;
 }
 
 -- ---- what is filed under headings

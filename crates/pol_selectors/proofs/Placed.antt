@@ -1,16 +1,15 @@
 -- Spots that ascend by number: what their selectors are, where one is found, and what a change of one makes of them.
-use Rattle.std.proofs.Common.{zero, suc, ◌≡◌, ℕ, ◌==◌, ◌<◌, ◌≤◌, ◌||◌, Bool, true, false, cond, nat_lt, ◌-◌, List, [], ◌∷◌, ◌++◌, map, filter, find, length, take, drop, set, slice_get, get_or, Option, Some, None, option_map, is_some, refl, sym, ap, ◌∙◌, subst, inl, inr, arith}
+use Rattle.std.proofs.Common.{zero, suc, ◌≡◌, ℕ, ◌==◌, ◌<◌, ◌≤◌, ◌||◌, true, false, cond, nat_lt, ◌-◌, List, [], ◌∷◌, ◌++◌, map, filter, length, take, drop, set, slice_get, get_or, Option, Some, None, option_map, is_some, refl, sym, ap, ◌∙◌, subst, inl, inr, arith}
 use Rattle.std.specs.List.{AllByRecursion, AllWithin, cons_option}
 use Rattle.std.specs.List.Sorted.{IsNonDecreasingBy}
-use Rattle.std.proofs.lemmas.Bool.{cond-true, cond-false, eqb-true, eq-eqb, ne_eqb, ltb-true, ltb-false, cases_lt}
+use Rattle.std.proofs.lemmas.Bool.{cond-true, cond-false, eq-eqb, ne_eqb, ltb-true, ltb-false, cases_lt}
 use Rattle.std.proofs.lemmas.Option.{same_Some}
 use Rattle.pol_data.proofs.Every.{every-weaker}
 use Rattle.pol_facts.proofs.Membership.{found-some}
 use Rattle.pol_model.specs.Ascending.{Ascends}
 use Rattle.pol_selectors.specs.declared.spots.Row.{Row}
 use Rattle.pol_selectors.specs.declared.spots.Spot.{Spot}
-use Rattle.pol_selectors.specs.Filed.{AreHeaded}
-use Rattle.pol_selectors.specs.Inside.{IsFrom, IsHeaded, IsLiveAt, IsPutAt, IsSpotOf, live_at, live_in, live_of, spot_numbers}
+use Rattle.pol_selectors.specs.Inside.{IsFrom, IsLiveAt, IsPutAt, IsSpotOf, live_at, live_in, live_of, spot_numbers}
 use Rattle.pol_selectors.specs.Live.{Live, is_live, selector_of, one_less, where_number, without_reference}
 use Rattle.pol_selectors.proofs.LiveLists.{AllAbove, AllReferenced, all_stay, numbers}
 use Rattle.pol_selectors.proofs.Middle.{all_but, changed_there, gone_there, mid_all}
@@ -234,16 +233,8 @@ set_numbers [] i spot w at same = absurd (let wrong : ⊥ = cc in wrong)
 set_numbers (f ∷ spots) zero spot w at same = ap (λ n. n ∷ spot_numbers spots) (same ∙ ap (λ (g : Spot). g.number) (let is : spot ≡ f = cc in is))
 set_numbers (f ∷ spots) (suc i) spot w at same = ap (λ rest. f.number ∷ rest) (set_numbers spots i spot w at same)
 
-set_headed : (spots : List Spot) (i : ℕ) (spot w : Spot) → slice_get spots i ≡ Some spot → (IsHeaded spot → IsHeaded w) → AreHeaded spots → AreHeaded (set spots i w)
-set_headed [] i spot w at keeps headed = tt
-set_headed (f ∷ spots) zero spot w at keeps headed = (keeps (subst IsHeaded (let is : f ≡ spot = cc in is) headed.0), headed.1)
-set_headed (f ∷ spots) (suc i) spot w at keeps headed = (headed.0, set_headed spots i spot w at keeps headed.1)
-
 pub put_numbers : (i : ℕ) (o : Option Live) (old new : List Spot) → IsPutAt i o old new → spot_numbers new ≡ spot_numbers old
 put_numbers i o old new put = ap spot_numbers put.is ∙ set_numbers old i put.spot put.put put.at put.number
-
-pub put_headed : (i : ℕ) (o : Option Live) (old new : List Spot) → IsPutAt i o old new → AreHeaded old → AreHeaded new
-put_headed i o old new put headed = subst AreHeaded (sym put.is) (set_headed old i put.spot put.put put.at put.headed headed)
 
 pub put_there : (i : ℕ) (o : Option Live) (l : Live) (old new : List Spot) (part : Parted old i l) → IsPutAt i o old new → live_in new ≡ part.front ++ cons_option o part.back
 put_there i o l old new part put = ap live_in put.is ∙ part.put put.put ∙ ap (λ p. part.front ++ cons_option p part.back) put.live

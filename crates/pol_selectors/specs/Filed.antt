@@ -1,7 +1,7 @@
 -- What the table of selectors keeps, and how their numbers are filed. No public clause cites this module, but for
 -- `stands_in`.
 use Rattle.std.specs.Prelude.{ℕ, ◌≡◌, ◌==◌, ◌&&◌, ◌||◌, not, Bool, List}
-use Rattle.std.specs.List.{AllByRecursion, list_any}
+use Rattle.std.specs.List.{list_any}
 use Rattle.std.specs.Map.{lookup}
 use Rattle.pol_filing.specs.declared.heading.Heading.{Heading}
 use Rattle.pol_filing.specs.Filed.{Drawers, is_filed}
@@ -10,7 +10,7 @@ use Rattle.pol_model.specs.Ascending.{Ascends}
 use Rattle.pol_rule.specs.contracts.policy.PeerPartialEq.TheImpl as peers
 use Rattle.pol_rule.specs.declared.policy.Peer.{Peer}
 use Rattle.pol_selectors.specs.declared.spots.Spot.{Spot}
-use Rattle.pol_selectors.specs.Inside.{IsHeaded, live_in, spot_numbers}
+use Rattle.pol_selectors.specs.Inside.{live_in, spot_numbers}
 use Rattle.pol_selectors.specs.Live.{Live, AreLive, number_of}
 
 -- the selector has this number, and its peer this heading
@@ -25,17 +25,12 @@ IsFiled drawers live = (heading : Heading) (number : ℕ) → is_filed drawers h
 abbrev pub AreKnown : List (Peer × ℕ) → List Live → Type 0
 AreKnown known live = (p : Peer) → lookup (peers.ghosts.eq p) known ≡ number_of p live
 
--- each row keeps its peer's heading
-abbrev pub AreHeaded : List Spot → Type 0
-AreHeaded spots = AllByRecursion IsHeaded spots
-
 -- what every table keeps
 pub record IsTable (known : List (Peer × ℕ)) (spots : List Spot) (drawers : Drawers) : Type 0 where
   pub ascend : Ascends (spot_numbers spots)
   pub live : AreLive (live_in spots)
   pub known_by_peer : AreKnown known (live_in spots)
   pub filed : IsFiled drawers (live_in spots)
-  pub headed : AreHeaded spots
 
 -- the number was filed under the heading
 abbrev pub IsFiledToo : Heading → ℕ → Drawers → Drawers → Type 0

@@ -1,8 +1,7 @@
 -- How the spots of selectors are seen. No public clause cites this module, but for `live_of`.
-use Rattle.std.specs.Prelude.{ℕ, ◌≡◌, ◌<◌, ◌≤◌, List, map, take, drop, length, Option, Some, IfSome, option_map, slice_get, slice_set}
+use Rattle.std.specs.Prelude.{ℕ, ◌≡◌, ◌<◌, ◌≤◌, List, map, take, drop, Option, Some, option_map, slice_get, slice_set}
 use Rattle.std.specs.Arc.{arc_value}
 use Rattle.std.specs.List.{AllByRecursion, filter_map}
-use Rattle.pol_filing.specs.Heading.{heading_of}
 use Rattle.pol_selectors.specs.declared.spots.Row.{Row}
 use Rattle.pol_selectors.specs.declared.spots.Spot.{Spot}
 use Rattle.pol_selectors.specs.Live.{Live}
@@ -46,10 +45,6 @@ pub record IsFrom (number : ℕ) (spots : List Spot) (place : ℕ) : Type 0 wher
   pub below : AllByRecursion (λ n. n < number) (spot_numbers (take place spots))
   pub rest : AllByRecursion (λ n. number ≤ n) (spot_numbers (drop place spots))
 
--- the row keeps its peer's heading
-abbrev pub IsHeaded : Spot → Type 0
-IsHeaded spot = IfSome spot.row (λ row. row.heading ≡ heading_of row.peer)
-
 -- another row, or none, stands at the place, under the number that is there
 pub record IsPutAt (place : ℕ) (there : Option Live) (old new : List Spot) : Type 0 where
   pub spot : Spot
@@ -58,4 +53,3 @@ pub record IsPutAt (place : ℕ) (there : Option Live) (old new : List Spot) : T
   pub is : new ≡ slice_set old place put
   pub number : put.number ≡ spot.number
   pub live : live_at put ≡ there
-  pub headed : IsHeaded spot → IsHeaded put

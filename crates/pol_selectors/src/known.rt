@@ -7,14 +7,14 @@ ghost use Rattle.pol_rule.specs.contracts.policy.PeerPartialEq.TheImpl as peers;
 ghost use Rattle.pol_rule.specs.declared.policy.Peer.{Peer as OnePeer};
 ghost use Rattle.pol_filing.specs.Heading.{heading_of};
 ghost use Rattle.pol_model.specs.Ascending.{Ascends};
-ghost use Rattle.pol_selectors.specs.Filed.{AreHeaded, IsTable, IsUnfiled};
+ghost use Rattle.pol_selectors.specs.Filed.{IsTable, IsUnfiled};
 ghost use Rattle.pol_selectors.specs.Inside.{IsLastAt, IsLiveAt, live_in, live_of, spot_numbers};
 ghost use Rattle.pol_selectors.specs.Live.{number_of, without_reference};
 
 use crate::spots::{Row, Spot, cut, put_none, row_at, sweep};
 use indexmap::IndexMap;
 use pol_data::Memory;
-use pol_filing::{Filing, Heading};
+use pol_filing::{Filing, HeadingRef};
 use pol_rule::Peer;
 use pol_sets::IdSet;
 use std::alloc::Global;
@@ -34,13 +34,11 @@ fn put_known(known: &mut IndexMap<Peer, u64>, peer: Peer, number: u64)
 /// A row with one reference.
 pub(crate) fn new_row(alloc: Global, peer: &Peer, set: Arc<IdSet>) -> Result<Row, Memory>
     ensures live { IfOk result (λ row. (number : ℕ) → live_of number row ≡ record { number = number; peer = peer.now; references = 1; set = arc_value set }) }
-    ensures headed { IfOk result (λ row. row.heading ≡ heading_of row.peer) }
 {
     Ok(Row {
         peer: peer.copy(alloc)?,
         references: 1,
         set,
-        heading: Heading::of(alloc, peer)?,
     })
 }
 
@@ -49,11 +47,8 @@ fn put_behind(spots: &mut Vec<Spot>, number: u64, row: Row)
     requires ascend { Ascends (spot_numbers spots.old.items) }
     requires above { AllByRecursion (λ s. s.number < number) (live_in spots.old.items) }
     requires room { vec_len spots.old < vec_capacity spots.old }
-    requires headed { AreHeaded spots.old.items }
-    requires row_headed { row.heading ≡ heading_of row.peer }
     ensures live { live_in spots.new.items ≡ live_in spots.old.items ++ live_of number row ∷ [] }
     ensures ascend { Ascends (spot_numbers spots.new.items) }
-    ensures headed { AreHeaded spots.new.items }
 {
     cut(spots, number);
     spots.push_reserved(Spot {
@@ -74,7 +69,6 @@ pub(crate) fn add_row(
     requires table { IsTable known.old.entries spots.old.items filing.old }
     requires new { number_of row.peer (live_in spots.old.items) ≡ None }
     requires above { AllByRecursion (λ s. s.number < number) (live_in spots.old.items) }
-    requires headed { row.heading ≡ heading_of row.peer }
     requires referenced { 0 < row.references }
     ensures table { IsTable known.new.entries spots.new.items filing.new }
     ensures live { OnOk result (live_in spots.new.items ≡ live_in spots.old.items ++ live_of number row ∷ []) }
@@ -83,8 +77,7 @@ pub(crate) fn add_row(
     known.reserve(1)?;
     spots.reserve(1)?;
     let peer = row.peer.copy(alloc)?;
-    let heading = row.heading.copy(alloc)?;
-    filing.file(heading, number)?;
+    filing.file(&HeadingRef::of(&row.peer), number)?;
     put_known(known, peer, number);
     put_behind(spots, number, row);
     Ok(())
@@ -93,10 +86,10 @@ pub(crate) fn add_row(
 /// Takes a selector's peer from among those that have numbers, and its number from under its heading.
 fn forget(known: &mut IndexMap<Peer, u64>, filing: &mut Filing, row: &Row, number: u64)
     ensures known { (p : OnePeer) → get peers.ghosts.eq known.new p ≡ (if peers.ghosts.eq row.now.peer p then None else get peers.ghosts.eq known.old p) }
-    ensures unfiled { IsUnfiled row.now.heading number filing.old filing.new }
+    ensures unfiled { IsUnfiled (heading_of row.now.peer) number filing.old filing.new }
 {
     known.swap_remove(&row.peer);
-    filing.unfile(&row.heading, number);
+    filing.unfile(&HeadingRef::of(&row.peer), number);
 }
 
 /// Takes out the selector at a place, which has its last reference. It takes no memory.

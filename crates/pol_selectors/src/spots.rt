@@ -4,11 +4,9 @@ ghost use Rattle.std.specs.List.{AllByRecursion};
 ghost use Rattle.std.specs.Arc.{arc_value};
 ghost use Rattle.pol_model.specs.Ascending.{Ascends};
 ghost use Rattle.pol_selectors.specs.declared.spots.Spot.{Spot as OneSpot};
-ghost use Rattle.pol_selectors.specs.Filed.{AreHeaded};
 ghost use Rattle.pol_selectors.specs.Inside.{IsFrom, IsLiveAt, IsPutAt, IsSpotOf, live_at, live_in, spot_numbers};
 ghost use Rattle.pol_selectors.specs.Live.{is_live, with_count, with_numbers};
 
-use pol_filing::Heading;
 use pol_rule::Peer;
 use pol_sets::IdSet;
 use std::sync::Arc;
@@ -22,8 +20,6 @@ pub struct Row {
     pub references: u64,
     /// The numbers that its peer selects.
     pub set: Arc<IdSet>,
-    /// Under what its number is filed.
-    pub(crate) heading: Heading,
 }
 
 /// A number, and its selector; None once that has gone.
@@ -110,10 +106,8 @@ pub(crate) fn put_none(spots: &mut Vec<Spot>, place: usize, number: u64)
 /// Takes out the spots of selectors that have gone, where they are more than half.
 pub(crate) fn sweep(spots: &mut Vec<Spot>, live: usize)
     requires ascend { Ascends (spot_numbers spots.old.items) }
-    requires headed { AreHeaded spots.old.items }
     ensures live { live_in spots.new.items ≡ live_in spots.old.items }
     ensures ascend { Ascends (spot_numbers spots.new.items) }
-    ensures headed { AreHeaded spots.new.items }
 {
     if spots.len() / 2 > live {
         sweep_all(spots);
@@ -131,9 +125,7 @@ fn sweep_all(spots: &mut Vec<Spot>)
 pub(crate) fn cut(spots: &mut Vec<Spot>, number: u64)
     requires ascend { Ascends (spot_numbers spots.old.items) }
     requires above { AllByRecursion (λ s. s.number < number) (live_in spots.old.items) }
-    requires headed { AreHeaded spots.old.items }
     ensures live { live_in spots.new.items ≡ live_in spots.old.items }
-    ensures headed { AreHeaded spots.new.items }
     ensures below { AllByRecursion (λ n. n < number) (spot_numbers spots.new.items) }
     ensures ascend { Ascends (spot_numbers spots.new.items) }
     ensures len { vec_len spots.new ≤ vec_len spots.old }

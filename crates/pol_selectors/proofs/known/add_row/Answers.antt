@@ -10,9 +10,8 @@ use Rattle.pol_selectors.proofs.known.add_row.Goals as goal
 pub returns-clause-table : goal.returns-clause-table
 returns-clause-table c =
     let n = c.args.number in
-    let heading = c.in_ok-heading.ensures.equal ∙ c.requires.headed in
     table_pushed c.args.known.now.entries c.put_known.new.known.entries c.args.spots.now.items c.put_behind.new.spots.items c.args.filing.now c.file.new.self n c.args.row c.requires.table
     (c.put_behind.ensures.live ∙ (λ k. live_in (c.reserve-2.ensures.items k) ++ live_of n c.args.row ∷ []))
-    c.put_behind.ensures.ascend c.put_behind.ensures.headed c.requires.referenced c.requires.new
+    c.put_behind.ensures.ascend c.requires.referenced c.requires.new
     (λ p. c.put_known.ensures p ∙ (λ k. cond (peers.ghosts.eq (c.in_ok-peer.ensures.equal k) p) (Some n) (lookup (peers.ghosts.eq p) (c.reserve.ensures.entries k))))
-    (λ other m. c.in_ok-file.ensures.ok other m ∙ (λ k. is_filed c.args.filing.now other m || (same_heading (heading k) other && (n == m))))
+    (λ other m. c.in_ok-file.ensures.ok other m ∙ (λ k. is_filed c.args.filing.now other m || (same_heading (c.of.ensures k) other && (n == m))))

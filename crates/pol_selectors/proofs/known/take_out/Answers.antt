@@ -1,5 +1,6 @@
 use Rattle.std.proofs.Common.{◌≡◌, cond, List, Some, None, slice_get, sym, subst, ◌∙◌}
 use Rattle.std.specs.Map.{lookup}
+use Rattle.pol_filing.specs.Heading.{heading_of}
 use Rattle.pol_model.specs.Ascending.{Ascends}
 use Rattle.pol_rule.specs.contracts.policy.PeerPartialEq.TheImpl as peers
 use Rattle.pol_rule.specs.declared.policy.Peer.{Peer}
@@ -10,8 +11,8 @@ use Rattle.pol_selectors.proofs.Kept.{table_gone}
 use Rattle.pol_selectors.proofs.Placed.{own_row, put_gone, put_numbers}
 use Rattle.pol_selectors.proofs.known.take_out.Goals as goal
 
-pub sweep-requires-clause-ascend : goal.sweep-requires-clause-ascend
-sweep-requires-clause-ascend c = subst Ascends (sym (put_numbers _ _ _ _ c.put_none.ensures)) c.requires.table.ascend
+pub sweep-requires : goal.sweep-requires
+sweep-requires c = record { ascend = subst Ascends (sym (put_numbers _ _ _ _ c.put_none.ensures)) c.requires.table.ascend }
 
 pub returns-clause-table : goal.returns-clause-table
 returns-clause-table c =
@@ -24,8 +25,8 @@ returns-clause-table c =
     table_gone n i spots c.put_none.new.spots.items at c.requires.table.live c.put_none.ensures
     c.args.known.now.entries c.forget.new.known.entries c.args.filing.now c.forget.new.filing c.sweep.new.spots.items c.requires.table c.requires.place.last
     (subst (λ (row : Row). (p : Peer) → lookup (peers.ghosts.eq p) c.forget.new.known.entries ≡ cond (peers.ghosts.eq row.peer p) None (lookup (peers.ghosts.eq p) c.args.known.now.entries)) (sym own) c.forget.ensures.known)
-    (subst (λ (row : Row). IsUnfiled row.heading n c.args.filing.now c.forget.new.filing) (sym own) c.forget.ensures.unfiled)
-    c.sweep.ensures.live c.sweep.ensures.ascend c.sweep.ensures.headed
+    (subst (λ (row : Row). IsUnfiled (heading_of row.peer) n c.args.filing.now c.forget.new.filing) (sym own) c.forget.ensures.unfiled)
+    c.sweep.ensures.live c.sweep.ensures.ascend
 
 pub returns-clause-live : goal.returns-clause-live
 returns-clause-live c =

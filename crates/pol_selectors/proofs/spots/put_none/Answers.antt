@@ -11,5 +11,4 @@ returns c = record {
   is = refl;
   number = ap (λ (spot : Spot). spot.number) (c.index_mut.ensures.value ∙ get_or_from_slice_get c.args.spots.now.items c.args.place c.requires.place.spot c.index_mut.result.now c.requires.place.at);
   live = refl;
-  headed = λ headed. tt;
 }

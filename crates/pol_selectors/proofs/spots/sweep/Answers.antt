@@ -1,10 +1,8 @@
 use Rattle.std.proofs.Common.{List, is_some, ap, sym, subst, ◌∙◌}
-use Rattle.pol_data.proofs.Every.{every-kept}
 use Rattle.pol_model.proofs.Ascents.{filter_ascends}
 use Rattle.pol_model.specs.Ascending.{Ascends}
 use Rattle.pol_selectors.specs.declared.spots.Spot.{Spot}
-use Rattle.pol_selectors.specs.Filed.{AreHeaded}
-use Rattle.pol_selectors.specs.Inside.{IsHeaded, live_in, spot_numbers}
+use Rattle.pol_selectors.specs.Inside.{live_in, spot_numbers}
 use Rattle.pol_selectors.proofs.Placed.{swept}
 use Rattle.pol_selectors.proofs.spots.sweep.Goals as goal
 
@@ -15,7 +13,3 @@ pub returns-then-len-live-clause-ascend : goal.returns-then-len-live-clause-asce
 returns-then-len-live-clause-ascend c =
     subst (λ (spots : List Spot). Ascends (spot_numbers spots)) (sym c.sweep_all.ensures)
     (filter_ascends (λ (spot : Spot). spot.number) (λ spot. is_some spot.row) c.args.spots.now.items c.requires.ascend)
-
-pub returns-then-len-live-clause-headed : goal.returns-then-len-live-clause-headed
-returns-then-len-live-clause-headed c =
-    subst AreHeaded (sym c.sweep_all.ensures) (every-kept IsHeaded (λ (spot : Spot). is_some spot.row) c.args.spots.now.items c.requires.headed)

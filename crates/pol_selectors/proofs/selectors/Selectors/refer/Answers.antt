@@ -1,12 +1,11 @@
-use Rattle.std.proofs.Common.{◌≡◌, ◌+◌, ◌-◌, ◌<◌, ◌≤◌, List, Some, None, slice_get, refl, ap, sym, subst, ◌∙◌, arith}
-use Rattle.std.specs.Arc.{arc_value}
+use Rattle.std.proofs.Common.{◌≡◌, ◌+◌, List, Some, slice_get, refl, ap, sym, subst, ◌∙◌}
 use Rattle.pol_selectors.specs.declared.spots.Row.{Row}
 use Rattle.pol_selectors.specs.declared.spots.Spot.{Spot}
 use Rattle.pol_selectors.specs.Inside.{IsLiveAt, IsPutAt, live_in, live_of}
-use Rattle.pol_selectors.specs.Live.{Live, AreLive, one_less, one_more, with_count, with_numbers, with_reference, with_set, without_reference}
+use Rattle.pol_selectors.specs.Live.{AreLive, one_more, with_count, with_reference}
 use Rattle.pol_selectors.proofs.Kept.{table_changed}
-use Rattle.pol_selectors.proofs.LiveLists.{reference_keeps, set_keeps, unreference_keeps}
-use Rattle.pol_selectors.proofs.Placed.{own_row, put_headed, put_live, put_lower, put_numbers, put_own, referenced_at}
+use Rattle.pol_selectors.proofs.LiveLists.{reference_keeps}
+use Rattle.pol_selectors.proofs.Placed.{own_row, put_live, put_numbers, put_own}
 use Rattle.pol_selectors.proofs.selectors.Selectors.refer.Goals as goal
 
 at : (c : goal.After-put_references) → IsLiveAt c.args.number c.self.inside.spots.items c.place_near-place.result
@@ -31,7 +30,6 @@ pub invariant_of-self : goal.invariant_of-self
 invariant_of-self c =
     table_changed c.args.number one_more (λ s. refl) (λ s. refl) c.self.inside.known.entries c.self.inside.spots.items c.put_references.new.spots.items c.self.inside.filing c.self.invariant
     (put_numbers _ _ _ _ (put c)) (is c) (subst AreLive (sym (is c)) (reference_keeps c.args.number (live_in c.self.inside.spots.items) c.self.invariant.live))
-    (put_headed _ _ _ _ (put c) c.self.invariant.headed)
 
 pub returns-in-Some-clause-referred : goal.returns-in-Some-clause-referred
 returns-in-Some-clause-referred c = is c ∙ ap (with_reference c.args.number) c.self.view_is

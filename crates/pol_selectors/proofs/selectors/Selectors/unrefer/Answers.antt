@@ -1,12 +1,11 @@
-use Rattle.std.proofs.Common.{◌≡◌, ◌+◌, ◌-◌, ◌<◌, ◌≤◌, List, Some, None, slice_get, refl, ap, sym, subst, ◌∙◌, arith}
-use Rattle.std.specs.Arc.{arc_value}
+use Rattle.std.proofs.Common.{◌≡◌, ◌-◌, ◌<◌, List, Some, slice_get, refl, ap, sym, subst, ◌∙◌, arith}
 use Rattle.pol_selectors.specs.declared.spots.Row.{Row}
 use Rattle.pol_selectors.specs.declared.spots.Spot.{Spot}
 use Rattle.pol_selectors.specs.Inside.{IsLiveAt, IsPutAt, live_in, live_of}
-use Rattle.pol_selectors.specs.Live.{Live, AreLive, one_less, one_more, with_count, with_numbers, with_reference, with_set, without_reference}
+use Rattle.pol_selectors.specs.Live.{AreLive, one_less, with_count, without_reference}
 use Rattle.pol_selectors.proofs.Kept.{table_changed}
-use Rattle.pol_selectors.proofs.LiveLists.{reference_keeps, set_keeps, unreference_keeps}
-use Rattle.pol_selectors.proofs.Placed.{own_row, put_headed, put_live, put_lower, put_numbers, put_own, referenced_at, there_row}
+use Rattle.pol_selectors.proofs.LiveLists.{unreference_keeps}
+use Rattle.pol_selectors.proofs.Placed.{own_row, put_live, put_lower, put_numbers, put_own, referenced_at, there_row}
 use Rattle.pol_selectors.proofs.selectors.Selectors.unrefer.Goals as goal
 
 -- the last reference
@@ -53,7 +52,6 @@ invariant_of-self-else-references-eq1 c =
     (put_numbers _ _ _ _ (put c))
     (put_live c.args.number c.place_near-place.result c.self.inside.spots.items c.put_references.new.spots.items (at c) one_less c.self.invariant.live.numbers (put c))
     (subst AreLive (sym (is c)) (unreference_keeps c.args.number (live_in c.self.inside.spots.items) c.self.invariant.live))
-    (put_headed _ _ _ _ (put c) c.self.invariant.headed)
 
 pub returns-else-references-eq1-clause-dropped : goal.returns-else-references-eq1-clause-dropped
 returns-else-references-eq1-clause-dropped c = is c ∙ ap (without_reference c.args.number) c.self.view_is
