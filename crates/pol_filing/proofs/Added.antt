@@ -21,10 +21,10 @@ octets_covers p q = by (p.len % 8 == 0) refl
     by true whole =
         let is_whole : p.len % 8 ≡ 0 = eqb-true _ 0 whole in
         let fewer : nat_lt (p.len / 8) (q.len / 8 + 1) ≡ nat_le p.len q.len =
-          elim (cases_lt q.len p.len) [
-            | inl longer ↦ le-ltb _ _ (omega arith) ∙ sym (lt-leb _ _ longer)
-            | inr short ↦ lt-ltb _ _ (omega arith) ∙ sym (le-leb _ _ (omega arith))
-          ] in
+        elim (cases_lt q.len p.len) [
+          | inl longer ↦ le-ltb _ _ (omega arith) ∙ sym (lt-leb _ _ longer)
+          | inr short ↦ lt-ltb _ _ (omega arith) ∙ sym (le-leb _ _ (omega arith))
+        ] in
         ap (λ b. b && (network p.len q.bits == p.bits)) fewer
     by false whole = refl
 

@@ -1,5 +1,5 @@
 -- The numbers under one heading, which a set of the kit keeps in order.
-use Rattle.std.proofs.Common.{◌≡◌, ◌==◌, ◌<◌, ◌&&◌, ◌||◌, not, Bool, true, false, cond, List, [], ◌∷◌, ℕ, length, nat_lt, refl, sym, ap, ◌∙◌, inl, inr, ne_eqb, arith}
+use Rattle.std.proofs.Common.{◌≡◌, ◌==◌, ◌<◌, ◌&&◌, ◌||◌, not, Bool, true, false, cond, List, [], ◌∷◌, ℕ, length, nat_lt, refl, sym, ◌∙◌, inl, inr, ne_eqb, arith}
 use Rattle.std.specs.Cmp.{unsigned_tied}
 use Rattle.std.specs.BTreeMap.{is_at}
 use Rattle.std.specs.List.{AllByRecursion, list_any}

@@ -1,5 +1,5 @@
 -- Under what selectors and identities are filed ('profile').
-use Rattle.std.specs.Prelude.{◌==◌, ◌*◌, ◌/◌, ◌&&◌, Bool, ℕ, List, [], codes, length, slice_get, find}
+use Rattle.std.specs.Prelude.{◌==◌, ◌*◌, ◌/◌, ◌&&◌, Bool, ℕ, List, codes, length, slice_get, find}
 use Rattle.std.specs.Option.{option_map_or}
 use Rattle.pol_addr.specs.declared.network.Prefix.{Prefix}
 use Rattle.pol_addr.specs.Prefix.{network_of, prefix_of}

@@ -1,5 +1,5 @@
 -- Which identities stand under a heading.
-use Rattle.std.specs.Prelude.{◌==◌, ◌%◌, ◌&&◌, Bool, true, false, List, Option}
+use Rattle.std.specs.Prelude.{◌==◌, ◌%◌, Bool, true, false, List, Option}
 use Rattle.std.specs.List.{list_any}
 use Rattle.std.specs.Option.{option_map_or}
 use Rattle.pol_addr.specs.declared.network.Prefix.{Prefix}

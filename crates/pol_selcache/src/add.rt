@@ -58,7 +58,7 @@ impl SelectorCache {
         let number = self.next;
         let next = number.checked_add(1).ok_or(AllocError)?;
         let set = Arc::new(alloc, set_of(alloc, peer, identities, steps)?)?;
-        self.table.push(alloc, peer.copy(alloc)?, number, set)?;
+        self.table.push(alloc, peer, number, set)?;
         self.next = next;
         Ok(number)
     }

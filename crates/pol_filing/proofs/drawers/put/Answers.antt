@@ -34,7 +34,7 @@ returns-in_ok-insert-in-None-clause-ok c =
     let numbers = c.in_ok-numbers-in-None.numbers in
     refiled es c.insert.new.self.entries heading (Some numbers)
     (λ q. c.in_ok-insert-in-None.ensures.updates.0 q
-      ∙ ap (λ k. cond (same_heading k q) (Some numbers) (lookup (same_heading q) c.get_mut.follows.lender-at-none.entries)) (c.in_ok-to_heading-in-None.ensures.equal)
-      ∙ ap (λ m. cond (same_heading heading q) (Some numbers) (lookup (same_heading q) m.entries)) c.get_mut.follows.holds-at-none)
+    ∙ ap (λ k. cond (same_heading k q) (Some numbers) (lookup (same_heading q) c.get_mut.follows.lender-at-none.entries)) (c.in_ok-to_heading-in-None.ensures.equal)
+    ∙ ap (λ m. cond (same_heading heading q) (Some numbers) (lookup (same_heading q) m.entries)) c.get_mut.follows.holds-at-none)
     (λ a b. a || b) or_none c.args.number
     (λ n. c.in_ok-numbers-in-None.ensures n ∙ sym (ap (λ o. is_in o n || (c.args.number == n)) none))

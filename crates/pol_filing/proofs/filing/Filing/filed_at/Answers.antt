@@ -14,6 +14,6 @@ pub returns-in-Some-clause-members : goal.returns-in-Some-clause-members
 returns-in-Some-clause-members c =
     IfOk-weaker c.numbers_of.result (λ numbers. numbers.items ≡ c.in-Some.filed.now.keys) (λ numbers. (n : ℕ) → has n numbers.items ≡ is_filed c.args.self.now (heading_by c.args.heading.now) n)
     (λ numbers is n.
-      ap (has n) is
-      ∙ sym (viewed c.args.self.now c.self.inside.drawers.entries c.self.view_is (heading_by c.args.heading.now) _ c.in-Some.ensures.value n))
+    ap (has n) is
+    ∙ sym (viewed c.args.self.now c.self.inside.drawers.entries c.self.view_is (heading_by c.args.heading.now) _ c.in-Some.ensures.value n))
     c.numbers_of.ensures.items

@@ -16,7 +16,7 @@ returns-in-Some c =
     let old = c.args.numbers.now.items in
     let filed = c.in-Some.filed.now.keys in
     let pushed : c.push_all.new.numbers.items ≡ old ++ filed → (n : ℕ) → has n c.push_all.new.numbers.items ≡ (has n old || is_filed c.args.self.now (heading_by c.args.heading.now) n) = λ items n.
-      ap (has n) items
-      ∙ list_any-append (λ own. own == n) old filed
-      ∙ ap (λ b. has n old || b) (sym (viewed c.args.self.now c.self.inside.drawers.entries c.self.view_is (heading_by c.args.heading.now) _ c.in-Some.ensures.value n)) in
+    ap (has n) items
+    ∙ list_any-append (λ own. own == n) old filed
+    ∙ ap (λ b. has n old || b) (sym (viewed c.args.self.now c.self.inside.drawers.entries c.self.view_is (heading_by c.args.heading.now) _ c.in-Some.ensures.value n)) in
     on_ok_weaker _ pushed c.push_all.ensures.items

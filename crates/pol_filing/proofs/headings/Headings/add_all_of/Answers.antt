@@ -1,9 +1,7 @@
 use Rattle.std.proofs.Common.{◌≡◌, ◌||◌, ap, ◌∙◌}
-use Rattle.pol_filing.specs.Heading.{same_heading}
 use Rattle.pol_filing.specs.Inside.{stands_in_octets}
 use Rattle.pol_filing.specs.Tried.{is_among, is_filed_as}
 use Rattle.pol_filing.specs.declared.heading.Heading.{Heading}
-use Rattle.pol_filing.specs.declared.heading.Heading.TheVariants as is
 use Rattle.pol_filing.proofs.Added.{joined}
 use Rattle.pol_filing.proofs.Selected.{has_all, has_heading}
 use Rattle.pol_filing.proofs.headings.Headings.add_all_of.Goals as goal
@@ -14,8 +12,8 @@ added c other =
     c.in_ok-add_prefix.ensures other
     ∙ ap (λ b. b || stands_in_octets c.args.prefix.now other)
     (c.in_ok-add_labels.ensures other
-      ∙ ap (λ labels. is_among c.add.new.self other || has_heading labels other) c.as_slice.ensures.labels
-      ∙ ap (λ b. b || has_heading c.args.labels.now other) (c.in_ok-add.ensures other))
+    ∙ ap (λ labels. is_among c.add.new.self other || has_heading labels other) c.as_slice.ensures.labels
+    ∙ ap (λ b. b || has_heading c.args.labels.now other) (c.in_ok-add.ensures other))
     ∙ joined old c.args.labels.now c.args.prefix.now other
 
 pub returns-clause-added : goal.returns-clause-added
