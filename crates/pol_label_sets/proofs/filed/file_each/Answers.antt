@@ -1,4 +1,4 @@
-use Rattle.std.proofs.Common.{◌≡◌, ◌||◌, ◌&&◌, ◌==◌, sym, ap, ◌∙◌}
+use Rattle.std.proofs.Common.{◌||◌, ◌&&◌, ◌==◌, ◌∙◌}
 use Rattle.pol_filing.specs.Filed.{is_filed}
 use Rattle.pol_filing.specs.Heading.{same_heading}
 use Rattle.pol_label_sets.proofs.Front.{front-apart, more-filed}

@@ -1,4 +1,3 @@
-use Rattle.std.proofs.Common.{refl}
 use Rattle.pol_label_sets.proofs.Refiled.{held}
 use Rattle.pol_label_sets.proofs.sets.LabelSets.hold.Goals as goal
 

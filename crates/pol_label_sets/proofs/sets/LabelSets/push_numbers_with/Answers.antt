@@ -1,4 +1,3 @@
-use Rattle.std.proofs.Common.{◌<◌, ◌+◌, ◌^◌, length, sym, subst}
 use Rattle.pol_label_sets.proofs.Numbered.{numbers-filed, places-fit}
 use Rattle.pol_label_sets.proofs.sets.LabelSets.push_numbers_with.Goals as goal
 
