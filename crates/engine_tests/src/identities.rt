@@ -124,18 +124,6 @@ fn label_sets_are_refused_and_taken_again(rt: HostRuntime) -> Result<(), Fail> {
 }
 
 #[test]
-fn numbers_ascend(rt: HostRuntime) -> Result<(), Fail> {
-    let mut identities = Identities::new(rt.alloc())?;
-    assert!(rt; identities.acquire_prefix(Prefix::world()) == Ok(2));
-    assert!(rt; identities.acquire_prefix(address(7)) == Ok(16_777_217));
-    let labels = app(rt.alloc(), 1).ok_or("no memory")?;
-    assert!(rt; number_of(&mut identities, &labels) == Ok(256));
-    let numbers = identities.numbers(rt.alloc())?;
-    assert!(rt; numbers.as_slice() == [1, 2, 3, 4, 5, 6, 7, 8, 256, 16_777_217].as_slice());
-    Ok(())
-}
-
-#[test]
 fn numbers_stand_under_headings(rt: HostRuntime) -> Result<(), Fail> {
     let mut identities = Identities::new(rt.alloc())?;
     assert!(rt; identities.acquire_prefix(address(7)) == Ok(16_777_217));

@@ -2,7 +2,6 @@ pub mod GivenBack
 pub mod HeldLabels
 pub mod HeldPrefixes
 pub mod Looks
-pub mod Prefixed
 pub mod Refusals
 pub mod RowLists
 pub mod RowsOf

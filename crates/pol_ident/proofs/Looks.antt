@@ -53,17 +53,6 @@ module _ (cluster : List (Slot (List Label))) (local : List (Slot Prefix)) where
       ∙ row-past plain without number CLUSTER_FIRST cluster (local_rows local) (omega (arith, is.0, few))
       ∙ row-here worlds Some number LOCAL_FIRST place local [] is.0 tt
 
-  numbers-all : numbers all ≡ numbers reserved_identities ++ (numbers_from CLUSTER_FIRST cluster ++ (numbers_from LOCAL_FIRST local ++ []))
-  numbers-all =
-      ap (λ rest. numbers reserved_identities ++ rest) (numbers-rows plain without CLUSTER_FIRST cluster (local_rows local) ∙ ap (λ rest. numbers_from CLUSTER_FIRST cluster ++ rest) (numbers-rows worlds Some LOCAL_FIRST local []))
-
-  -- as they are collected
-  pub numbers-collected : (numbers reserved_identities ++ numbers_from CLUSTER_FIRST cluster) ++ numbers_from LOCAL_FIRST local ≡ numbers all
-  numbers-collected =
-      append_assoc (numbers reserved_identities) (numbers_from CLUSTER_FIRST cluster) (numbers_from LOCAL_FIRST local)
-      ∙ ap (λ rest. numbers reserved_identities ++ (numbers_from CLUSTER_FIRST cluster ++ rest)) (sym (append-nil (numbers_from LOCAL_FIRST local)))
-      ∙ sym numbers-all
-
   pub nowhere-row : (number : ℕ) → IsPlaceOf number Nowhere → KeepsRows all → row_of number all ≡ None
   nowhere-row number is keeps = by (row_of number all) refl
     where

@@ -1,4 +1,3 @@
 pub mod Look
 pub mod Place
 pub mod Rows
-pub mod Prefixed

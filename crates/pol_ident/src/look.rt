@@ -1,25 +1,15 @@
 //! What is known of a number.
-ghost use Rattle.std.specs.Prelude.{◌≡◌, map, option_map, IfOk};
+ghost use Rattle.std.specs.Prelude.{◌≡◌, option_map};
 ghost use Rattle.std.specs.Option.{option_copied};
 ghost use Rattle.pol_facts.specs.Holding.{has_row, row_of};
 ghost use Rattle.pol_facts.specs.Keeps.{KeepsRows};
 ghost use Rattle.pol_ident.specs.Look.{labels_at, prefix_at};
-ghost use Rattle.pol_ident.specs.Prefixed.{numbers_with_prefix};
 
 use crate::Identities;
 use crate::place::{Place, place_of};
 use pol_addr::Prefix;
-use pol_data::Memory;
 use pol_labels::LabelSet;
-use pol_model::{CLUSTER_FIRST, IdentityRow, LOCAL_FIRST, WORLD_IDENTITY};
-use std::alloc::Global;
-
-/// The numbers of the rows.
-fn numbers_of(alloc: Global, rows: &[IdentityRow]) -> Result<Vec<u32>, Memory>
-    ensures { IfOk result (λ numbers. numbers.items ≡ map (λ row. row.number) rows.now) }
-{
-    rows.iter().map(|row| row.number).collect(alloc)
-}
+use pol_model::WORLD_IDENTITY;
 
 impl Identities {
     /// The labels and the prefix of the number.
@@ -77,29 +67,5 @@ impl Identities {
         ensures sound { KeepsRows self.now }
     {
         self.look(number).is_some()
-    }
-
-    /// The numbers that are held, ascending. The one error is want of memory.
-    pub fn numbers(&self, alloc: Global) -> Result<Vec<u32>, Memory>
-        ensures numbers { IfOk result (λ numbers. numbers.items ≡ map (λ row. row.number) self.now) }
-        ensures sound { KeepsRows self.now }
-    {
-        let mut numbers = numbers_of(alloc, &self.reserved)?;
-        self.cluster.push_numbers(CLUSTER_FIRST, &mut numbers)?;
-        self.local.push_numbers(LOCAL_FIRST, &mut numbers)?;
-        Ok(numbers)
-    }
-
-    /// The numbers that have a prefix, ascending: that of the world, and those that prefixes hold. The one error is want of
-    /// memory.
-    pub fn numbers_with_prefix(&self, alloc: Global) -> Result<Vec<u32>, Memory>
-        ensures numbers { IfOk result (λ numbers. numbers.items ≡ numbers_with_prefix self.now) }
-        ensures sound { KeepsRows self.now }
-    {
-        let local = &self.local;
-        let mut numbers = Vec::new(alloc);
-        numbers.push(WORLD_IDENTITY)?;
-        local.push_numbers(LOCAL_FIRST, &mut numbers)?;
-        Ok(numbers)
     }
 }
