@@ -126,6 +126,7 @@ fn label_sets_are_refused_and_taken_again(rt: HostRuntime) -> Result<(), Fail> {
 #[test]
 fn numbers_stand_under_headings(rt: HostRuntime) -> Result<(), Fail> {
     let mut identities = Identities::new(rt.alloc())?;
+    assert!(rt; identities.acquire_prefix(Prefix::world()) == Ok(2));
     assert!(rt; identities.acquire_prefix(address(7)) == Ok(16_777_217));
     let labels = app(rt.alloc(), 1).ok_or("no memory")?;
     assert!(rt; number_of(&mut identities, &labels) == Ok(256));

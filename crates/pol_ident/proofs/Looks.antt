@@ -1,7 +1,6 @@
 -- The row of a number, by its kind and place.
-use Rattle.std.proofs.Common.{zero, suc, ◌≡◌, ℕ, ◌+◌, ◌<◌, ◌≤◌, ◌||◌, ◌==◌, Bool, true, false, cond, List, [], ◌∷◌, ◌++◌, length, get_or, nat_le, Option, None, Some, option_map, is_some, refl, sym, ap, ◌∙◌, inl, inr, arith}
+use Rattle.std.proofs.Common.{zero, suc, ◌≡◌, ℕ, ◌+◌, ◌<◌, ◌≤◌, ◌||◌, ◌==◌, Bool, true, false, cond, List, [], ◌∷◌, length, get_or, nat_le, Option, None, Some, option_map, is_some, refl, sym, ap, ◌∙◌, inl, inr, arith}
 use Rattle.std.specs.Option.{option_and_then}
-use Rattle.std.proofs.lemmas.List.{append_assoc, append-nil}
 use Rattle.std.proofs.lemmas.Bool.{and_parts, eqb-true, leb-true}
 use Rattle.pol_addr.specs.declared.network.Prefix.{Prefix}
 use Rattle.pol_labels.specs.declared.label.Label.{Label}
@@ -17,12 +16,11 @@ use Rattle.pol_facts.proofs.StartRows.{start_row}
 use Rattle.pol_ident.specs.declared.place.Place.TheVariants.{Reserved, Cluster, Local, Nowhere}
 use Rattle.pol_ident.specs.Place.{IsPlaceOf}
 use Rattle.pol_ident.specs.Rows.{cluster_rows, local_rows, row_with, rows_of}
-use Rattle.pol_places.specs.Slots.{Slot, numbers_from, slot_at}
+use Rattle.pol_places.specs.Slots.{Slot, slot_at}
 use Rattle.pol_ident.proofs.HeldLabels.{local-above, plain, without}
 use Rattle.pol_ident.proofs.HeldPrefixes.{worlds}
-use Rattle.pol_ident.proofs.RowLists.{numbers}
 use Rattle.pol_ident.proofs.RowsOf.{reserved-below, row-front}
-use Rattle.pol_ident.proofs.SlotRows.{numbers-rows, row-here, row-past}
+use Rattle.pol_ident.proofs.SlotRows.{row-here, row-past}
 
 module _ (cluster : List (Slot (List Label))) (local : List (Slot Prefix)) where
   abbrev all : List IdentityRow
