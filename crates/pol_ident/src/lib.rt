@@ -10,11 +10,11 @@ mod find;
 mod holders;
 mod identities;
 mod look;
-mod numbering;
 mod place;
 mod prefixes;
 mod release;
 mod select;
+mod under;
 
 pub use error::IdentError;
 pub use identities::Identities;
