@@ -1,7 +1,6 @@
 //! What no clause says: that memory is there, that calls return, that each hint is worked on once, and that workers run at
 //! the same time.
 ghost use Rattle.std.specs.Prelude.{◌≡◌, true, Some, None, IfOk};
-ghost use Rattle.pol_pool.specs.Passes.{IsHintPassOf};
 
 use pol_pool::{Calls, Gate, HintPass, Hints, HintsFull, Job, Over, work};
 use std::alloc::{AllocError as Memory, Global};
@@ -99,7 +98,7 @@ struct Yard {
 impl Yard {
     // The threads 0 and 1 put half of the hints each, and the others take them.
     fn play<R: Wait>(&self, rt: &R, alloc: Global, mut pass: HintPass, thread: u32) -> bool
-        requires { IsHintPassOf self.now.hints pass }
+        requires { pass.queue ≡ self.now.hints }
     {
         if thread < 2 {
             self.put_half(rt, pass, thread);
@@ -118,7 +117,7 @@ impl Yard {
 
     // Waits where the queue is full.
     fn put_half<R: Wait>(&self, rt: &R, mut pass: HintPass, thread: u32)
-        requires { IsHintPassOf self.now.hints pass }
+        requires { pass.queue ≡ self.now.hints }
     {
         let mut left = self.half;
         for _ in rt.forever() {
@@ -142,16 +141,16 @@ impl Yard {
         two: HintPass,
         thread: u32,
     ) -> bool
-        requires one { IsHintPassOf self.now.hints one }
-        requires two { IsHintPassOf self.now.hints two }
+        requires one { one.queue ≡ self.now.hints }
+        requires two { two.queue ≡ self.now.hints }
     {
         let (first, second) = thread::join(
             rt,
             move ||
-                requires { IsHintPassOf self.now.hints one }
+                requires { one.queue ≡ self.now.hints }
             { self.play(rt, alloc, one, thread) },
             move ||
-                requires { IsHintPassOf self.now.hints two }
+                requires { two.queue ≡ self.now.hints }
             { self.play(rt, alloc, two, thread.saturating_add(1)) },
         );
         if thread == 0 {
@@ -191,10 +190,10 @@ fn is_each_worked_on_once<R: Threads + Wait + Sync>(
     let (put, taken) = thread::join(
         rt,
         move ||
-            requires { IsHintPassOf shared.now.hints pass × IsHintPassOf shared.now.hints one }
+            requires { (pass.queue ≡ shared.now.hints) × (one.queue ≡ shared.now.hints) }
         { shared.two(rt, alloc, pass, one, 0) },
         move ||
-            requires { IsHintPassOf shared.now.hints two × IsHintPassOf shared.now.hints three }
+            requires { (two.queue ≡ shared.now.hints) × (three.queue ≡ shared.now.hints) }
         { shared.two(rt, alloc, two, three, 2) },
     );
     let once = yard

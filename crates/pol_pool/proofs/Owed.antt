@@ -5,15 +5,15 @@ use Rattle.std.proofs.lemmas.Option.{none-some, same_Some}
 use mathlib.Core.List.{IsPrefix}
 use mathlib.Core.Option.{none}
 use prog.Atomic.{either}
+use Rattle.atomic_table.specs.Seated.{TableId}
 use Rattle.atomic_table.specs.Table.{Allows, Me, step}
 use Rattle.circular_buffer.specs.Buffer.{Buffer, buffer}
-use Rattle.pol_pool.specs.declared.hints.Hints.{Hints}
-use Rattle.pol_pool.specs.declared.pass.HintPass.{HintPass}
 use Rattle.pol_pool.specs.declared.standing.Standing.{Standing}
 use Rattle.pol_pool.specs.declared.turn.Turn.{Turn}
 use Rattle.pol_pool.specs.declared.turn.Turn.TheVariants.{Put, Full, Taken, Empty}
 use Rattle.pol_pool.specs.History.{IsHistory, MayCome, waiting, waiting_after}
-use Rattle.pol_pool.specs.Passes.{IsHintPassOf, room_of}
+use Rattle.pol_pool.specs.Inside.{IsIdle, pass_of, queue_of}
+use Rattle.pol_pool.specs.Passes.{IsHintPassOf, Pass, Queue}
 use Rattle.pol_pool.specs.Queue.{HasFetched, IsQueue, TellsEmpty, TellsFetched, TellsFull, TellsPut, TellsJoined, TellsTaken, list_of, of_both, out, standing, with_turn}
 use Rattle.pol_pool.specs.Shares.{IsPart}
 use Rattle.pol_pool.proofs.Beginnings.{each_begins}
@@ -116,27 +116,36 @@ module _ (room slots id : ℕ) (v : Standing) (same : v.room ≡ room) (part : I
       (answers room slots id now (buffer (waiting it.seen) v.room) Empty same part refl (may_be_empty nothing) refl
       (λ after. TellsEmpty (step slots 0 0 0 none) (out now (buffer (waiting it.seen) v.room)) 0 after) refl)
 
--- ---- what the pass is after its turn
+-- ---- passes and their seats
 
-module _ (hints : Hints) (before after : HintPass) (pass : IsHintPassOf hints before) (me : Me (Buffer ℕ) Standing) (it : HasFetched before.seat.me.0 me) (turn : Turn) (may : MayCome before.seat.me.0.room (waiting it.seen) turn)
-    (m : Standing) (same : m ≡ me.0) (is : after.seat.me ≡ with_turn m turn)
+-- a pass of a queue has a seat of its table
+pub has_seat : (inside p : Pass) (table : TableId) (room : ℕ) (hints : Queue) → inside ≡ p → queue_of table room ≡ hints → p.queue ≡ hints → (inside.queue.name ≡ table) × (inside.queue.room ≡ room)
+has_seat inside p table room hints is here same =
+    let both = ap (λ (x : Pass). x.queue) is ∙ same ∙ sym here in (ap (λ (q : Queue). q.name) both, ap (λ (q : Queue). q.room) both)
+
+-- a seat of the table of a queue is that of a pass between its calls
+pub is_pass : (me : Me (Buffer ℕ) Standing) (name : TableId) (hints : Queue) → IsIdle me → queue_of name me.0.room ≡ hints → IsHintPassOf hints (pass_of name me.0)
+is_pass me name hints idle same = record { queue = same; part = idle.part; legal = subst (λ (q : Queue). IsHistory q.room me.0.seen) same idle.legal }
+
+-- ---- what the seat knows after its turn
+
+module _ (v : Standing) (me : Me (Buffer ℕ) Standing) (it : HasFetched v me) (turn : Turn) (part : IsPart v.share) (may : MayCome v.room (waiting it.seen) turn)
+    (m : Standing) (same : m ≡ me.0) (after : Me (Buffer ℕ) Standing) (is : after ≡ with_turn m turn)
   where
     abbrev then : Me (Buffer ℕ) Standing
-    then = with_turn (standing before.seat.me.0.room it.seen before.seat.me.0.own before.seat.me.0.share true) turn
+    then = with_turn (standing v.room it.seen v.own v.share true) turn
 
-    is_then : after.seat.me ≡ then
+    is_then : after ≡ then
     is_then = is ∙ ap (λ (v : Standing). with_turn v turn) (same ∙ ap (λ (n : Me (Buffer ℕ) Standing). n.0) it.is)
 
-    pub stays_pass : after.seat.table_id ≡ before.seat.table_id → IsHintPassOf hints after
-    stays_pass table = record {
-      table = table ∙ pass.table;
-      word = pass.word;
-      room = ap (λ (n : Me (Buffer ℕ) Standing). n.0.room) is_then ∙ pass.room;
-      idle = (ap (λ (n : Me (Buffer ℕ) Standing). n.0.holds) is_then, ap (λ (n : Me (Buffer ℕ) Standing). n.1) is_then);
-      part = subst (λ (n : Me (Buffer ℕ) Standing). IsPart n.0.share) (sym is_then) pass.part;
-      legal = subst (λ (n : Me (Buffer ℕ) Standing). IsHistory (room_of hints) n.0.seen) (sym is_then) (subst (λ (r : ℕ). IsHistory r (it.seen ++ turn ∷ [])) pass.room (history_more before.seat.me.0.room it.seen turn it.legal may));
-    }
+    -- it is between calls again
+    pub is_idle : IsIdle after
+    is_idle = subst IsIdle (sym is_then) (record { holds = refl; bare = refl; part = part; legal = history_more v.room it.seen turn it.legal may })
+
+    -- it is still a pass of its queue
+    pub stays_pass : (name then_name : TableId) (p : Pass) (hints : Queue) → pass_of name v ≡ p → p.queue ≡ hints → then_name ≡ name → IsHintPassOf hints (pass_of then_name after.0)
+    stays_pass name then_name p hints is same table = is_pass after then_name hints is_idle ((λ i. queue_of (table i) (is_then i).0.room) ∙ ap (λ (x : Pass). x.queue) is ∙ same)
 
     -- the hints that then wait
-    pub then_waiting : waiting after.seat.me.0.seen ≡ waiting_after (waiting it.seen) turn
+    pub then_waiting : waiting after.0.seen ≡ waiting_after (waiting it.seen) turn
     then_waiting = ap (λ (n : Me (Buffer ℕ) Standing). waiting n.0.seen) is_then ∙ waiting_more it.seen turn

@@ -2,3 +2,4 @@ pub mod History
 pub mod Shares
 pub mod Queue
 pub mod Passes
+pub mod Inside

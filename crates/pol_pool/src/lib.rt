@@ -1,7 +1,7 @@
 //! Workers and what they are told to look at: a queue of hints that threads share, and the loop of a worker.
 //!
 //! `Hints` is the queue. Its calls have one history, in which each is one turn and answers as a queue does there; a
-//! `HintPass` has seen a beginning of it (`specs/History`, `specs/Queue`). `work` takes hints and hands each to a job, between
+//! `HintPass` has seen a beginning of it (`specs/History`, `specs/Passes`). `work` takes hints and hands each to a job, between
 //! the two calls of a gate.
 #![tactic(auto)]
 
@@ -9,6 +9,7 @@ mod calls;
 mod hints;
 mod job;
 pub mod laws;
+mod list;
 mod pass;
 mod rule;
 mod standing;
@@ -19,6 +20,6 @@ pub use calls::{Calls, Over};
 pub use hints::{Hints, HintsFull};
 pub use job::{Gate, Job, OpenGate};
 pub use pass::HintPass;
-pub use standing::{Share, Standing};
+pub use standing::Share;
 pub use turn::Turn;
 pub use worker::work;

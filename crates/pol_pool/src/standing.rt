@@ -11,7 +11,7 @@ pub struct Share {
 }
 
 /// What a pass has seen of its queue, and what it has in it. No value of it is made.
-pub struct Standing {
+pub(crate) struct Standing {
     /// How many hints the queue has room for.
     pub room: u32,
     /// The history that the pass has seen, the oldest turn first.

@@ -2,7 +2,7 @@
 ghost use Rattle.std.specs.Prelude.{◌≡◌, [], OnOk};
 ghost use mathlib.Core.List.{IsPrefix};
 ghost use Rattle.pol_pool.specs.History.{waiting};
-ghost use Rattle.pol_pool.specs.Passes.{IsHintPassOf, seen_by, share_of};
+ghost use Rattle.pol_pool.specs.Passes.{IsHintPassOf};
 
 use crate::calls::{Calls, Over};
 use crate::hints::Hints;
@@ -27,11 +27,11 @@ pub fn work<J: Job, G: Gate, R: Wait>(
     calls: &Calls,
     over: &Over,
 ) -> Result<(), Memory>
-    requires pass { IsHintPassOf hints.now pass.old }
+    requires pass { pass.old.queue ≡ hints.now }
     ensures pass { IsHintPassOf hints.now pass.new }
-    ensures seen { IsPrefix (seen_by pass.old) (seen_by pass.new) }
-    ensures share { share_of pass.new ≡ share_of pass.old }
-    ensures empty { OnOk result (waiting (seen_by pass.new) ≡ []) }
+    ensures seen { IsPrefix pass.old.seen pass.new.seen }
+    ensures share { pass.new.share ≡ pass.old.share }
+    ensures empty { OnOk result (waiting pass.new.seen ≡ []) }
 {
     for _ in rt.forever() {
         let is_over = over.is_set();
