@@ -28,7 +28,7 @@ use Rattle.pol_selcache.specs.Cache.{Cache, all_recorded}
 use Rattle.pol_selcache.specs.Live.{AreLive, number_of}
 use Rattle.pol_selcache.proofs.Retold.{tells_difference}
 use Rattle.pol_numbers.specs.Held.{nothing_held}
-use Rattle.pol_store.specs.Readied.{peers_with}
+use Rattle.pol_requests.specs.Readied.{peers_with}
 use Rattle.pol_store.specs.Store.{StandsFor, Stored, peers_of}
 use Rattle.pol_chains.specs.Changes.{IsListedSince, changes_between, horizon_of, revision_before, revisions_until, set_in, state_at}
 use Rattle.pol_chains.specs.Chained.{IsChained, LeadsOn, selector_in}

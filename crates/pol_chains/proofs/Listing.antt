@@ -21,7 +21,7 @@ use Rattle.pol_peers.specs.References.{RefsOf, references_of}
 use Rattle.pol_peers.proofs.Found.{found_of, is_of, refs}
 use Rattle.pol_selcache.specs.Live.{AreExact, AreLive, Live, number_of}
 use Rattle.pol_selcache.specs.Plan.{Planned, after_changes, changed}
-use Rattle.pol_store.specs.Readied.{peers_with}
+use Rattle.pol_requests.specs.Readied.{peers_with}
 use Rattle.pol_store.specs.Store.{peers_of}
 
 -- ---- references and selectors

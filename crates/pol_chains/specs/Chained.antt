@@ -12,8 +12,8 @@ use Rattle.pol_selcache.specs.Cache.{Cache, IsSound, carried}
 use Rattle.pol_selcache.specs.Live.{Live, number_of}
 use Rattle.pol_selcache.specs.Told.{WasAt}
 use Rattle.pol_peers.specs.Numbering.{GainsSelectors, LosesSelectors}
-use Rattle.pol_store.specs.declared.readied.Readied.{Readied}
-use Rattle.pol_store.specs.Readied.{IsReadied}
+use Rattle.pol_requests.specs.declared.readied.Readied.{Readied}
+use Rattle.pol_requests.specs.Readied.{IsReadied}
 use Rattle.pol_store.specs.Store.{StandsFor, Stored}
 use Rattle.pol_chains.specs.Changes.{IsListedSince, revisions_until, set_in, state_at}
 

@@ -29,10 +29,10 @@ use Rattle.pol_facts.proofs.KeepsAll.{state_keeps}
 use Rattle.pol_facts.proofs.Lives.{after_append}
 use Rattle.pol_facts.proofs.Membership.{found-some}
 use Rattle.pol_facts.proofs.StateLaws.{commits-more}
-use Rattle.pol_store.specs.declared.readied.Readied.{Readied}
-use Rattle.pol_store.specs.declared.error.ReadyError.{ReadyError}
-use Rattle.pol_store.specs.declared.error.ReadyError.TheVariants.{Fault as WithFault}
-use Rattle.pol_store.specs.Readied.{CanBeDone, IsCause as ReadyCause, IsReadied, ReadiesOrNot, TakesBack, change_for}
+use Rattle.pol_requests.specs.declared.readied.Readied.{Readied}
+use Rattle.pol_requests.specs.declared.error.ReadyError.{ReadyError}
+use Rattle.pol_requests.specs.declared.error.ReadyError.TheVariants.{Fault as WithFault}
+use Rattle.pol_requests.specs.Readied.{CanBeDone, IsCause as ReadyCause, IsReadied, ReadiesOrNot, TakesBack, change_for}
 use Rattle.pol_store.specs.Store.{StandsFor, StandsForSome, Stored}
 use Rattle.pol_selcache.specs.Live.{AreLive, label_selectors}
 use Rattle.pol_repo.specs.Causes.{IsCause}

@@ -12,9 +12,9 @@ use Rattle.pol_facts.specs.Keeps.{Keeps}
 use Rattle.pol_selcache.specs.Cache.{IsSound as AreSound, carried}
 use Rattle.pol_selcache.specs.Live.{AreLive, number_of}
 use Rattle.pol_peers.specs.Numbering.{GainsSelectors, LosesSelectors}
-use Rattle.pol_store.specs.declared.readied.Readied.{Readied}
-use Rattle.pol_store.specs.declared.error.ReadyError.{ReadyError}
-use Rattle.pol_store.specs.Readied.{IsReadied, ReadiesOrNot, TakesBack}
+use Rattle.pol_requests.specs.declared.readied.Readied.{Readied}
+use Rattle.pol_requests.specs.declared.error.ReadyError.{ReadyError}
+use Rattle.pol_requests.specs.Readied.{IsReadied, ReadiesOrNot, TakesBack}
 use Rattle.pol_store.specs.Store.{StandsFor, Stored}
 use Rattle.pol_chains.specs.Chained.{IsChained, IsChainedBefore}
 use Rattle.pol_chains.specs.Moves.{TellsMovesSince, moves_by}

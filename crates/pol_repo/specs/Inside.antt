@@ -10,10 +10,10 @@ use Rattle.pol_model.specs.After.{state_of}
 use Rattle.pol_model.specs.State.{State}
 use Rattle.pol_facts.specs.Holding.{row_of}
 use Rattle.pol_facts.specs.WithoutFaults.{WithoutFaults}
-use Rattle.pol_store.specs.declared.readied.Change.{Change}
-use Rattle.pol_store.specs.declared.readied.Change.TheVariants as change
-use Rattle.pol_store.specs.declared.readied.Readied.{Readied}
-use Rattle.pol_store.specs.Readied.{IsReadied}
+use Rattle.pol_requests.specs.declared.readied.Change.{Change}
+use Rattle.pol_requests.specs.declared.readied.Change.TheVariants as change
+use Rattle.pol_requests.specs.declared.readied.Readied.{Readied}
+use Rattle.pol_requests.specs.Readied.{IsReadied}
 use Rattle.pol_store.specs.Store.{StandsFor, Stored}
 use Rattle.pol_chains.specs.Chained.{IsChained, IsChainedBefore}
 use Rattle.pol_repo.specs.Repository.{Repository}

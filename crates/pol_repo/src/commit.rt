@@ -4,7 +4,7 @@ ghost use Rattle.pol_model.specs.After.{after};
 ghost use Rattle.pol_model.specs.Commits.{Commits};
 ghost use Rattle.pol_model.specs.Committed.{committed_of};
 ghost use Rattle.pol_model.specs.Sizes.{IsShort};
-ghost use Rattle.pol_store.specs.Readied.{is_of_policy};
+ghost use Rattle.pol_requests.specs.Readied.{is_of_policy};
 ghost use Rattle.pol_repo.specs.Causes.{IsCause};
 ghost use Rattle.pol_repo.specs.Cost.{label_peers};
 ghost use Rattle.pol_repo.specs.Repository.{state_in};
@@ -13,6 +13,7 @@ use crate::prepare::Ready;
 use crate::repo::Repo;
 use pol_data::Steps;
 use pol_model::{CommitError, Committed, Request};
+use pol_requests::{carry_out, take_back};
 use std::sync::ledger::Ledger;
 
 impl Repo {
@@ -27,7 +28,7 @@ impl Repo {
         let readied = self.prepared.take().unwrap();
         // These calls tell that the selectors fit together, before and after.
         let _before = self.store.horizon();
-        self.store.carry_out(readied);
+        carry_out(&mut self.store, readied);
         let next = self.store.selectors().next_number();
         self.nexts.push(next).unwrap();
         self.journal.push(request).unwrap();
@@ -40,7 +41,7 @@ impl Repo {
         ensures new { self.new ≡ record self.old { prepared = None } }
     {
         let readied = self.prepared.take().unwrap();
-        self.store.take_back(readied);
+        take_back(&mut self.store, readied);
         // The call tells that the selectors fit together.
         let _known = self.store.horizon();
     }

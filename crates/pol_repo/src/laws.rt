@@ -24,7 +24,7 @@ ghost use Rattle.pol_facts.specs.Examples.{app, net};
 ghost use Rattle.pol_facts.specs.Keeps.{Keeps};
 ghost use Rattle.pol_facts.specs.WithoutFaults.{WithoutFaults};
 ghost use Rattle.pol_facts.specs.WorkedMaps.{all_let_in, app_peer, ingress_policy, key_of, ordinary, web, x_denied};
-ghost use Rattle.pol_store.specs.Readied.{is_of_policy};
+ghost use Rattle.pol_requests.specs.Readied.{is_of_policy};
 ghost use Rattle.pol_repo.specs.Cost.{label_peers};
 
 /// The law of addresses: the verdict at an address, judged by the endpoint that has it or else by the address itself, is

@@ -8,7 +8,7 @@ ghost use Rattle.pol_model.specs.Sizes.{IsShort};
 ghost use Rattle.pol_selcache.specs.Cache.{IsSound as AreSound};
 ghost use Rattle.pol_selcache.specs.Live.{label_selectors};
 ghost use Rattle.pol_peers.specs.Numbering.{GainsSelectors};
-ghost use Rattle.pol_store.specs.Readied.{ReadiesOrNot, is_of_policy};
+ghost use Rattle.pol_requests.specs.Readied.{ReadiesOrNot, is_of_policy};
 ghost use Rattle.pol_store.specs.Store.{StandsForSome};
 ghost use Rattle.pol_repo.specs.Causes.{IsCause};
 ghost use Rattle.pol_repo.specs.Cost.{label_peers};
@@ -17,7 +17,8 @@ ghost use Rattle.pol_repo.specs.Repository.{state_in};
 use crate::repo::Repo;
 use pol_data::Steps;
 use pol_model::{CommitError, Committed, Fault, Refused, Request};
-use pol_store::{Readied, ReadyError, Store};
+use pol_requests::{Readied, ReadyError, answer, ready};
+use pol_store::Store;
 use std::sync::ledger::Ledger;
 
 /// A request that is prepared, and what it will be answered.
@@ -57,7 +58,7 @@ fn ready_in<L: Ledger>(
     nexts.reserve(1)?;
     // The call tells that a capacity is a number of 64 bits, and so the revision is below the last one.
     let _capacity = journal.capacity();
-    let readied = store.ready(request, steps);
+    let readied = ready(store, request, steps);
     let _after = store.horizon();
     readied
 }
@@ -105,7 +106,7 @@ impl Repo {
             steps,
         ) {
             Ok(readied) => {
-                let done = self.store.answer(&readied);
+                let done = answer(&self.store, &readied);
                 self.prepared = Some(readied);
                 Ok(Ready { request, done })
             }

@@ -5,7 +5,8 @@ ghost use Rattle.pol_repo.specs.Repository.{state_in};
 
 use pol_data::Memory;
 use pol_model::{Mode, Options, Request};
-use pol_store::{Readied, Store};
+use pol_requests::Readied;
+use pol_store::Store;
 use std::alloc::Global;
 use std::marker::Model;
 

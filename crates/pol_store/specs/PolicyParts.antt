@@ -1,15 +1,10 @@
 -- The store with another part, as a policy's request changes it.
 use Rattle.std.specs.Prelude.{List, [], Option, None, Some}
 use Rattle.pol_rule.specs.declared.policy.Peer.{Peer}
-use Rattle.pol_model.specs.declared.answer.Fault.TheVariants.{LocalExhausted}
 use Rattle.pol_model.specs.declared.row.IdentityRow.{IdentityRow}
 use Rattle.pol_model.specs.declared.row.Stamped.{Stamped}
-use Rattle.pol_ident.specs.declared.error.IdentError.{IdentError}
-use Rattle.pol_ident.specs.declared.error.IdentError.TheVariants as ident
 use Rattle.pol_selcache.specs.Cache.{Cache}
 use Rattle.pol_peers.specs.Listed.{listed_peers}
-use Rattle.pol_store.specs.declared.error.ReadyError.{ReadyError}
-use Rattle.pol_store.specs.declared.error.ReadyError.TheVariants as ready
 use Rattle.pol_store.specs.Store.{Stored}
 
 -- the same with these rows of identities
@@ -28,8 +23,3 @@ with_policies policies stored = record stored { state = record stored.state { po
 abbrev pub listed_of : Option Stamped → List Peer
 listed_of None = []
 listed_of (Some stamped) = listed_peers stamped.policy
-
--- why a policy isn't readied, where its prefixes aren't held
-abbrev pub policy_error : IdentError → ReadyError
-policy_error ident.Exhausted = ready.Fault LocalExhausted
-policy_error ident.Memory = ready.Memory

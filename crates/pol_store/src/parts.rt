@@ -1,4 +1,4 @@
-//! The parts of the store, each read or changed alone.
+//! The parts of the store, each changed by one call.
 ghost use Rattle.std.specs.Prelude.{◌≡◌, ◌<◌, ◌+◌, ◌-◌, ◌^◌, ◌≤◌, ◌&&◌, ◌↔◌, ◌++◌, ◌∷◌, [], not, true, false, None, IfOk, OnOk, OnErr, IsErrOf};
 ghost use Rattle.pol_labels.specs.Order.{IsLabelSet};
 ghost use Rattle.pol_model.specs.declared.limits.TheConstants.{ENDPOINTS_MAX};
@@ -20,7 +20,7 @@ use crate::store::Store;
 use pol_data::{Memory, Steps, Text};
 use pol_ident::IdentError;
 use pol_labels::LabelSet;
-use pol_model::Endpoint;
+use pol_model::{Endpoint, Mode};
 use pol_numbers::LabelsHeld;
 use pol_selcache::Plan;
 use std::alloc::Global;
@@ -28,12 +28,19 @@ use std::sync::ledger::Ledger;
 
 impl Store {
     /// The allocator.
-    pub(crate) fn allocator(&self) -> Global {
+    pub fn allocator(&self) -> Global {
         self.alloc
     }
 
+    /// The mode from now on.
+    pub fn set_mode(&mut self, mode: Mode)
+        ensures mode { self.new ≡ record self.old { state = record self.old.state { mode = mode } } }
+    {
+        self.mode = mode;
+    }
+
     /// The revision of the next request.
-    pub(crate) fn next_revision(&self) -> u64
+    pub fn next_revision(&self) -> u64
         requires room { self.now.state.revision < 2 ^ 64 - 1 }
         ensures next { result ≡ self.now.state.revision + 1 }
     {
@@ -41,7 +48,7 @@ impl Store {
     }
 
     /// Room for one endpoint more. The one error is want of memory.
-    pub(crate) fn reserve_endpoint(&mut self) -> Result<(), Memory>
+    pub fn reserve_endpoint(&mut self) -> Result<(), Memory>
         ensures same { self.new ≡ with_rooms (record self.old.rooms { endpoints = self.new.rooms.endpoints }) self.old }
         ensures room { OnOk result (0 < self.new.rooms.endpoints) }
     {
@@ -49,7 +56,7 @@ impl Store {
     }
 
     /// Room for one named identity more. The one error is want of memory.
-    pub(crate) fn reserve_name(&mut self) -> Result<(), Memory>
+    pub fn reserve_name(&mut self) -> Result<(), Memory>
         ensures same { self.new ≡ with_rooms (record self.old.rooms { named = self.new.rooms.named }) self.old }
         ensures room { OnOk result (0 < self.new.rooms.named) }
     {
@@ -58,7 +65,7 @@ impl Store {
 
     /// Holds the label set once more, and finds what that changes of the sets at the next revision. After an error all is as
     /// before.
-    pub(crate) fn hold_labels<L: Ledger>(
+    pub fn hold_labels<L: Ledger>(
         &mut self,
         labels: &LabelSet,
         steps: &mut Steps<L>,
@@ -79,7 +86,7 @@ impl Store {
     }
 
     /// What changes of the sets at the next revision where one holder of this number goes. The one error is want of memory.
-    pub(crate) fn plan_release<L: Ledger>(
+    pub fn plan_release<L: Ledger>(
         &mut self,
         number: u32,
         steps: &mut Steps<L>,
@@ -96,7 +103,7 @@ impl Store {
     }
 
     /// What changes of the sets at the next revision where no number comes or goes. The one error is want of memory.
-    pub(crate) fn plan_nothing<L: Ledger>(&mut self, steps: &mut Steps<L>) -> Result<Plan, Memory>
+    pub fn plan_nothing<L: Ledger>(&mut self, steps: &mut Steps<L>) -> Result<Plan, Memory>
         requires settled { IsSettled (self.old.state.revision + 1) (numbers_of self.old) }
         requires room { self.old.state.revision < 2 ^ 64 - 1 }
         ensures plan { IfOk result (λ plan. Readies (self.old.state.revision + 1) self.old.state.identities self.new.cache plan) }
@@ -108,7 +115,7 @@ impl Store {
     }
 
     /// Raises the revision, and makes the planned changes of the sets.
-    pub(crate) fn begin(&mut self, plan: Plan)
+    pub fn begin(&mut self, plan: Plan)
         requires fits { IsPlanFor plan self.old.cache }
         requires room { self.old.state.revision < 2 ^ 64 - 1 }
         ensures begun { self.new ≡ begun plan self.old }
@@ -119,7 +126,7 @@ impl Store {
     }
 
     /// Takes one holder away from a number that isn't a prefix's.
-    pub(crate) fn release(&mut self, number: u32)
+    pub fn release(&mut self, number: u32)
         requires held { has_row number self.old.state.identities ≡ true }
         requires not_local { is_local number ≡ false }
         ensures released { self.new ≡ with_numbers (record (numbers_of self.old) { rows = released number self.old.state.identities }) self.old }
@@ -128,7 +135,7 @@ impl Store {
     }
 
     /// The row of a new endpoint is placed.
-    pub(crate) fn put_endpoint(&mut self, endpoint: Endpoint, name: Text)
+    pub fn put_endpoint(&mut self, endpoint: Endpoint, name: Text)
         requires room { 0 < self.old.rooms.endpoints }
         requires name { name ≡ endpoint.name }
         requires new_name { endpoint_of endpoint.name self.old.state.endpoints ≡ None }
@@ -141,14 +148,14 @@ impl Store {
     }
 
     /// The row of the endpoint of that name goes.
-    pub(crate) fn drop_endpoint(&mut self, name: &str)
+    pub fn drop_endpoint(&mut self, name: &str)
         ensures gone { self.new ≡ record self.old { state = record self.old.state { endpoints = without_endpoint name.now self.old.state.endpoints }; rooms = self.new.rooms } }
     {
         self.endpoints.remove(name);
     }
 
     /// The row of a new named identity is placed.
-    pub(crate) fn put_name(&mut self, name: Text, number: u32)
+    pub fn put_name(&mut self, name: Text, number: u32)
         requires room { 0 < self.old.rooms.named }
         requires new { number_named name self.old.state.named ≡ None }
         ensures placed { self.new ≡ record self.old { state = record self.old.state { named = self.old.state.named ++ record { name = name; number = number } ∷ [] }; rooms = self.new.rooms } }
@@ -157,7 +164,7 @@ impl Store {
     }
 
     /// The row of the named identity of that name goes.
-    pub(crate) fn drop_name(&mut self, name: &str)
+    pub fn drop_name(&mut self, name: &str)
         ensures gone { self.new ≡ record self.old { state = record self.old.state { named = self.new.state.named }; rooms = self.new.rooms } }
         ensures numbers { SameNumbers self.new.state.named (without_named name.now self.old.state.named) }
     {

@@ -1,4 +1,4 @@
-//! The parts of a store, each changed by one call.
+//! The parts of the store that a policy's request changes, each by one call.
 ghost use Rattle.std.specs.Prelude.{◌≡◌, ◌<◌, ◌+◌, ◌-◌, ◌^◌, ◌↔◌, [], IfOk, OnOk, OnErr, IsErrOf, List};
 ghost use Rattle.std.specs.List.{AllByRecursion, IsDistinct};
 ghost use Rattle.pol_addr.specs.Cidr.{IsPrefix};
@@ -30,7 +30,7 @@ use std::sync::ledger::Ledger;
 
 impl Store {
     /// Room for one policy more. The one error is want of memory.
-    pub(crate) fn reserve_policy(&mut self) -> Result<(), Memory>
+    pub fn reserve_policy(&mut self) -> Result<(), Memory>
         ensures same { self.new ≡ with_rooms self.new.rooms self.old }
         ensures room { OnOk result (0 < self.new.rooms.policies) }
     {
@@ -38,11 +38,7 @@ impl Store {
     }
 
     /// One reference more for each peer that the policy lists, or for none. The one error is want of memory.
-    pub(crate) fn refer<L: Ledger>(
-        &mut self,
-        policy: &Policy,
-        steps: &mut Steps<L>,
-    ) -> Result<(), Memory>
+    pub fn refer<L: Ledger>(&mut self, policy: &Policy, steps: &mut Steps<L>) -> Result<(), Memory>
         requires exact { AreExact self.old.state.identities self.old.cache.live }
         ensures same { self.new ≡ with_cache self.new.cache self.old }
         ensures ok { OnOk result (RefersTo (listed_peers policy.now) self.old.state.identities self.old.cache self.new.cache) }
@@ -55,7 +51,7 @@ impl Store {
     }
 
     /// One reference less for each peer that the policy lists.
-    pub(crate) fn unrefer(&mut self, policy: &Policy)
+    pub fn unrefer(&mut self, policy: &Policy)
         requires referred { HasRefs (listed_peers policy.now) self.old.cache.live }
         ensures same { self.new ≡ with_cache self.new.cache self.old }
         ensures peers { IsMoreBy (listed_peers policy.now) self.new.cache.live self.old.cache.live }
@@ -68,7 +64,7 @@ impl Store {
     }
 
     /// The same for a policy that was replaced or taken out, if there was one.
-    pub(crate) fn unrefer_old(&mut self, old: Option<Stamped>)
+    pub fn unrefer_old(&mut self, old: Option<Stamped>)
         requires referred { HasRefs (listed_of old) self.old.cache.live }
         ensures same { self.new ≡ with_cache self.new.cache self.old }
         ensures peers { IsMoreBy (listed_of old) self.new.cache.live self.old.cache.live }
@@ -84,7 +80,7 @@ impl Store {
 
     /// Holds the prefixes of a policy once more, and plans what that changes of the sets at the next revision, where those
     /// of another policy are released then.
-    pub(crate) fn hold_prefixes<L: Ledger>(
+    pub fn hold_prefixes<L: Ledger>(
         &mut self,
         taken: &[Prefix],
         given_up: &[Prefix],
@@ -107,7 +103,7 @@ impl Store {
 
     /// What changes of the sets at the next revision where the prefixes of a policy are released. The one error is want of
     /// memory.
-    pub(crate) fn plan_prefixes<L: Ledger>(
+    pub fn plan_prefixes<L: Ledger>(
         &mut self,
         given_up: &[Prefix],
         steps: &mut Steps<L>,
@@ -123,14 +119,14 @@ impl Store {
     }
 
     /// Takes one holder away from each of the prefixes. The sets stay as they are.
-    pub(crate) fn release_prefixes(&mut self, prefixes: &[Prefix])
+    pub fn release_prefixes(&mut self, prefixes: &[Prefix])
         ensures rows { self.new ≡ with_rows (prefixes_released prefixes.now self.old.state.identities) self.old }
     {
         self.numbers.release_prefixes(prefixes);
     }
 
     /// Puts a policy in place of one of the same key, which it gives back, and else last.
-    pub(crate) fn put(&mut self, new: Stamped, key: PolicyKey) -> Option<Stamped>
+    pub fn put(&mut self, new: Stamped, key: PolicyKey) -> Option<Stamped>
         requires room { 0 < self.old.rooms.policies }
         requires key { key ≡ new.policy.key }
         requires short { IsShortPolicy new.policy }
@@ -141,7 +137,7 @@ impl Store {
     }
 
     /// Takes out the policy of that key, and gives it back.
-    pub(crate) fn take_out(&mut self, key: &PolicyKey) -> Option<Stamped>
+    pub fn take_out(&mut self, key: &PolicyKey) -> Option<Stamped>
         ensures same { self.new ≡ with_rooms self.new.rooms (with_policies (removed key.now self.old.state.policies) self.old) }
         ensures removed { result ≡ policy_at key.now self.old.state.policies }
     {

@@ -1,7 +1,7 @@
 use Rattle.std.proofs.Common.{◌≡◌, ℕ, ◌++◌, [], ◌∷◌, IsSome, Option, ap, subst, sym, vec_len, ◌∙◌}
 use Rattle.pol_selcache.specs.Cache.{Cache, IsSound as AreSound}
 use Rattle.std.specs.Vec.{vec_capacity}
-use Rattle.pol_store.specs.declared.readied.Readied.{Readied}
+use Rattle.pol_requests.specs.declared.readied.Readied.{Readied}
 use Rattle.pol_repo.specs.Inside.{seen_as}
 use Rattle.pol_repo.proofs.Standing.{accepted, accepted_seen, can_be_done, commits, may_commit, there_is}
 use Rattle.pol_repo.proofs.Telling.{told_accepted}
@@ -26,12 +26,12 @@ invariant_of-self c =
       accepted c.self.inside.options c.self.inside.journal.items (vec_len c.self.inside.journal) (vec_capacity c.self.inside.journal) c.self.inside.store c.self.inside.prepared c.args.self.now
           c.self.view_is c.self.invariant.0
           c.args.ready.request c.requires.request c.unwrap-readied.result (sym c.take.ensures.value ∙ c.unwrap-readied.ensures)
-          c.push-2.new.self.items c.carry_out.new.self (vec_len c.push-2.new.self) (vec_capacity c.push-2.new.self) c.take.new.self
+          c.push-2.new.self.items c.carry_out.new.store (vec_len c.push-2.new.self) (vec_capacity c.push-2.new.self) c.take.new.self
           (rw c.unwrap-2.ensures at c.push-2.ensures.items) c.take.ensures.after c.carry_out.ensures.done,
       told_accepted c.self.inside.options c.self.inside.journal.items (vec_len c.self.inside.journal) (vec_capacity c.self.inside.journal) c.self.inside.store c.self.inside.prepared c.args.self.now
           c.self.view_is c.self.invariant.0 c.self.inside.nexts.items (vec_len c.self.inside.nexts) (vec_capacity c.self.inside.nexts) c.self.invariant.1
           c.args.ready.request c.requires.request c.unwrap-readied.result (sym c.take.ensures.value ∙ c.unwrap-readied.ensures)
-          c.push-2.new.self.items c.push.new.self.items (vec_len c.push.new.self) (vec_capacity c.push.new.self) c.carry_out.new.self c.take.new.self
+          c.push-2.new.self.items c.push.new.self.items (vec_len c.push.new.self) (vec_capacity c.push.new.self) c.carry_out.new.store c.take.new.self
           (rw c.unwrap-2.ensures at c.push-2.ensures.items)
           (pushed ∙ ap (λ (next : ℕ). c.self.inside.nexts.items ++ next ∷ []) (c.next_number-next.ensures.next ∙ ap (λ (cache : Cache). cache.next) c.selectors.ensures.cache))
           c.take.ensures.after c.horizon-before.ensures.sound (subst AreSound c.selectors.ensures.cache c.next_number-next.ensures.sound) c.carry_out.ensures.selectors c.carry_out.ensures.done,
@@ -39,7 +39,7 @@ invariant_of-self c =
 
 pub returns-clause-committed : goal.returns-clause-committed
 returns-clause-committed c =
-    commits c.args.self.now (seen_as c.self.inside.options c.push-2.new.self.items c.carry_out.new.self c.take.new.self) c.args.ready.request c.args.ready.done
+    commits c.args.self.now (seen_as c.self.inside.options c.push-2.new.self.items c.carry_out.new.store c.take.new.self) c.args.ready.request c.args.ready.done
     (may_commit c.self.inside.options c.self.inside.journal.items (vec_len c.self.inside.journal) (vec_capacity c.self.inside.journal) c.self.inside.store c.self.inside.prepared c.args.self.now
     c.self.view_is c.self.invariant.0
     c.args.ready.request c.requires.request c.unwrap-readied.result (sym c.take.ensures.value ∙ c.unwrap-readied.ensures))
@@ -47,4 +47,4 @@ returns-clause-committed c =
     (accepted_seen c.self.inside.options c.self.inside.journal.items (vec_len c.self.inside.journal) (vec_capacity c.self.inside.journal) c.self.inside.store c.self.inside.prepared c.args.self.now
     c.self.view_is c.self.invariant.0
     c.args.ready.request c.requires.request c.unwrap-readied.result (sym c.take.ensures.value ∙ c.unwrap-readied.ensures)
-    c.push-2.new.self.items c.carry_out.new.self c.take.new.self (rw c.unwrap-2.ensures at c.push-2.ensures.items) c.take.ensures.after)
+    c.push-2.new.self.items c.carry_out.new.store c.take.new.self (rw c.unwrap-2.ensures at c.push-2.ensures.items) c.take.ensures.after)

@@ -1,7 +1,7 @@
 use Rattle.std.proofs.Common.{ap, ◌∙◌}
 use Rattle.pol_model.specs.Remote.{endpoint_at}
 use Rattle.pol_store.specs.Store.{Stored}
-use Rattle.pol_store.proofs.Faults.{taken_nowhere, taken_there}
+use Rattle.pol_store.proofs.TakenAddresses.{taken_nowhere, taken_there}
 use Rattle.pol_store.proofs.store.Store.is_taken.Goals as goal
 
 pub returns-in-Some : goal.returns-in-Some

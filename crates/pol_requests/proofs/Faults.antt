@@ -1,0 +1,112 @@
+-- Faults of a chain of tests: the first that holds, and what none means.
+use Rattle.std.proofs.Common.{◌≡◌, ℕ, ◌&&◌, Bool, true, false, not, nat_le, List, length, find, Option, None, Some, is_some, is_none, refl, ap, ◌∙◌}
+use Rattle.std.specs.List.{list_any}
+use Rattle.std.proofs.lemmas.Bool.{both_ways}
+use Rattle.pol_addr.specs.declared.address.Addr.{Addr}
+use Rattle.pol_labels.specs.declared.label.Label.{Label}
+use Rattle.pol_model.specs.declared.answer.Fault.{Fault}
+use Rattle.pol_model.specs.declared.answer.Fault.TheVariants as fault
+use Rattle.pol_model.specs.declared.limits.TheConstants.{ENDPOINTS_MAX}
+use Rattle.pol_model.specs.declared.request.Request.TheVariants.{AddEndpoint, RemoveEndpoint, AddIdentity, RemoveIdentity}
+use Rattle.pol_model.specs.declared.row.Endpoint.{Endpoint}
+use Rattle.pol_model.specs.declared.row.NamedIdentity.{NamedIdentity}
+use Rattle.pol_model.specs.State.{State}
+use Rattle.pol_model.specs.Endpoints.{endpoint_of, named_of}
+use Rattle.pol_model.specs.Fault.{fault_if, fault_of, has_reserved, is_exhausted, is_init, is_taken}
+use Rattle.pol_model.specs.Remote.{endpoint_at}
+use Rattle.pol_facts.proofs.Membership.{find-In, list_any-In}
+use Rattle.pol_requests.specs.Causes.{endpoint_fault}
+
+pub no_fault_if : (b : Bool) (this : Fault) (others : Option Fault) → fault_if b this others ≡ None → (b ≡ false) × (others ≡ None)
+no_fault_if true this others is = absurd cc
+no_fault_if false this others is = (refl, is)
+
+first_of_four : (a b c d : Bool) (last : Option Fault) (this : Fault)
+    → fault_if a fault.ReservedLabel (fault_if b fault.DuplicateEndpoint (fault_if c fault.EndpointsFull (fault_if d fault.AddressTaken None))) ≡ Some this
+    → fault_if a fault.ReservedLabel (fault_if b fault.DuplicateEndpoint (fault_if c fault.EndpointsFull (fault_if d fault.AddressTaken last))) ≡ Some this
+first_of_four true b c d last this is = is
+first_of_four false true c d last this is = is
+first_of_four false false true d last this is = is
+first_of_four false false false true last this is = is
+first_of_four false false false false last this is = absurd cc
+
+none_of_four : (a b c d : Bool) (last : Option Fault)
+    → fault_if a fault.ReservedLabel (fault_if b fault.DuplicateEndpoint (fault_if c fault.EndpointsFull (fault_if d fault.AddressTaken None))) ≡ None
+    → fault_if a fault.ReservedLabel (fault_if b fault.DuplicateEndpoint (fault_if c fault.EndpointsFull (fault_if d fault.AddressTaken last))) ≡ last
+none_of_four true b c d last is = absurd cc
+none_of_four false true c d last is = absurd cc
+none_of_four false false true d last is = absurd cc
+none_of_four false false false true last is = absurd cc
+none_of_four false false false false last is = refl
+
+module _ (s : State) (name : List ℕ) (labels : List Label) (address : Addr) where
+  pub endpoint_first : (this : Fault) → endpoint_fault s name labels address ≡ Some this → fault_of s (AddEndpoint name labels address) ≡ Some this
+  endpoint_first this is =
+      first_of_four (has_reserved labels && not (is_init labels)) (is_some (endpoint_of name s.endpoints)) (nat_le ENDPOINTS_MAX (length s.endpoints)) (is_taken s.endpoints address)
+      (fault_if (is_exhausted labels s.identities) fault.IdentitiesExhausted None) this is
+
+  pub endpoint_last : endpoint_fault s name labels address ≡ None
+      → fault_of s (AddEndpoint name labels address) ≡ fault_if (is_exhausted labels s.identities) fault.IdentitiesExhausted None
+  endpoint_last is =
+      none_of_four (has_reserved labels && not (is_init labels)) (is_some (endpoint_of name s.endpoints)) (nat_le ENDPOINTS_MAX (length s.endpoints)) (is_taken s.endpoints address)
+      (fault_if (is_exhausted labels s.identities) fault.IdentitiesExhausted None) is
+
+  pub endpoint_exhausted : endpoint_fault s name labels address ≡ None → is_exhausted labels s.identities ≡ true → fault_of s (AddEndpoint name labels address) ≡ Some fault.IdentitiesExhausted
+  endpoint_exhausted none full = endpoint_last none ∙ ap (λ b. fault_if b fault.IdentitiesExhausted None) full
+
+-- what isn't there
+pub not_some : {X : Type 0} (o : Option X) → is_some o ≡ false → o ≡ None
+not_some None is = refl
+not_some (Some x) is = absurd cc
+
+pub not_none : {X : Type 0} (o : Option X) → is_none o ≡ false → (x : X) × (o ≡ Some x)
+not_none None is = absurd cc
+not_none (Some x) is = (x, refl)
+
+pub none_passes : {X : Type 0} (p : X → Bool) (xs : List X) → list_any p xs ≡ false → find p xs ≡ None
+none_passes {X} p xs none = by (find p xs) refl
+  where
+    by : (o : Option X) → find p xs ≡ o → o ≡ None
+    by None is = refl
+    by (Some x) is = let at = find-In p x xs is in absurd (both_ways (list_any p xs) none (list_any-In p x xs at.0 at.1))
+
+-- what it means that a new endpoint has no fault
+pub record MayBeAdded (s : State) (name : List ℕ) (labels : List Label) (address : Addr) : Type 0 where
+  pub allowed : (has_reserved labels && not (is_init labels)) ≡ false
+  pub new_name : endpoint_of name s.endpoints ≡ None
+  pub new_address : endpoint_at address s.endpoints ≡ None
+  pub room : is_exhausted labels s.identities ≡ false
+
+pub may_be_added : (s : State) (name : List ℕ) (labels : List Label) (address : Addr) → fault_of s (AddEndpoint name labels address) ≡ None → MayBeAdded s name labels address
+may_be_added s name labels address none =
+    let first = no_fault_if (has_reserved labels && not (is_init labels)) fault.ReservedLabel _ none in
+    let second = no_fault_if (is_some (endpoint_of name s.endpoints)) fault.DuplicateEndpoint _ first.1 in
+    let third = no_fault_if (nat_le ENDPOINTS_MAX (length s.endpoints)) fault.EndpointsFull _ second.1 in
+    let fourth = no_fault_if (is_taken s.endpoints address) fault.AddressTaken _ third.1 in
+    let fifth = no_fault_if (is_exhausted labels s.identities) fault.IdentitiesExhausted None fourth.1 in
+    record {
+      allowed = first.0;
+      new_name = not_some (endpoint_of name s.endpoints) second.0;
+      new_address = none_passes _ s.endpoints fourth.0;
+      room = fifth.0;
+    }
+
+-- and a new named identity
+pub record MayBeNamed (s : State) (name : List ℕ) (labels : List Label) : Type 0 where
+  pub allowed : has_reserved labels ≡ false
+  pub new_name : named_of name s.named ≡ None
+  pub room : is_exhausted labels s.identities ≡ false
+
+pub may_be_named : (s : State) (name : List ℕ) (labels : List Label) → fault_of s (AddIdentity name labels) ≡ None → MayBeNamed s name labels
+may_be_named s name labels none =
+    let first = no_fault_if (has_reserved labels) fault.ReservedLabel _ none in
+    let second = no_fault_if (is_some (named_of name s.named)) fault.DuplicateIdentityName _ first.1 in
+    let third = no_fault_if (is_exhausted labels s.identities) fault.IdentitiesExhausted None second.1 in
+    record { allowed = first.0; new_name = not_some (named_of name s.named) second.0; room = third.0 }
+
+-- what goes is there
+pub endpoint_there : (s : State) (name : List ℕ) → fault_of s (RemoveEndpoint name) ≡ None → (endpoint : Endpoint) × (endpoint_of name s.endpoints ≡ Some endpoint)
+endpoint_there s name none = not_none (endpoint_of name s.endpoints) (no_fault_if (is_none (endpoint_of name s.endpoints)) fault.UnknownEndpoint None none).0
+
+pub name_there : (s : State) (name : List ℕ) → fault_of s (RemoveIdentity name) ≡ None → (identity : NamedIdentity) × (named_of name s.named ≡ Some identity)
+name_there s name none = not_none (named_of name s.named) (no_fault_if (is_none (named_of name s.named)) fault.UnknownIdentityName None none).0

@@ -1,0 +1,15 @@
+pub mod ChangeParts
+pub mod Likeness
+pub mod Readying
+pub mod Faults
+pub mod LiveNumbers
+pub mod HeldLabels
+pub mod Doing
+pub mod DoingNames
+pub mod UnderWay
+pub mod TakenBack
+pub mod Answering
+pub mod PolicyRefs
+pub mod PolicySteps
+pub mod PolicyMoves
+pub mod Selectors

@@ -1,0 +1,3 @@
+pub mod Readied
+pub mod Answer
+pub mod Causes

@@ -1,0 +1,112 @@
+//! Endpoints that come and go.
+ghost use Rattle.std.specs.Prelude.{◌≡◌, ◌<◌, ◌+◌, ◌-◌, ◌^◌, ◌≤◌};
+ghost use Rattle.pol_model.specs.declared.request.Request.TheVariants.{AddEndpoint, RemoveEndpoint};
+ghost use Rattle.pol_selcache.specs.Cache.{with_room};
+ghost use Rattle.pol_selcache.specs.Live.{label_selectors};
+ghost use Rattle.pol_requests.specs.Causes.{endpoint_fault};
+ghost use Rattle.pol_requests.specs.Readied.{Changes, MayChange, ReadiesOrNot};
+ghost use Rattle.pol_store.specs.Store.{StandsForSome};
+
+use crate::error::ReadyError;
+use crate::readied::{Change, Readied};
+use pol_addr::Addr;
+use pol_data::{Steps, Text};
+use pol_ident::IdentError;
+use pol_labels::LabelSet;
+use pol_model::{ENDPOINTS_MAX, Endpoint, Fault, has_reserved, is_init};
+use pol_numbers::LabelsHeld;
+use pol_store::Store;
+use std::sync::ledger::Ledger;
+
+/// The fault of a new endpoint, but for numbers that ran out.
+fn endpoint_fault(store: &Store, name: &str, labels: &LabelSet, address: Addr) -> Option<Fault>
+    ensures fault { result ≡ endpoint_fault store.now.state name.now labels.now address }
+{
+    if has_reserved(labels) && !is_init(labels) {
+        Some(Fault::ReservedLabel)
+    } else if store.endpoint(name).is_some() {
+        Some(Fault::DuplicateEndpoint)
+    } else if ENDPOINTS_MAX as usize <= store.endpoints().len() {
+        Some(Fault::EndpointsFull)
+    } else if store.is_taken(address) {
+        Some(Fault::AddressTaken)
+    } else {
+        None
+    }
+}
+
+/// Readies a new endpoint: it holds the number of its labels.
+pub(crate) fn ready_endpoint<L: Ledger>(
+    store: &mut Store,
+    name: &Text,
+    labels: &LabelSet,
+    address: Addr,
+    steps: &mut Steps<L>,
+) -> Result<Readied, ReadyError>
+    requires stands { StandsForSome store.old }
+    requires room { store.old.state.revision < 2 ^ 64 - 1 }
+    ensures readied { ReadiesOrNot (AddEndpoint name.now labels.now address) store.old store.new result }
+    ensures sets { store.new.cache ≡ with_room store.new.cache.log.spare store.old.cache }
+    ensures cost { steps.new ≤ steps.old + label_selectors store.old.cache.live }
+{
+    if let Some(fault) = endpoint_fault(store, name.as_str(), labels, address) {
+        return Err(ReadyError::Fault(fault));
+    }
+    store.reserve_endpoint()?;
+    let own = name.copy(store.allocator())?;
+    let mut endpoint = store.endpoint_without_number(name, labels, address)?;
+    match store.hold_labels(labels, steps) {
+        Ok(LabelsHeld { number, plan }) => {
+            endpoint.identity = number;
+            Ok(Readied {
+                plan,
+                change: Change::Endpoint(endpoint, own),
+            })
+        }
+        Err(IdentError::Exhausted) => Err(ReadyError::Fault(Fault::IdentitiesExhausted)),
+        Err(IdentError::Memory) => Err(ReadyError::Memory),
+    }
+}
+
+/// Readies that the endpoint of that name goes.
+pub(crate) fn ready_no_endpoint<L: Ledger>(
+    store: &mut Store,
+    name: &Text,
+    steps: &mut Steps<L>,
+) -> Result<Readied, ReadyError>
+    requires stands { StandsForSome store.old }
+    requires room { store.old.state.revision < 2 ^ 64 - 1 }
+    ensures readied { ReadiesOrNot (RemoveEndpoint name.now) store.old store.new result }
+    ensures sets { store.new.cache ≡ with_room store.new.cache.log.spare store.old.cache }
+    ensures cost { steps.new ≤ steps.old }
+{
+    let number = match store.endpoint_number(name.as_str()) {
+        Some(number) => number,
+        None => return Err(ReadyError::Fault(Fault::UnknownEndpoint)),
+    };
+    let own = name.copy(store.allocator())?;
+    let plan = store.plan_release(number, steps)?;
+    Ok(Readied {
+        plan,
+        change: Change::NoEndpoint(own, number),
+    })
+}
+
+/// Places the endpoint, whose number is held.
+pub(crate) fn place_endpoint(store: &mut Store, endpoint: Endpoint, name: Text)
+    requires may { MayChange store.old (Change.Endpoint endpoint name) }
+    ensures done { Changes store.old (Change.Endpoint endpoint name) store.new }
+    ensures sets { store.new.cache ≡ store.old.cache }
+{
+    store.put_endpoint(endpoint, name);
+}
+
+/// Takes the endpoint out, and gives its number back.
+pub(crate) fn take_out_endpoint(store: &mut Store, name: Text, number: u32)
+    requires may { MayChange store.old (Change.NoEndpoint name number) }
+    ensures done { Changes store.old (Change.NoEndpoint name number) store.new }
+    ensures sets { store.new.cache ≡ store.old.cache }
+{
+    store.drop_endpoint(name.as_str());
+    store.release(number);
+}
