@@ -12,12 +12,12 @@ use Rattle.pol_facts.proofs.RowLaws.{keep_released}
 use Rattle.pol_ident.specs.declared.place.Place.TheVariants.{Reserved, Cluster, Local, Nowhere}
 use Rattle.pol_ident.specs.Place.{IsPlaceOf}
 use Rattle.pol_ident.specs.Rows.{IsIdentities, rows_of}
-use Rattle.pol_ident.specs.Slots.{Slot, changed, one_less, slot_at}
+use Rattle.pol_places.specs.Slots.{Slot, changed, one_less, slot_at}
 use Rattle.pol_ident.proofs.HeldLabels as labels
 use Rattle.pol_ident.proofs.HeldPrefixes as prefixes
 use Rattle.pol_ident.proofs.Looks.{cluster-row, has_row-found, local-row, nowhere-row}
 use Rattle.pol_ident.proofs.RowLists.{AreHeld, recounted-reserved}
-use Rattle.pol_ident.proofs.RowsOf.{length-changed}
+use Rattle.pol_places.proofs.SlotLengths.{length-changed}
 
 -- What a call that gave the number back owes.
 pub record IsReleased (number : ℕ) (reserved rows : List IdentityRow) (cluster : List (Slot (List Label))) (local : List (Slot Prefix)) : Type 0 where

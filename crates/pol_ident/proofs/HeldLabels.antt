@@ -20,10 +20,11 @@ use Rattle.pol_facts.proofs.Membership.{In-append, In-right}
 use Rattle.pol_facts.proofs.RowLaws.{keep_labels}
 use Rattle.pol_facts.proofs.StartRows.{start_row}
 use Rattle.pol_ident.specs.Rows.{IsIdentities, cluster_rows, local_rows, row_with, rows_of}
-use Rattle.pol_ident.specs.Slots.{HasNone, HasPlace, Slot, changed, filled, free_place, one_less, one_more}
-use Rattle.pol_ident.proofs.FreePlaces.{free_place-le, taken_within}
+use Rattle.pol_places.specs.Slots.{HasNone, HasPlace, Slot, changed, filled, free_place, one_less, one_more}
+use Rattle.pol_places.proofs.FreePlaces.{free_place-le, taken_within}
 use Rattle.pol_ident.proofs.RowLists.{AllAbove, AreHeld, recounted-reserved}
-use Rattle.pol_ident.proofs.RowsOf.{In-here, In-slots, held-behind, length-changed, length-filled, less-front, more-front, reserved-below}
+use Rattle.pol_places.proofs.SlotLengths.{length-changed, length-filled}
+use Rattle.pol_ident.proofs.RowsOf.{In-here, In-slots, held-behind, less-front, more-front, reserved-below}
 use Rattle.pol_ident.proofs.SlotRows.{free-here, less-here, more-here, placed-here, rows-above}
 
 abbrev pub plain : List Label → List Label

@@ -26,10 +26,11 @@ use Rattle.pol_facts.proofs.PrefixHolders.{least_free-within}
 use Rattle.pol_facts.proofs.RowLaws.{keep_prefix}
 use Rattle.pol_ident.specs.Look.{number_for_prefix}
 use Rattle.pol_ident.specs.Rows.{IsIdentities, cluster_rows, local_rows, row_with, rows_of, rows_then}
-use Rattle.pol_ident.specs.Slots.{HasNone, HasPlace, Slot, changed, filled, free_place, one_less, one_more}
+use Rattle.pol_places.specs.Slots.{HasNone, HasPlace, Slot, changed, filled, free_place, one_less, one_more}
 use Rattle.pol_ident.proofs.HeldLabels.{plain, unreserved, without}
 use Rattle.pol_ident.proofs.RowLists.{AreHeld, recounted-reserved}
-use Rattle.pol_ident.proofs.RowsOf.{AllBelow, In-here, In-past, In-slots, held-behind, held-past, length-changed, length-filled, less-front, more-front, reserved-below}
+use Rattle.pol_places.proofs.SlotLengths.{length-changed, length-filled}
+use Rattle.pol_ident.proofs.RowsOf.{AllBelow, In-here, In-past, In-slots, held-behind, held-past, less-front, more-front, reserved-below}
 use Rattle.pol_ident.proofs.SlotRows.{free-here, free-past, less-here, less-past, more-here, more-past, placed-here, placed-past}
 
 abbrev pub worlds : Prefix → List Label

@@ -1,5 +1,3 @@
-pub mod Added
-pub mod FreePlaces
 pub mod GivenBack
 pub mod HeldLabels
 pub mod HeldPrefixes
@@ -9,6 +7,4 @@ pub mod Refusals
 pub mod RowLists
 pub mod RowsOf
 pub mod Selected
-pub mod Shown
 pub mod SlotRows
-pub mod TakenOut

@@ -17,10 +17,7 @@ use Rattle.pol_facts.proofs.StartRows.{start_row}
 use Rattle.pol_ident.specs.declared.place.Place.TheVariants.{Reserved, Cluster, Local, Nowhere}
 use Rattle.pol_ident.specs.Place.{IsPlaceOf}
 use Rattle.pol_ident.specs.Rows.{cluster_rows, local_rows, row_with, rows_of}
-use Rattle.pol_ident.specs.declared.numbering.Held.{Held}
-use Rattle.pol_ident.specs.Tied.{all_shown, shown, IsTied}
-use Rattle.pol_ident.proofs.Shown.{shown-entry}
-use Rattle.pol_ident.specs.Slots.{Slot, numbers_from, slot_at}
+use Rattle.pol_places.specs.Slots.{Slot, numbers_from, slot_at}
 use Rattle.pol_ident.proofs.HeldLabels.{local-above, plain, without}
 use Rattle.pol_ident.proofs.HeldPrefixes.{worlds}
 use Rattle.pol_ident.proofs.RowLists.{numbers}
@@ -135,16 +132,3 @@ has_row-mapped f number rows = mapped-some f (row_of number rows) ∙ sym (has_r
 pub prefix-found : (found : Option (Option Prefix)) (o : Option IdentityRow) → found ≡ option_map (λ row. row.prefix) o → option_and_then (λ prefix. prefix) found ≡ option_and_then (λ row. row.prefix) o
 prefix-found found None is = ap (option_and_then (λ prefix. prefix)) is
 prefix-found found (Some row) is = ap (option_and_then (λ prefix. prefix)) is
-
--- the numbers of shown slots are those of the slots
-pub numbers-shown : {K : Type 0} (entries : List (K × ℕ)) (first : ℕ) (slots : List (Option Held)) → ((place : ℕ) (held : Held) → get_or slots place None ≡ Some held → (own : K × ℕ) × (shown entries (Some held) ≡ Some own)) → numbers_from first (all_shown entries slots) ≡ numbers_from first slots
-numbers-shown entries first [] each = refl
-numbers-shown entries first (None ∷ slots) each = numbers-shown entries (first + 1) slots (λ place held at. each (suc place) held at)
-numbers-shown entries first (Some held ∷ slots) each =
-    let own = each 0 held refl in
-    ap (λ slot. numbers_from first (slot ∷ all_shown entries slots)) own.1
-    ∙ ap (λ others. first ∷ others) (numbers-shown entries (first + 1) slots (λ place other at. each (suc place) other at))
-
-pub numbers-tied : {K : Type 0} (entries : List (K × ℕ)) (first : ℕ) (slots : List (Option Held)) → IsTied entries slots → numbers_from first (all_shown entries slots) ≡ numbers_from first slots
-numbers-tied entries first slots tied =
-    numbers-shown entries first slots (λ place held at. let entry = tied.entry place held at in ((entry.0, held.holders), shown-entry entries held entry.0 place entry.1))

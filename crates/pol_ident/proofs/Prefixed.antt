@@ -7,7 +7,7 @@ use Rattle.pol_model.specs.declared.limits.TheConstants.{CLUSTER_FIRST, LOCAL_FI
 use Rattle.pol_model.specs.declared.row.IdentityRow.{IdentityRow}
 use Rattle.pol_ident.specs.Prefixed.{has_prefix, numbers_with_prefix}
 use Rattle.pol_ident.specs.Rows.{local_rows, row_with, rows_of, rows_then}
-use Rattle.pol_ident.specs.Slots.{Slot, numbers_from}
+use Rattle.pol_places.specs.Slots.{Slot, numbers_from}
 use Rattle.pol_ident.proofs.HeldLabels.{plain, without}
 use Rattle.pol_ident.proofs.HeldPrefixes.{worlds}
 use Rattle.pol_ident.proofs.RowLists.{numbers}

@@ -1,5 +1,5 @@
 -- The rows of slots: which there are, and that the reserved ones stand in front.
-use Rattle.std.proofs.Common.{zero, suc, ◌≡◌, ℕ, ◌+◌, ◌-◌, ◌<◌, ◌≤◌, cond, List, [], ◌∷◌, ◌++◌, length, Option, None, Some, ◌⊎◌, inl, inr, refl, ap, ◌∙◌, arith}
+use Rattle.std.proofs.Common.{zero, suc, ◌≡◌, ℕ, ◌+◌, ◌<◌, cond, List, [], ◌∷◌, ◌++◌, Option, None, Some, ◌⊎◌, inl, inr, refl, ap, ◌∙◌, arith}
 use Rattle.std.specs.List.{AllByRecursion}
 use Rattle.std.proofs.lemmas.Bool.{ne_eqb}
 use Rattle.pol_addr.specs.declared.network.Prefix.{Prefix}
@@ -10,7 +10,7 @@ use Rattle.pol_model.specs.declared.row.IdentityRow.{IdentityRow}
 use Rattle.pol_model.specs.Identities.{released, reserved_identities, with_holder}
 use Rattle.pol_facts.specs.Holding.{row_of}
 use Rattle.pol_ident.specs.Rows.{row_with, rows_then}
-use Rattle.pol_ident.specs.Slots.{Slot, changed, filled, free_place, slot_at}
+use Rattle.pol_places.specs.Slots.{Slot, slot_at}
 use Rattle.pol_ident.proofs.RowLists.{AreHeld, recounted-other, released-cons}
 
 -- each number is below this one
@@ -79,14 +79,3 @@ module _ {K : Type 0} (labels : K → List Label) (prefix : K → Option Prefix)
   In-slots row first (None ∷ slots) rest there = later row first None slots rest (In-slots row (first + 1) slots rest there)
   In-slots row first (Some own ∷ slots) rest (inl same) = inl (0, own, refl, (let here : first + 0 ≡ first = omega arith in ap (λ n. row_with labels prefix n own) here) ∙ same)
   In-slots row first (Some own ∷ slots) rest (inr there) = later row first (Some own) slots rest (In-slots row (first + 1) slots rest there)
-
--- lengths after a change, and after a key came
-pub length-changed : {K : Type 0} (change : Slot K → Slot K) (place : ℕ) (slots : List (Slot K)) → length (changed change place slots) ≡ length slots
-length-changed change place [] = refl
-length-changed change zero (slot ∷ slots) = refl
-length-changed change (suc place) (slot ∷ slots) = ap suc (length-changed change place slots)
-
-pub length-filled : {K : Type 0} (limit : ℕ) (new : K × ℕ) (slots : List (Slot K)) → free_place slots < limit → length slots ≤ limit → length (filled new slots) ≤ limit
-length-filled limit new [] free few = omega (arith, free)
-length-filled limit new (None ∷ slots) free few = few
-length-filled limit new (Some own ∷ slots) free few = omega (arith, length-filled (limit - 1) new slots (omega (arith, free)) (omega (arith, few)), few)

@@ -1,6 +1,4 @@
-pub mod Slots
 pub mod Look
 pub mod Place
 pub mod Rows
 pub mod Prefixed
-pub mod Tied

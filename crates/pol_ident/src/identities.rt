@@ -3,11 +3,11 @@ ghost use Rattle.std.specs.Prelude.{◌≡◌, IfOk};
 ghost use Rattle.pol_model.specs.Identities.{reserved_identities};
 ghost use Rattle.pol_facts.specs.Keeps.{KeepsRows};
 
-use crate::numbering::Numbering;
 use pol_addr::Prefix;
 use pol_data::Memory;
 use pol_labels::LabelSet;
 use pol_model::{IdentityRow, reserved_rows};
+use pol_places::Places;
 use std::alloc::Global;
 use std::marker::Model;
 
@@ -17,8 +17,8 @@ use std::marker::Model;
 pub struct Identities {
     pub(crate) alloc: Global,
     pub(crate) reserved: Vec<IdentityRow>,
-    pub(crate) cluster: Numbering<LabelSet>,
-    pub(crate) local: Numbering<Prefix>,
+    pub(crate) cluster: Places<LabelSet>,
+    pub(crate) local: Places<Prefix>,
 }
 
 impl Model for Identities {
@@ -42,8 +42,8 @@ impl Identities {
         Ok(Identities {
             alloc,
             reserved: reserved_rows(alloc)?,
-            cluster: Numbering::new(alloc),
-            local: Numbering::new(alloc),
+            cluster: Places::new(alloc),
+            local: Places::new(alloc),
         })
     }
 }

@@ -10,7 +10,6 @@ mod find;
 mod holders;
 mod identities;
 mod look;
-mod numbering;
 mod place;
 mod prefixes;
 mod release;

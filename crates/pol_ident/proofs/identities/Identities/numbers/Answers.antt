@@ -1,6 +1,6 @@
 use Rattle.std.proofs.Common.{◌++◌, ap, map, ◌∙◌}
 use Rattle.pol_model.specs.declared.limits.TheConstants.{CLUSTER_FIRST, LOCAL_FIRST}
-use Rattle.pol_ident.specs.Slots.{numbers_from}
+use Rattle.pol_places.specs.Slots.{numbers_from}
 use Rattle.pol_ident.proofs.Looks.{numbers-collected}
 use Rattle.pol_ident.proofs.identities.Identities.numbers.Goals as goal
 

@@ -1,6 +1,6 @@
 use Rattle.std.proofs.Common.{[], ◌∷◌, ◌++◌, ap, ◌∙◌}
 use Rattle.pol_model.specs.declared.limits.TheConstants.{LOCAL_FIRST, WORLD_IDENTITY}
-use Rattle.pol_ident.specs.Slots.{numbers_from}
+use Rattle.pol_places.specs.Slots.{numbers_from}
 use Rattle.pol_ident.proofs.Prefixed.{prefixed-collected}
 use Rattle.pol_ident.proofs.identities.Identities.numbers_with_prefix.Goals as goal
 

@@ -1,18 +1,18 @@
--- What the parts of a numbering show, and how they stay tied, where a key is taken out.
+-- What the parts of `Places` show, and how they stay tied, where a key is taken out.
 use Rattle.std.proofs.Common.{◌≡◌, ◌≢◌, ℕ, ◌-◌, ◌<◌, ◌≤◌, cond, List, ◌∷◌, length, get_or, set, slice_get, Option, None, Some, IfSome, option_map, refl, sym, ap, subst, ◌∙◌, inl, inr, arith, eqb, min}
 use Rattle.std.proofs.lemmas.Bool.{cases_lt, eq-eqb, ne_eqb}
 use Rattle.std.proofs.lemmas.Bool.Decides.{eqb_tells}
 use Rattle.std.proofs.lemmas.List.{get_or-set_same, get_or-set_other, get_or-take, length-map, length-set, length-take, ext_get_or}
 use Rattle.std.proofs.lemmas.Option.{same_Some, slice_get-get_or, slice_get_within}
-use Rattle.pol_ident.specs.declared.numbering.Held.{Held}
+use Rattle.pol_places.specs.declared.places.Held.{Held}
 use Rattle.std.specs.List.{swap_remove}
 use Rattle.std.specs.BinaryHeap.{KeepsHeap}
 use Rattle.std.specs.List.Sorted.{IsPermutation}
 use Rattle.std.specs.declared.cmp.Reverse.{Reverse}
-use Rattle.pol_ident.specs.Slots.{Slot, changed, slot_at}
-use Rattle.pol_ident.proofs.FreePlaces.{taken_within, IsFreeOf-pushed}
-use Rattle.pol_ident.proofs.Shown.{changed-set, same-room, shown-entry, slot_at-shown, wider-room}
-use Rattle.pol_ident.specs.Tied.{all_shown, least_first, shown, with_index, IsIndexOf, HasRoom, IsFreeOf, IsTied}
+use Rattle.pol_places.specs.Slots.{Slot, changed, slot_at}
+use Rattle.pol_places.proofs.FreePlaces.{taken_within, IsFreeOf-pushed}
+use Rattle.pol_places.proofs.Shown.{changed-set, same-room, shown-entry, slot_at-shown, wider-room}
+use Rattle.pol_places.specs.Tied.{all_shown, least_first, shown, with_index, IsIndexOf, HasRoom, IsFreeOf, IsTied}
 
 -- An entry is taken out, and the last one takes its index.
 module _ {K : Type 0} (entries : List (K × ℕ)) (index : ℕ) (gone : K × ℕ) where

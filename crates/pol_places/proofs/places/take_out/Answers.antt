@@ -1,5 +1,5 @@
-use Rattle.pol_ident.proofs.TakenOut.{out-none, out-some, out-within}
-use Rattle.pol_ident.proofs.numbering.take_out.Goals as goal
+use Rattle.pol_places.proofs.TakenOut.{out-none, out-some, out-within}
+use Rattle.pol_places.proofs.places.take_out.Goals as goal
 
 pub relink-requires : goal.relink-requires
 relink-requires g c =

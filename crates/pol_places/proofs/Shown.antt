@@ -1,16 +1,16 @@
--- What the parts of a numbering show, and how they stay tied, as keys come and go.
-use Rattle.std.proofs.Common.{zero, suc, ◌≡◌, ℕ, ◌<◌, ◌≤◌, Bool, false, List, [], ◌∷◌, ◌++◌, length, get_or, set, slice_get, Option, None, Some, option_map, refl, sym, ap, subst, ◌∙◌, inl, inr, arith}
+-- What the parts of `Places` show, and how they stay tied, as keys come and go.
+use Rattle.std.proofs.Common.{zero, suc, ◌≡◌, ℕ, ◌+◌, ◌<◌, ◌≤◌, Bool, false, List, [], ◌∷◌, ◌++◌, length, get_or, set, slice_get, Option, None, Some, option_map, refl, sym, ap, subst, ◌∙◌, inl, inr, arith}
 use Rattle.std.proofs.lemmas.Bool.Decides.{eqb_tells}
 use Rattle.std.proofs.lemmas.List.{get_or-set_same, get_or-set_other, length-map, length-set, map-set}
 use Rattle.std.proofs.lemmas.Map.{lookup-none, none_passes_from_lookup, NonePasses}
 use Rattle.std.proofs.lemmas.Option.{same_Some}
-use Rattle.pol_ident.specs.declared.numbering.Held.{Held}
+use Rattle.pol_places.specs.declared.places.Held.{Held}
 use Rattle.std.proofs.lemmas.Map.Made.{lookup_key_passes}
 use Rattle.std.specs.Map.{lookup, lookup_key}
 use Rattle.std.specs.declared.cmp.Reverse.{Reverse}
-use Rattle.pol_ident.specs.Slots.{HasNone, HasPlace, Slot, changed, filled, free_place, slot_at}
-use Rattle.pol_ident.proofs.FreePlaces.{taken_within, IsFreeOf-kept}
-use Rattle.pol_ident.specs.Tied.{all_shown, shown, HasRoom, IsFreeOf, IsTied}
+use Rattle.pol_places.specs.Slots.{HasNone, HasPlace, Slot, changed, filled, free_place, numbers_from, slot_at}
+use Rattle.pol_places.proofs.FreePlaces.{taken_within, IsFreeOf-kept}
+use Rattle.pol_places.specs.Tied.{all_shown, shown, HasRoom, IsFreeOf, IsTied}
 
 pub wider-room : {X : Type 0} (slots : List (Option X)) (one other : ℕ) → HasRoom slots one → one ≤ other → HasRoom slots other
 wider-room slots one other room more =
@@ -150,10 +150,10 @@ module _ {K : Type 0} where
       ∙ changed-set change (all_shown entries slots) place (omega (arith, within, length-map slots (shown entries)))
 
   -- and leaves the free places
-  pub kept-numbering : (entries : List (K × ℕ)) (slots : List (Option Held)) (free : List (Reverse ℕ)) (capacity place : ℕ) (held other : Held)
+  pub kept-places : (entries : List (K × ℕ)) (slots : List (Option Held)) (free : List (Reverse ℕ)) (capacity place : ℕ) (held other : Held)
       → IsTied entries slots × IsFreeOf free (all_shown entries slots) × HasRoom (all_shown entries slots) capacity → get_or slots place None ≡ Some held → other.index ≡ held.index
       → IsTied entries (set slots place (Some other)) × IsFreeOf free (all_shown entries (set slots place (Some other))) × HasRoom (all_shown entries (set slots place (Some other))) capacity
-  kept-numbering entries slots free capacity place held other is taken same =
+  kept-places entries slots free capacity place held other is taken same =
       let entry = is.0.entry place held taken in
       let seen = held-shown entries slots place held other taken same entry.0 entry.1 in
       let own = slot_at-shown entries slots place ∙ ap (shown entries) taken ∙ shown-entry entries held entry.0 place entry.1 in (
@@ -161,3 +161,16 @@ module _ {K : Type 0} where
         subst (IsFreeOf free) (sym seen) (IsFreeOf-kept (all_shown entries slots) free place (entry.0, held.holders) (entry.0, other.holders) is.1 own),
         same-room (all_shown entries slots) _ capacity (ap length seen ∙ length-set (all_shown entries slots) place (Some (entry.0, other.holders))) is.2,
       )
+
+-- the numbers of shown slots are those of the slots
+pub numbers-shown : {K : Type 0} (entries : List (K × ℕ)) (first : ℕ) (slots : List (Option Held)) → ((place : ℕ) (held : Held) → get_or slots place None ≡ Some held → (own : K × ℕ) × (shown entries (Some held) ≡ Some own)) → numbers_from first (all_shown entries slots) ≡ numbers_from first slots
+numbers-shown entries first [] each = refl
+numbers-shown entries first (None ∷ slots) each = numbers-shown entries (first + 1) slots (λ place held at. each (suc place) held at)
+numbers-shown entries first (Some held ∷ slots) each =
+    let own = each 0 held refl in
+    ap (λ slot. numbers_from first (slot ∷ all_shown entries slots)) own.1
+    ∙ ap (λ others. first ∷ others) (numbers-shown entries (first + 1) slots (λ place other at. each (suc place) other at))
+
+pub numbers-tied : {K : Type 0} (entries : List (K × ℕ)) (first : ℕ) (slots : List (Option Held)) → IsTied entries slots → numbers_from first (all_shown entries slots) ≡ numbers_from first slots
+numbers-tied entries first slots tied =
+    numbers-shown entries first slots (λ place held at. let entry = tied.entry place held at in ((entry.0, held.holders), shown-entry entries held entry.0 place entry.1))

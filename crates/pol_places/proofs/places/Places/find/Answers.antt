@@ -1,6 +1,6 @@
 use Rattle.std.proofs.Common.{sym}
-use Rattle.pol_ident.proofs.Shown.{found-place, none-placed}
-use Rattle.pol_ident.proofs.numbering.Numbering.find.Goals as goal
+use Rattle.pol_places.proofs.Shown.{found-place, none-placed}
+use Rattle.pol_places.proofs.places.Places.find.Goals as goal
 
 pub returns-in-Some-clause-found : goal.returns-in-Some-clause-found
 returns-in-Some-clause-found g c =

@@ -1,14 +1,14 @@
 use Rattle.std.proofs.Common.{get_or, cond, None, Some, ◌-◌, refl, sym, ap, ◌∙◌}
 use Rattle.std.proofs.lemmas.Bool.{le-leb, lt-leb}
-use Rattle.pol_ident.specs.Slots.{one_less}
-use Rattle.pol_ident.proofs.Shown.{changed-shown, kept-numbering}
-use Rattle.pol_ident.proofs.TakenOut.{given-back, gone-changed}
-use Rattle.pol_ident.proofs.numbering.Numbering.release.Goals as goal
+use Rattle.pol_places.specs.Slots.{one_less}
+use Rattle.pol_places.proofs.Shown.{changed-shown, kept-places}
+use Rattle.pol_places.proofs.TakenOut.{given-back, gone-changed}
+use Rattle.pol_places.proofs.places.Places.release.Goals as goal
 
 pub invariant_of-self : goal.invariant_of-self
 invariant_of-self g c =
     let taken = ap (λ xs. get_or xs c.args.place None) (sym c.deref.ensures.value) ∙ sym c.in-Some.ensures in
-    kept-numbering _ _ _ _ c.args.place c.in-Some.held _ c.self.invariant taken refl
+    kept-places _ _ _ _ c.args.place c.in-Some.held _ c.self.invariant taken refl
 
 pub returns-in-Some : goal.returns-in-Some
 returns-in-Some g c =

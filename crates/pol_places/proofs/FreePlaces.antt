@@ -14,8 +14,8 @@ use Rattle.std.proofs.lemmas.List.{get_or-set_same, get_or-set_other, get_or_pas
 use Rattle.std.proofs.lemmas.List.Sorted.{length_permutation, sum_by-IsPermutation}
 use Rattle.std.proofs.lemmas.List.Sums.{sum_by-cons, sum_by-set, sum_by_push}
 use Rattle.std.proofs.Math.Seq.{get_or-append_seam}
-use Rattle.pol_ident.specs.Slots.{free_place}
-use Rattle.pol_ident.specs.Tied.{empty_at, least_first, IsFreeOf}
+use Rattle.pol_places.specs.Slots.{free_place}
+use Rattle.pol_places.specs.Tied.{empty_at, least_first, IsFreeOf}
 
 abbrev is_place : ℕ → Reverse ℕ → Bool
 is_place place other = eqb place other.0

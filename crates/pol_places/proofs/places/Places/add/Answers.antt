@@ -1,11 +1,11 @@
 use Rattle.std.proofs.Common.{◌+◌, ◌<◌, ◌^◌, length, sym, ap, subst, ◌∙◌, arith}
 use Rattle.std.specs.BinaryHeap.{heap_capacity, heap_items}
 use Rattle.indexmap.proofs.CallerLemmas.{insert_entry-new}
-use Rattle.pol_ident.specs.Slots.{HasNone, free_place}
-use Rattle.pol_ident.specs.Tied.{IsFreeOf, all_shown}
-use Rattle.pol_ident.proofs.Added.{grown-free, grown-room, grown-shown, grown-tied, popped-free, popped-room, popped-shown, popped-tied, popped_within}
-use Rattle.pol_ident.proofs.Shown.{none-found, wider-room}
-use Rattle.pol_ident.proofs.numbering.Numbering.add.Goals as goal
+use Rattle.pol_places.specs.Slots.{HasNone, free_place}
+use Rattle.pol_places.specs.Tied.{IsFreeOf, all_shown}
+use Rattle.pol_places.proofs.Added.{grown-free, grown-room, grown-shown, grown-tied, popped-free, popped-room, popped-shown, popped-tied, popped_within}
+use Rattle.pol_places.proofs.Shown.{none-found, wider-room}
+use Rattle.pol_places.proofs.places.Places.add.Goals as goal
 
 pub index_mut-requires : goal.index_mut-requires
 index_mut-requires g c =

@@ -1,8 +1,8 @@
 use Rattle.std.proofs.Common.{◌∙◌, sym}
 use Rattle.std.proofs.lemmas.List.{length-map}
 use Rattle.std.proofs.lemmas.Bool.{ltb-true, true≢false}
-use Rattle.pol_ident.proofs.FreePlaces.{least_at_end, least_on_heap, peeked_is_empty}
-use Rattle.pol_ident.proofs.numbering.Numbering.free_place.Goals as goal
+use Rattle.pol_places.proofs.FreePlaces.{least_at_end, least_on_heap, peeked_is_empty}
+use Rattle.pol_places.proofs.places.Places.free_place.Goals as goal
 
 pub returns-in-Some : goal.returns-in-Some
 returns-in-Some g c =

@@ -2,8 +2,8 @@
 ghost use Rattle.std.specs.Prelude.{◌≡◌, ◌+◌, ◌^◌, ◌<◌, ◌≤◌, ◌++◌, [], None, IsSome, IfSome, IfNone, OnOk, OnErr, count_by, is_some, option_map, length, slice_index_or, slice_set, vec_capacity};
 ghost use Rattle.std.specs.BinaryHeap.{heap_capacity, heap_items, heap_len};
 ghost use Rattle.std.specs.Option.{option_copied};
-ghost use Rattle.pol_ident.specs.Slots.{HasNone, HasPlace, changed, filled, free_place, numbers_from, one_less, one_more, slot_at};
-ghost use Rattle.pol_ident.specs.Tied.{IsIndexOf, IsTied, all_shown, with_index};
+ghost use Rattle.pol_places.specs.Slots.{HasNone, HasPlace, changed, filled, free_place, numbers_from, one_less, one_more, slot_at};
+ghost use Rattle.pol_places.specs.Tied.{IsIndexOf, IsTied, all_shown, with_index};
 
 use indexmap::IndexMap;
 use pol_data::Memory;
@@ -23,7 +23,7 @@ pub(crate) struct Held {
 /// Keys with a place and a count of holders each. Contracts see, by each place from 0 on, nothing or the key with its
 /// count.
 #[derive(Drop)]
-pub(crate) struct Numbering<K: Eq + Hash> {
+pub struct Places<K: Eq + Hash> {
     // The place of each key.
     places: IndexMap<K, u32>,
     slots: Vec<Option<Held>>,
@@ -31,14 +31,14 @@ pub(crate) struct Numbering<K: Eq + Hash> {
     free: BinaryHeap<Reverse<u32>, Global>,
 }
 
-impl<K: Eq + Hash> Model for Numbering<K> {
+impl<K: Eq + Hash> Model for Places<K> {
     ghost use Rattle.std.specs.Prelude.{List};
     ghost use Rattle.std.specs.BinaryHeap.{heap_capacity, heap_items};
-    ghost use Rattle.pol_ident.specs.Slots.{Slot};
+    ghost use Rattle.pol_places.specs.Slots.{Slot};
 
     ghost Value = { List (Slot K) };
 
-    ghost use Rattle.pol_ident.specs.Tied.{HasRoom, IsFreeOf, IsTied, all_shown};
+    ghost use Rattle.pol_places.specs.Tied.{HasRoom, IsFreeOf, IsTied, all_shown};
 
     ghost view = { λ n. all_shown n.places.entries n.slots.items };
 
@@ -122,12 +122,12 @@ fn take_out<K: Eq + Hash + Drop>(
     }
 }
 
-impl<K: Eq + Hash + Drop> Numbering<K> {
+impl<K: Eq + Hash + Drop> Places<K> {
     /// No keys. It takes no memory yet.
-    pub(crate) fn new(alloc: Global) -> Numbering<K>
+    pub fn new(alloc: Global) -> Places<K>
         ensures { result ≡ [] }
     {
-        Numbering {
+        Places {
             places: IndexMap::new(alloc),
             slots: Vec::new(alloc),
             free: BinaryHeap::new(alloc),
@@ -135,7 +135,7 @@ impl<K: Eq + Hash + Drop> Numbering<K> {
     }
 
     /// The place of the key.
-    pub(crate) fn find(&self, key: &K) -> Option<u32>
+    pub fn find(&self, key: &K) -> Option<u32>
         ensures found { IfSome result (HasPlace K.eq key.now self.now) }
         ensures none { IfNone result (HasNone K.eq key.now self.now) }
     {
@@ -146,7 +146,7 @@ impl<K: Eq + Hash + Drop> Numbering<K> {
     }
 
     /// The key of the place.
-    pub(crate) fn key_at(&self, place: u32) -> Option<&K>
+    pub fn key_at(&self, place: u32) -> Option<&K>
         ensures { option_copied result ≡ option_map (λ own. own.0) (slot_at self.now place) }
     {
         let held = held_at(&self.slots, place)?;
@@ -155,7 +155,7 @@ impl<K: Eq + Hash + Drop> Numbering<K> {
     }
 
     /// How many hold the key of the place.
-    pub(crate) fn holders_at(&self, place: u32) -> Option<u64>
+    pub fn holders_at(&self, place: u32) -> Option<u64>
         ensures { result ≡ option_map (λ own. own.1) (slot_at self.now place) }
     {
         let held = held_at(&self.slots, place)?;
@@ -163,14 +163,14 @@ impl<K: Eq + Hash + Drop> Numbering<K> {
     }
 
     /// How many places have a key.
-    pub(crate) fn taken(&self) -> usize
+    pub fn taken(&self) -> usize
         ensures { result ≡ count_by is_some self.now }
     {
         self.slots.len() - self.free.len()
     }
 
     /// The least place without a key.
-    pub(crate) fn free_place(&self) -> u32
+    pub fn free_place(&self) -> u32
         ensures { result ≡ free_place self.now }
     {
         match self.free.peek() {
@@ -180,7 +180,7 @@ impl<K: Eq + Hash + Drop> Numbering<K> {
     }
 
     /// Gives the key the least place without one, and one holder.
-    pub(crate) fn add(&mut self, key: K) -> Result<(), Memory>
+    pub fn add(&mut self, key: K) -> Result<(), Memory>
         requires absent { HasNone K.eq key self.old }
         requires fits { free_place self.old + 1 < 2 ^ 32 }
         ensures ok { OnOk result (self.new ≡ filled (key, 1) self.old) }
@@ -201,7 +201,7 @@ impl<K: Eq + Hash + Drop> Numbering<K> {
     }
 
     /// One holder more of a place with a key. The one error is a count of holders at its end.
-    pub(crate) fn hold(&mut self, place: u32) -> Result<(), Memory>
+    pub fn hold(&mut self, place: u32) -> Result<(), Memory>
         requires held { IsSome (slot_at self.old place) }
         ensures ok { OnOk result (self.new ≡ changed one_more place self.old) }
         ensures err { OnErr result (self.new ≡ self.old) }
@@ -219,7 +219,7 @@ impl<K: Eq + Hash + Drop> Numbering<K> {
     }
 
     /// One holder less of a place with a key; the key goes with its last holder. It takes no memory.
-    pub(crate) fn release(&mut self, place: u32)
+    pub fn release(&mut self, place: u32)
         requires held { IsSome (slot_at self.old place) }
         ensures { self.new ≡ changed one_less place self.old }
     {
@@ -239,7 +239,7 @@ impl<K: Eq + Hash + Drop> Numbering<K> {
     }
 
     /// Puts the numbers of the places with a key, from `first` on, behind these.
-    pub(crate) fn push_numbers(&self, first: u32, numbers: &mut Vec<u32>) -> Result<(), Memory>
+    pub fn push_numbers(&self, first: u32, numbers: &mut Vec<u32>) -> Result<(), Memory>
         requires fits { first + length self.now < 2 ^ 32 }
         ensures { OnOk result (numbers.new.items ≡ numbers.old.items ++ numbers_from first self.now) }
     {

@@ -1,4 +1,4 @@
--- What a contract sees of a `Numbering`: by each place from 0 on nothing, or a key with its count of holders.
+-- What a contract sees of `Places`: by each place from 0 on nothing, or a key with its count of holders.
 use Rattle.std.specs.Prelude.{ℕ, ◌≡◌, ◌+◌, ◌-◌, Bool, true, false, nat_le, if◌then◌else◌, List, [], ◌∷◌, Option, Some, None, suc, zero, slice_index_or}
 
 abbrev pub Slot : Type 0 → Type 0
@@ -50,3 +50,9 @@ abbrev pub numbers_from : {X : Type 0} → ℕ → List (Option X) → List ℕ
 numbers_from first [] = []
 numbers_from first (None ∷ slots) = numbers_from (first + 1) slots
 numbers_from first (Some held ∷ slots) = first ∷ numbers_from (first + 1) slots
+
+-- the numbers from `first` on of the places whose key meets the test
+abbrev pub numbers_where : {K : Type 0} → ℕ → (K → Bool) → List (Slot K) → List ℕ
+numbers_where first test [] = []
+numbers_where first test (None ∷ slots) = numbers_where (first + 1) test slots
+numbers_where first test (Some own ∷ slots) = if test own.0 then first ∷ numbers_where (first + 1) test slots else numbers_where (first + 1) test slots

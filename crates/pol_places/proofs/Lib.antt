@@ -1,0 +1,5 @@
+pub mod Added
+pub mod FreePlaces
+pub mod Shown
+pub mod SlotLengths
+pub mod TakenOut
