@@ -27,7 +27,7 @@ use Rattle.pol_taken.specs.PeerRows.{filter_peers}
 -- where all peers are one, and it has its row, there is no other
 module _ (identities : List IdentityRow) (p : Peer) where
   is_it : (row : SetRow) → Contains (p ∷ p ∷ []) row.peer → p ≡ row.peer
-  is_it row there = elim (In-from_Contains (p ∷ p ∷ []) row.peer there) [ | inl same ↦ same | inr later ↦ elim later [ | inl same ↦ same | inr none ↦ elim none [ ] ] ]
+  is_it row there = elim (In-from_Contains (p ∷ p ∷ []) row.peer there) [ inl same ↦ same | inr later ↦ elim later [ inl same ↦ same | inr none ↦ elim none [ ] ] ]
 
   twice : (one other : SetRow) → p ≡ one.peer → p ≡ other.peer → peers.ghosts.eq one.peer other.peer ≡ true
   twice one other first second = (peer_eq-Decides one.peer other.peer).1 (sym first ∙ second)
