@@ -1,4 +1,3 @@
 pub mod Adding
 pub mod Listing
 pub mod Agreed
-pub mod Worked
