@@ -21,6 +21,7 @@ pub fn changes_are_counted()
 pub fn listings_are_told()
     ensures by_two { is_listed (state_at ordinary listings 4) of_x ≡ true }
     ensures by_one { is_listed (state_at ordinary listings 5) of_x ≡ true }
+    ensures another { is_listed (state_at ordinary listings 2) of_net ≡ true }
     ensures not_yet { is_listed (state_at ordinary listings 1) of_x ≡ false }
     ensures gone { is_listed (state_at ordinary listings 5) of_net ≡ false }
     ensures since { IsListedSince ordinary listings 2 of_x }

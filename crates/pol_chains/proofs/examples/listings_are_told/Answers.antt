@@ -6,6 +6,7 @@ pub returns : goal.returns
 returns c = record {
   by_two = refl;
   by_one = refl;
+  another = refl;
   not_yet = refl;
   gone = refl;
   since = listed_since;
