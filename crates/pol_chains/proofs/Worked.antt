@@ -1,5 +1,5 @@
 -- The changes of sets of a small journal.
-use Rattle.std.proofs.Common.{◌≡◌, ℕ, zero, suc, ◌<◌, ◌≤◌, true, false, List, [], ◌∷◌, ◌++◌, Option, Some, None, refl, sym, ap, ◌∙◌, subst, arith}
+use Rattle.std.proofs.Common.{◌≡◌, ℕ, zero, suc, ◌≤◌, true, false, List, [], ◌∷◌, ◌++◌, Option, Some, None, refl, sym, ap, ◌∙◌, subst, arith}
 use Rattle.pol_addr.specs.Cidr.{network}
 use Rattle.pol_addr.specs.Prefix.{covers}
 use Rattle.pol_sets.specs.declared.sets.Move.{Move}
@@ -7,7 +7,7 @@ use Rattle.pol_sets.specs.declared.sets.SetRow.{SetRow}
 use Rattle.pol_model.specs.After.{state_of}
 use Rattle.pol_facts.specs.WorkedMaps.{ordinary}
 use Rattle.pol_changes.specs.Ids.{without}
-use Rattle.pol_chains.specs.Changes.{IsListedSince, changes_between, horizon_of, is_listed, revisions_until, set_in, state_at}
+use Rattle.pol_chains.specs.Changes.{IsListedSince, changes_between, horizon_of, revisions_until, set_in, state_at}
 use Rattle.pol_chains.specs.Examples.{listings, of_net, of_x}
 use Rattle.pol_chains.specs.Moves.{TellsMovesSince}
 
