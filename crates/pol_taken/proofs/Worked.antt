@@ -1,5 +1,5 @@
 -- What is taken of a small state.
-use Rattle.std.proofs.Common.{◌≡◌, ℕ, Bool, true, false, List, [], ◌∷◌, map, IsTrue, Some, inl, inr, refl, sym, ap, ◌∙◌, subst}
+use Rattle.std.proofs.Common.{◌≡◌, true, false, List, [], ◌∷◌, map, IsTrue, inl, inr, sym, ap, ◌∙◌, subst}
 use Rattle.std.specs.Prelude.{codes}
 use Rattle.std.specs.Arc.{arc_value}
 use Rattle.std.specs.List.{AllByRecursion, Contains, IsDistinct}
@@ -17,7 +17,6 @@ use Rattle.pol_model.specs.Selects.{set_at}
 use Rattle.pol_facts.specs.WorkedMaps.{app_peer, namespace_label, ordinary, x_denied}
 use Rattle.pol_sets.specs.declared.sets.SetRow.{SetRow}
 use Rattle.pol_sets.specs.Sets.{has_set}
-use Rattle.pol_l4.specs.declared.filter.Filters.{Filters}
 use Rattle.pol_distill.specs.Distilled.{filters_at}
 use Rattle.pol_distill.specs.Sorted.{HaveSets}
 use Rattle.pol_taken.specs.declared.taken.Taken.{Taken}
