@@ -2,6 +2,7 @@
 
 use pol_addr::{Addr, Prefix};
 use pol_data::Text;
+use pol_filing::HeadingRef;
 use pol_ident::{IdentError, Identities};
 use pol_labels::{Label, LabelSet};
 use pol_model::has_reserved;
@@ -83,6 +84,31 @@ fn sets_run_out(alloc: Global, identities: &mut Identities) -> Option<bool> {
     )
 }
 
+/// Whether these are the numbers under the heading.
+fn are_under(
+    alloc: Global,
+    identities: &Identities,
+    heading: &HeadingRef<'_>,
+    numbers: &[u32],
+) -> bool {
+    match identities.numbers_under(alloc, heading) {
+        Ok(found) => found.as_slice() == numbers,
+        Err(_) => false,
+    }
+}
+
+/// The same of a label's heading.
+fn have_label(
+    alloc: Global,
+    identities: &Identities,
+    key: &str,
+    value: &str,
+    numbers: &[u32],
+) -> bool {
+    let heading = HeadingRef::Label { key, value };
+    are_under(alloc, identities, &heading, numbers)
+}
+
 #[test]
 fn prefixes_are_refused_and_taken_again(rt: HostRuntime) -> Result<(), Fail> {
     let mut identities = Identities::new(rt.alloc())?;
@@ -106,5 +132,21 @@ fn numbers_ascend(rt: HostRuntime) -> Result<(), Fail> {
     assert!(rt; number_of(&mut identities, &labels) == Ok(256));
     let numbers = identities.numbers(rt.alloc())?;
     assert!(rt; numbers.as_slice() == [1, 2, 3, 4, 5, 6, 7, 8, 256, 16_777_217].as_slice());
+    Ok(())
+}
+
+#[test]
+fn numbers_stand_under_headings(rt: HostRuntime) -> Result<(), Fail> {
+    let mut identities = Identities::new(rt.alloc())?;
+    assert!(rt; identities.acquire_prefix(address(7)) == Ok(16_777_217));
+    let labels = app(rt.alloc(), 1).ok_or("no memory")?;
+    assert!(rt; number_of(&mut identities, &labels) == Ok(256));
+    let all = [1, 2, 3, 4, 5, 6, 7, 8, 256, 16_777_217];
+    let outside = [2, 16_777_217];
+    let world = HeadingRef::Prefix(Prefix::world());
+    assert!(rt; have_label(rt.alloc(), &identities, "app", "1", [256].as_slice()));
+    assert!(rt; have_label(rt.alloc(), &identities, "world", "", outside.as_slice()));
+    assert!(rt; are_under(rt.alloc(), &identities, &world, outside.as_slice()));
+    assert!(rt; are_under(rt.alloc(), &identities, &HeadingRef::Any, all.as_slice()));
     Ok(())
 }

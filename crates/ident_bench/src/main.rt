@@ -1,11 +1,12 @@
-//! Times identities at 1,000 rows and at 65,280: label sets that take numbers, and numbers that are given back. The
-//! figures go to standard error.
+//! Times identities at 1,000 rows and at 65,280: label sets that take numbers, numbers that are given back, and the numbers
+//! under a label. The figures go to standard error.
 #![tactic(auto)]
 
 ghost use Rattle.std.specs.Prelude.{◌≤◌};
 
 use anyhow::Result;
 use pol_data::Text;
+use pol_filing::HeadingRef;
 use pol_ident::Identities;
 use pol_labels::{Label, LabelSet};
 use pol_model::has_reserved;
@@ -158,6 +159,23 @@ fn fill<R: Clock + AllocGlobal>(rt: &R, identities: &mut Identities, count: u32)
     Ok(taking / u128::from(count))
 }
 
+/// How many nanoseconds it took to find the numbers under a label, in the shortest of all turns.
+fn time_label<R: Clock + AllocGlobal>(
+    rt: &R,
+    identities: &Identities,
+    key: &str,
+    value: &str,
+) -> Result<u128> {
+    let heading = HeadingRef::Label { key, value };
+    let mut finding = u128::MAX;
+    for _ in 0..TURNS {
+        let start = Instant::now(rt)?;
+        let _numbers = identities.numbers_under(rt.alloc(), &heading)?;
+        finding = finding.min(start.elapsed(rt)?.as_nanos());
+    }
+    Ok(finding)
+}
+
 /// Fills the identities up to so many rows of label sets, and times turns that go up to there.
 fn time_at<R: Clock + Eprint + AllocGlobal>(
     rt: &R,
@@ -169,8 +187,10 @@ fn time_at<R: Clock + Eprint + AllocGlobal>(
     let filling = fill(rt, identities, rows - WINDOW)?;
     let sets = label_sets(rt.alloc(), rows, WINDOW)?;
     let (taking, returning) = time_turns(rt, identities, sets.as_slice())?;
+    let one = time_label(rt, identities, "app", "web-1")?;
+    let each = time_label(rt, identities, "io.kubernetes.pod.namespace", "default")?;
     eprintln!(rt;
-        "{rows} rows: acquire {taking} ns, release {returning} ns; acquire on the way there {filling} ns"
+        "{rows} rows: acquire {taking} ns, release {returning} ns; acquire on the way there {filling} ns; the numbers under a label that one set has {one} ns, that each has {each} ns"
     )?;
     Ok(())
 }

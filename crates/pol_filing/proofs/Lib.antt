@@ -1,3 +1,5 @@
+pub mod Added
 pub mod Equality
-pub mod Selected
+pub mod Numbers
 pub mod Refiled
+pub mod Selected

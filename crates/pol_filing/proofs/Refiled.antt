@@ -1,26 +1,22 @@
 -- What is filed once one heading's numbers have changed.
-use Rattle.std.proofs.Common.{◌≡◌, ◌==◌, ◌&&◌, ◌||◌, not, Bool, true, false, cond, List, [], ◌∷◌, ◌++◌, ℕ, length, filter, Option, Some, None, option_map, Result, Ok, Err, OnErr, refl, sym, ap, ◌∙◌, arith}
+use Rattle.std.proofs.Common.{◌≡◌, ◌==◌, ◌&&◌, ◌||◌, not, Bool, true, false, cond, [], ◌∷◌, ℕ, Option, Some, None, option_map, Result, Ok, Err, OnErr, refl, sym, ap, ◌∙◌}
 use Rattle.std.specs.Map.{lookup}
 use Rattle.std.specs.Option.{option_map_or}
-use Rattle.std.specs.declared.alloc.Global.{Global}
-use Rattle.std.specs.declared.vec.Vec.{Vec}
-use Rattle.std.proofs.lemmas.Bool.{both_ways, eq-eqb, eqb-true, or_left}
-use Rattle.std.proofs.lemmas.List.Folds.{list_any-append}
-use Rattle.std.proofs.lemmas.Map.Views.{any-filter_same}
-use Rattle.pol_filing.specs.Filed.{has, is_filed}
+use Rattle.std.specs.BTreeSet.{BTreeSet}
+use Rattle.pol_filing.specs.Filed.{Drawers, has, is_filed}
 use Rattle.pol_filing.specs.Heading.{same_heading}
 use Rattle.pol_filing.specs.Inside.{Entries, drawers_of}
 use Rattle.pol_filing.specs.declared.heading.Heading.{Heading}
 use Rattle.pol_filing.proofs.Equality.{same_heading-is}
 
 -- the number is in the drawer
-abbrev pub is_in : Option (Vec ℕ Global) → ℕ → Bool
-is_in drawer number = option_map_or (λ (numbers : Vec ℕ Global). has number numbers.items) drawer false
+abbrev pub is_in : Option (BTreeSet ℕ) → ℕ → Bool
+is_in drawer number = option_map_or (λ (numbers : BTreeSet ℕ). has number numbers.keys) drawer false
 
-lookup-drawers : (test : Heading → Bool) (es : Entries) → lookup test (drawers_of es) ≡ option_map (λ (numbers : Vec ℕ Global). numbers.items) (lookup test es)
+lookup-drawers : (test : Heading → Bool) (es : Entries) → lookup test (drawers_of es) ≡ option_map (λ (numbers : BTreeSet ℕ). numbers.keys) (lookup test es)
 lookup-drawers test [] = refl
 lookup-drawers test (e ∷ es) =
-    elim (test e.0) as (λ b. cond b (Some e.1.items) (lookup test (drawers_of es)) ≡ option_map (λ (numbers : Vec ℕ Global). numbers.items) (cond b (Some e.1) (lookup test es))) [
+    elim (test e.0) as (λ b. cond b (Some e.1.keys) (lookup test (drawers_of es)) ≡ option_map (λ (numbers : BTreeSet ℕ). numbers.keys) (cond b (Some e.1) (lookup test es))) [
       | true ↦ refl
       | false ↦ lookup-drawers test es
     ]
@@ -28,12 +24,12 @@ lookup-drawers test (e ∷ es) =
 pub filed_at : (es : Entries) (heading : Heading) (n : ℕ) → is_filed (drawers_of es) heading n ≡ is_in (lookup (same_heading heading) es) n
 filed_at es heading n = ap (λ o. option_map_or (has n) o false) (lookup-drawers (same_heading heading) es) ∙ by (lookup (same_heading heading) es)
   where
-    by : (o : Option (Vec ℕ Global)) → option_map_or (has n) (option_map (λ (numbers : Vec ℕ Global). numbers.items) o) false ≡ is_in o n
+    by : (o : Option (BTreeSet ℕ)) → option_map_or (has n) (option_map (λ (numbers : BTreeSet ℕ). numbers.keys) o) false ≡ is_in o n
     by None = refl
     by (Some numbers) = refl
 
 -- one heading has other numbers then
-module _ (old new : Entries) (heading : Heading) (then_there : Option (Vec ℕ Global))
+module _ (old new : Entries) (heading : Heading) (then_there : Option (BTreeSet ℕ))
     (changes : (q : Heading) → lookup (same_heading q) new ≡ cond (same_heading heading q) then_there (lookup (same_heading q) old)) where
   pub refiled : (f : Bool → Bool → Bool) → ((b : Bool) → b ≡ f b false) → (number : ℕ)
       → ((n : ℕ) → is_in then_there n ≡ f (is_in (lookup (same_heading heading) old) n) (number == n))
@@ -52,7 +48,7 @@ module _ (old new : Entries) (heading : Heading) (then_there : Option (Vec ℕ G
           ∙ ap (λ b. f (is_in (lookup (same_heading q) old) n) (b && (number == n))) (sym other)
 
 -- nothing was written
-pub unwritten : (es : Entries) (heading : Heading) (was : Option (Vec ℕ Global)) → lookup (same_heading heading) es ≡ was → (q : Heading) → lookup (same_heading q) es ≡ cond (same_heading heading q) was (lookup (same_heading q) es)
+pub unwritten : (es : Entries) (heading : Heading) (was : Option (BTreeSet ℕ)) → lookup (same_heading heading) es ≡ was → (q : Heading) → lookup (same_heading q) es ≡ cond (same_heading heading q) was (lookup (same_heading q) es)
 unwritten es heading was is q = by (same_heading heading q) refl
   where
     by : (b : Bool) → same_heading heading q ≡ b → lookup (same_heading q) es ≡ cond b was (lookup (same_heading q) es)
@@ -73,31 +69,13 @@ pub and_all : (b : Bool) → b ≡ (b && not false)
 and_all true = refl
 and_all false = refl
 
-pub has-pushed : (n number : ℕ) (numbers : List ℕ) → has n (numbers ++ number ∷ []) ≡ (has n numbers || (number == n))
-has-pushed n number numbers = list_any-append (λ own. own == n) numbers (number ∷ []) ∙ ap (λ b. has n numbers || b) (sym (or_none (number == n)))
-
-pub has-taken : (n number : ℕ) (numbers : List ℕ) → has n (filter (λ own. not (number == own)) numbers) ≡ (has n numbers && not (number == n))
-has-taken n number numbers =
-    any-filter_same (λ own. own == n) (λ own. not (number == own)) (not (number == n)) (λ own same. ap (λ m. not (number == m)) (eqb-true own n same)) numbers
-    ∙ swap (not (number == n)) (has n numbers)
-  where
-    swap : (a b : Bool) → (a && b) ≡ (b && a)
-    swap true true = refl
-    swap true false = refl
-    swap false true = refl
-    swap false false = refl
-
-pub has-none : (n : ℕ) (numbers : List ℕ) → length numbers ≡ 0 → has n numbers ≡ false
-has-none n [] none = refl
-has-none n (own ∷ numbers) none = absurd (omega arith)
-
-pub none-has : (numbers : List ℕ) → ((n : ℕ) → has n numbers ≡ false) → length numbers ≡ 0
-none-has [] none = refl
-none-has (own ∷ numbers) none = absurd (both_ways (has own (own ∷ numbers)) (none own) (or_left (own == own) (has own numbers) (eq-eqb own own refl)))
-
 -- what was written is what was there
-pub rewritten : (old new : Entries) (heading : Heading) (then_there : Option (Vec ℕ Global))
+pub rewritten : (old new : Entries) (heading : Heading) (then_there : Option (BTreeSet ℕ))
     → ((q : Heading) → lookup (same_heading q) new ≡ cond (same_heading heading q) then_there (lookup (same_heading q) old))
     → ((n : ℕ) → is_in then_there n ≡ is_in (lookup (same_heading heading) old) n)
     → (q : Heading) (n : ℕ) → is_filed (drawers_of new) q n ≡ is_filed (drawers_of old) q n
 rewritten old new heading then_there changes here = refiled old new heading then_there changes (λ a b. a) (λ b. refl) 0 here
+
+-- what a filing finds under a heading
+pub viewed : (seen : Drawers) (es : Entries) → drawers_of es ≡ seen → (heading : Heading) (drawer : Option (BTreeSet ℕ)) → drawer ≡ lookup (same_heading heading) es → (n : ℕ) → is_filed seen heading n ≡ is_in drawer n
+viewed seen es is heading drawer found n = ap (λ d. is_filed d heading n) (sym is) ∙ filed_at es heading n ∙ ap (λ o. is_in o n) (sym found)

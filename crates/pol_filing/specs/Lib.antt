@@ -1,4 +1,6 @@
 pub mod Heading
+pub mod Stands
 pub mod Filed
 pub mod Tried
 pub mod Inside
+pub mod RefLaws

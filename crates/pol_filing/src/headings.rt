@@ -1,13 +1,14 @@
-//! The headings under which the selectors of identities stand.
-ghost use Rattle.std.specs.Prelude.{◌≡◌, ◌||◌, true, OnOk, []};
+//! The headings under which identities are filed, and the selectors that may select them.
+ghost use Rattle.std.specs.Prelude.{◌≡◌, ◌+◌, ◌/◌, ◌||◌, OnOk, []};
 ghost use Rattle.std.specs.List.{list_any};
-ghost use Rattle.pol_filing.specs.Heading.{label_heading, same_heading};
-ghost use Rattle.pol_filing.specs.Tried.{AreKept, HasAllOf, is_among};
+ghost use Rattle.pol_filing.specs.Heading.{heading_by, label_heading, same_heading};
+ghost use Rattle.pol_filing.specs.Inside.{is_octets, stands_in_octets};
+ghost use Rattle.pol_filing.specs.Tried.{AreKept, HasAllOf, is_among, is_filed_as};
 ghost use Rattle.pol_filing.specs.declared.heading.Heading.{Heading as OneHeading};
-ghost use Rattle.pol_filing.specs.declared.heading.Heading.TheVariants.{Other, Prefix};
 
-use crate::Heading;
+use crate::{Heading, HeadingRef};
 use indexmap::IndexSet;
+use pol_addr::Prefix;
 use pol_data::Memory;
 use pol_labels::{Label, LabelSet};
 use std::alloc::Global;
@@ -40,14 +41,16 @@ impl Headings {
         }
     }
 
-    /// Adds the headings of all peers that select an identity of these labels, with a prefix or without one. The one
-    /// error is want of memory.
-    pub fn add_all_of(&mut self, labels: &LabelSet, has_prefix: bool) -> Result<(), Memory>
-        ensures all { OnOk result (HasAllOf labels.now has_prefix self.new) }
+    /// Adds the headings under which an identity of these labels and this prefix is filed; those of all peers that select
+    /// it are among them. The one error is want of memory.
+    pub fn add_all_of(&mut self, labels: &LabelSet, prefix: &Option<Prefix>) -> Result<(), Memory>
+        ensures added { OnOk result ((other : OneHeading) → is_among self.new other ≡ (is_among self.old other || is_filed_as labels.now prefix.now other)) }
+        ensures all { OnOk result (HasAllOf labels.now prefix.now self.new) }
         ensures kept { OnOk result (AreKept self.old self.new) }
     {
-        self.add_others(has_prefix)?;
+        self.add(&HeadingRef::Any)?;
         self.add_labels(labels.as_slice())?;
+        self.add_prefix(prefix)?;
         Ok(())
     }
 
@@ -58,44 +61,43 @@ impl Headings {
         self.set.as_slice()
     }
 
-    /// The headings of peers that ask for no label.
-    fn add_others(&mut self, has_prefix: bool) -> Result<(), Memory>
-        ensures other { OnOk result (is_among self.new Other ≡ true) }
-        ensures prefix { OnOk result (has_prefix ≡ true → is_among self.new Prefix ≡ true) }
-        ensures kept { OnOk result (AreKept self.old self.new) }
+    /// One heading more, which is copied where it isn't there yet.
+    fn add(&mut self, heading: &HeadingRef<'_>) -> Result<(), Memory>
+        ensures { OnOk result ((other : OneHeading) → is_among self.new other ≡ (is_among self.old other || same_heading (heading_by heading.now) other)) }
     {
-        self.add(Heading::Other)?;
-        if has_prefix {
-            self.add(Heading::Prefix)?;
+        if !self.set.contains(heading) {
+            self.set.insert(heading.to_heading(self.alloc)?)?;
         }
         Ok(())
     }
 
-    /// One heading more.
-    fn add(&mut self, heading: Heading) -> Result<(), Memory>
-        ensures { OnOk result ((other : OneHeading) → is_among self.new other ≡ (is_among self.old other || same_heading heading other)) }
-    {
-        self.set.insert(heading)?;
-        Ok(())
-    }
-
-    /// The heading of the label's key and value.
-    fn add_label(&mut self, label: &Label) -> Result<(), Memory>
-        ensures { OnOk result ((other : OneHeading) → is_among self.new other ≡ (is_among self.old other || same_heading (label_heading label.now) other)) }
-    {
-        let heading = Heading::Label {
-            key: label.key.copy(self.alloc)?,
-            value: label.value.copy(self.alloc)?,
-        };
-        self.add(heading)
-    }
-
-    /// The same of each label.
+    /// The heading of each label.
     fn add_labels(&mut self, labels: &[Label]) -> Result<(), Memory>
         ensures { OnOk result ((other : OneHeading) → is_among self.new other ≡ (is_among self.old other || list_any (λ label. same_heading (label_heading label) other) labels.now)) }
     {
         for label in labels {
-            self.add_label(label)?;
+            self.add(&HeadingRef::of_label(label))?;
+        }
+        Ok(())
+    }
+
+    /// The headings of the prefix, where there is one.
+    fn add_prefix(&mut self, prefix: &Option<Prefix>) -> Result<(), Memory>
+        ensures { OnOk result ((other : OneHeading) → is_among self.new other ≡ (is_among self.old other || stands_in_octets prefix.now other)) }
+    {
+        match prefix {
+            None => Ok(()),
+            Some(prefix) => self.add_octets(prefix),
+        }
+    }
+
+    /// The prefixes of whole octets in which this one lies, five at most.
+    fn add_octets(&mut self, prefix: &Prefix) -> Result<(), Memory>
+        ensures { OnOk result ((other : OneHeading) → is_among self.new other ≡ (is_among self.old other || is_octets prefix.now (prefix.now.len / 8 + 1) other)) }
+    {
+        for octets in 0..prefix.len() / 8 + 1 {
+            let octets = Prefix::new(prefix.network(), octets * 8);
+            self.add(&HeadingRef::Prefix(octets))?;
         }
         Ok(())
     }

@@ -8,3 +8,4 @@ pub mod RowLists
 pub mod RowsOf
 pub mod Selected
 pub mod SlotRows
+pub mod StandUnder

@@ -41,7 +41,7 @@ impl Identities {
                 if place >= CLUSTER_IDENTITIES {
                     return Err(IdentError::Exhausted);
                 }
-                self.cluster.add(labels.copy(self.alloc)?)?;
+                self.cluster.add(labels)?;
                 Ok(CLUSTER_FIRST + place)
             }
         }

@@ -3,11 +3,10 @@ ghost use Rattle.std.specs.Prelude.{◌≡◌, IfOk};
 ghost use Rattle.pol_model.specs.Identities.{reserved_identities};
 ghost use Rattle.pol_facts.specs.Keeps.{KeepsRows};
 
-use pol_addr::Prefix;
 use pol_data::Memory;
-use pol_labels::LabelSet;
+use pol_label_sets::LabelSets;
+use pol_local_prefixes::LocalPrefixes;
 use pol_model::{IdentityRow, reserved_rows};
-use pol_places::Places;
 use std::alloc::Global;
 use std::marker::Model;
 
@@ -15,10 +14,9 @@ use std::marker::Model;
 /// Terminology, "Identity" and "Special Identities"). Contracts see the list of their rows, which ascends by number.
 #[derive(Drop)]
 pub struct Identities {
-    pub(crate) alloc: Global,
     pub(crate) reserved: Vec<IdentityRow>,
-    pub(crate) cluster: Places<LabelSet>,
-    pub(crate) local: Places<Prefix>,
+    pub(crate) cluster: LabelSets,
+    pub(crate) local: LocalPrefixes,
 }
 
 impl Model for Identities {
@@ -40,10 +38,9 @@ impl Identities {
         ensures sound { IfOk result (λ identities. KeepsRows identities) }
     {
         Ok(Identities {
-            alloc,
             reserved: reserved_rows(alloc)?,
-            cluster: Places::new(alloc),
-            local: Places::new(alloc),
+            cluster: LabelSets::new(alloc),
+            local: LocalPrefixes::new(alloc),
         })
     }
 }

@@ -14,6 +14,7 @@ mod place;
 mod prefixes;
 mod release;
 mod select;
+mod under;
 
 pub use error::IdentError;
 pub use identities::Identities;

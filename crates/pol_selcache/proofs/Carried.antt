@@ -14,7 +14,7 @@ use Rattle.pol_selcache.specs.Plan.{Plan, Planned, change_to, after_changes, cha
 use Rattle.pol_selcache.specs.declared.plan.Planned.{Planned as Kept}
 use Rattle.pol_selcache.specs.Planned.{planned_in, planned_of}
 use Rattle.pol_selcache.proofs.Exact.{change_of_own, is_of}
-use Rattle.pol_selcache.proofs.LiveLists.{elsewhere, live_kept, numbers, there}
+use Rattle.pol_selectors.proofs.LiveLists.{elsewhere, live_kept, numbers, there}
 
 abbrev pub selectors : List Planned → List ℕ
 selectors changes = map (λ change. change.selector) changes

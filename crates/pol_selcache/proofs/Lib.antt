@@ -2,8 +2,6 @@ pub mod Numbers
 pub mod RowSets
 pub mod Moves
 pub mod Exact
-pub mod LiveLists
-pub mod Places
 pub mod Carried
 pub mod Planning
 pub mod Sound
@@ -11,7 +9,6 @@ pub mod Staying
 pub mod Retold
 pub mod Coming
 pub mod TakenBack
-pub mod Filed
 pub mod Untried
 pub mod Judged
 pub mod Sharing

@@ -10,7 +10,7 @@ use Rattle.pol_changes.specs.Log.{Log}
 use Rattle.pol_changes.specs.Log.{IsSound as IsLog}
 use Rattle.pol_selcache.specs.Cache.{IsSound}
 use Rattle.pol_selcache.specs.Live.{Live, AreExact, AreLive, is_live, one_less, one_more, with_numbers, where_number, with_reference, with_set, without_reference}
-use Rattle.pol_selcache.proofs.LiveLists.{numbers, numbers_kept, reference_keeps, set_keeps, unreference_keeps}
+use Rattle.pol_selectors.proofs.LiveLists.{numbers, numbers_kept, reference_keeps, set_keeps, unreference_keeps}
 
 abbrev pub AllBelow : ℕ → List Live → Type 0
 AllBelow next live = AllByRecursion (λ s. s.number < next) live

@@ -6,7 +6,7 @@ use Rattle.pol_rule.specs.contracts.policy.PeerPartialEq.TheImpl as peers
 use Rattle.pol_rule.specs.declared.policy.Peer.{Peer}
 use Rattle.pol_selcache.specs.Cache.{Cache, IsSound, added, added_by, number_added, or_next}
 use Rattle.pol_selcache.specs.Live.{Live, is_live, number_of, one_less, one_more, where_number, with_reference, without_reference}
-use Rattle.pol_selcache.proofs.LiveLists.{AllReferenced, all_stay, elsewhere, live_kept, there}
+use Rattle.pol_selectors.proofs.LiveLists.{AllReferenced, all_stay, elsewhere, live_kept, there}
 use Rattle.pol_selcache.proofs.Sound.{AllBelow, found_lives}
 
 -- one more and then one less

@@ -1,12 +1,12 @@
 -- The selectors that aren't tried don't change, and those that are come in the order of their numbers.
-use Rattle.std.proofs.Common.{zero, suc, ◌≡◌, ℕ, ◌+◌, ◌*◌, ◌==◌, ◌<◌, ◌≤◌, ◌&&◌, ◌||◌, not, Bool, true, false, cond, nat_lt, List, [], ◌∷◌, ◌++◌, length, take, slice_get, Some, None, option_map, refl, sym, ap, subst, ◌∙◌, arith}
+use Rattle.std.proofs.Common.{zero, suc, ◌≡◌, ℕ, ◌+◌, ◌*◌, ◌==◌, ◌<◌, ◌≤◌, ◌&&◌, ◌||◌, not, Bool, true, false, cond, nat_lt, List, [], ◌∷◌, ◌++◌, length, take, slice_get, Some, None, refl, sym, ap, subst, ◌∙◌, arith}
 use Rattle.std.specs.List.{AllByRecursion, cons_option, list_any}
 use Rattle.std.specs.List.Sorted.{IsStrictlySortedBy}
 use Rattle.std.specs.Ordering.{nat_cmp}
 use Rattle.std.specs.declared.cmp.Ordering.TheVariants.{Less, Equal, Greater}
-use Rattle.std.proofs.lemmas.Bool.{cond-true, cond-false, eq-eqb, false_from_ne_true, ltb-true, ne_eqb, or_right}
+use Rattle.std.proofs.lemmas.Bool.{cond-true, cond-false, eq-eqb, eqb-true, false_from_ne_true, ltb-true, ne_eqb, or_right}
 use Rattle.std.proofs.lemmas.List.Elements.{filter_map-append}
-use Rattle.std.proofs.lemmas.Option.{slice_get-get_or}
+use Rattle.std.proofs.lemmas.Option.{same_Some, slice_get-get_or}
 use Rattle.std.specs.Prelude.{slice_index}
 use Rattle.std.proofs.Math.Nat.{mul-le-mul_left}
 use Rattle.pol_data.proofs.Every.{every-weaker}
@@ -18,14 +18,14 @@ use Rattle.pol_model.specs.Ascending.{Ascends}
 use Rattle.pol_model.specs.declared.row.IdentityRow.{IdentityRow}
 use Rattle.pol_model.specs.Selects.{set_at}
 use Rattle.pol_changes.specs.Ids.{has}
-use Rattle.pol_selcache.specs.Filed.{HasAllAt}
+use Rattle.pol_selcache.specs.Tried.{HasAllAt}
 use Rattle.pol_ident.specs.Look.{selects_held}
 use Rattle.pol_selcache.specs.Held.{steps_of}
-use Rattle.pol_selcache.specs.Live.{Live, AreLive, label_selectors, rows_without}
+use Rattle.pol_selcache.specs.Live.{Live, AreLive, label_selectors, rows_without, selector_of}
 use Rattle.pol_selcache.specs.Moving.{Moving}
 use Rattle.pol_selcache.specs.Plan.{change_to, changes_for}
 use Rattle.pol_selcache.specs.Tried.{of_numbers}
-use Rattle.pol_selcache.proofs.LiveLists.{AllAbove, numbers}
+use Rattle.pol_selectors.proofs.LiveLists.{AllAbove, numbers}
 use Rattle.pol_selcache.proofs.Moves.{gained_is, lost_is}
 use Rattle.pol_selcache.proofs.Numbers.{has-append}
 use Rattle.pol_selcache.proofs.Planning.{labels-cons, stands}
@@ -204,15 +204,27 @@ pub record Trying (ns : List ℕ) (live : List Live) (j i : ℕ) (s : Live) : Ty
   pub tried_at : slice_get ns j ≡ Some s.number
   pub at : slice_get live i ≡ Some s
 
-pub known_trying : (ns : List ℕ) (live : List Live) (j i : ℕ) (s : Live) → j < length ns → Ascends ns → AreLive live → option_map (λ (t : Live). t.number) (slice_get live i) ≡ Some (slice_index ns j) → slice_get live i ≡ Some s → Trying ns live j i s
-known_trying ns live j i s within tried_ascend are place at =
-    let own : Some s.number ≡ Some (slice_index ns j) = ap (option_map (λ (t : Live). t.number)) (sym at) ∙ place in
-    record { tried_ascend = tried_ascend; ascend = are.numbers; tried_at = slice_get-get_or ns j 0 within ∙ sym own; at = at }
+stands_at : (n : ℕ) (live : List Live) (s : Live) → selector_of n live ≡ Some s → (i : ℕ) × (slice_get live i ≡ Some s) × (s.number ≡ n)
+stands_at n [] s found = absurd (let wrong : ⊥ = cc in wrong)
+stands_at n (t ∷ live) s found = by (t.number == n) refl found (stands_at n live s)
+  where
+    by : (b : Bool) → (t.number == n) ≡ b → cond b (Some t) (selector_of n live) ≡ Some s → (selector_of n live ≡ Some s → (i : ℕ) × (slice_get live i ≡ Some s) × (s.number ≡ n))
+        → (i : ℕ) × (slice_get (t ∷ live) i ≡ Some s) × (s.number ≡ n)
+    by true is here rest = (zero, here, ap (λ (u : Live). u.number) (sym (same_Some t s here)) ∙ eqb-true t.number n is)
+    by false is here rest = let later = rest here in (suc later.0, later.1, later.2)
+
+pub known_trying : (ns : List ℕ) (live : List Live) (j : ℕ) (s : Live) → j < length ns → Ascends ns → AreLive live → selector_of (slice_index ns j) live ≡ Some s → (i : ℕ) × Trying ns live j i s
+known_trying ns live j s within tried_ascend are found =
+    let there = stands_at (slice_index ns j) live s found in
+    (there.0, record { tried_ascend = tried_ascend; ascend = are.numbers; tried_at = slice_get-get_or ns j 0 within ∙ ap Some (sym there.2); at = there.1 })
 
 pub every_at : {X : Type 0} (P : X → Type 0) (xs : List X) (i : ℕ) (x : X) → AllByRecursion P xs → slice_get xs i ≡ Some x → P x
 every_at P [] i x all at = absurd (let wrong : ⊥ = cc in wrong)
 every_at P (y ∷ xs) zero x all at = subst P (let same : y ≡ x = cc in same) all.0
 every_at P (y ∷ xs) (suc i) x all at = every_at P xs i x all.1 at
+
+pub every_selected : (P : Live → Type 0) (n : ℕ) (live : List Live) (s : Live) → AllByRecursion P live → selector_of n live ≡ Some s → P s
+every_selected P n live s all found = let there = stands_at n live s found in every_at P live there.0 s all there.1
 
 module _ (ns : List ℕ) (live : List Live) (j i : ℕ) (s : Live) (known : Trying ns live j i s) where
   next_tried : of_numbers (take (j + 1) ns) live ≡ of_numbers (take j ns) live ++ s ∷ []

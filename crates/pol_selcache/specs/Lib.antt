@@ -2,8 +2,6 @@ pub mod Live
 pub mod Held
 pub mod Plan
 pub mod Cache
-pub mod Inside
-pub mod Filed
 pub mod Tried
 pub mod Planned
 pub mod Moving

@@ -5,9 +5,9 @@ ghost use Rattle.pol_changes.specs.Log.{empty_log, since};
 ghost use Rattle.pol_selcache.specs.Live.{is_live, selector_of};
 ghost use Rattle.pol_selcache.specs.Cache.{Cache, IsSound, dropped};
 
-use crate::table::Table;
 use pol_changes::ChangeLog;
 use pol_data::Memory;
+use pol_selectors::Selectors;
 use pol_sets::{IdSet, Move};
 use std::alloc::Global;
 use std::marker::Model;
@@ -19,7 +19,7 @@ use std::sync::Arc;
 #[derive(Drop)]
 pub struct SelectorCache {
     pub(crate) alloc: Global,
-    pub(crate) table: Table,
+    pub(crate) table: Selectors,
     // The number of the next new selector.
     pub(crate) next: u64,
     pub(crate) log: ChangeLog,
@@ -45,7 +45,7 @@ impl SelectorCache {
     {
         SelectorCache {
             alloc,
-            table: Table::new(alloc),
+            table: Selectors::new(alloc),
             next: 0,
             log: ChangeLog::new(alloc),
         }
@@ -74,7 +74,8 @@ impl SelectorCache {
         ensures set { IfOk result (λ set. option_map (λ s. s.set) (selector_of selector self.now.live) ≡ Some (arc_value set)) }
         ensures sound { IsSound self.now }
     {
-        Arc::try_clone(self.table.set_of(selector))
+        let (row, _) = self.table.row_near(selector, usize::MAX);
+        Arc::try_clone(&row.set)
     }
 
     /// What the set of a live selector gained and lost in all since a revision: the net change of its changes of a later

@@ -12,7 +12,6 @@ mod judge;
 pub mod laws;
 mod made;
 mod plan;
-mod table;
 mod tried;
 
 pub use cache::SelectorCache;

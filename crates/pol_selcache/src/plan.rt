@@ -9,7 +9,7 @@ ghost use Rattle.pol_selcache.specs.Live.{AreExact, is_live, label_selectors, ro
 ghost use Rattle.pol_selcache.specs.Held.{steps_of};
 ghost use Rattle.pol_selcache.specs.Plan.{change_to, is_empty, changed, changes_for, plan_for};
 ghost use Rattle.pol_selcache.specs.Cache.{IsPlanFor, IsSound, MayPlan, carried, with_room};
-ghost use Rattle.pol_selcache.specs.Inside.{live_of};
+ghost use Rattle.pol_selectors.specs.Inside.{live_of};
 ghost use Rattle.pol_selcache.specs.Moving.{Moving, one_carried};
 ghost use Rattle.pol_selcache.specs.Planned.{planned_in, planned_of};
 ghost use Rattle.pol_selcache.specs.Tried.{of_numbers};
@@ -18,12 +18,11 @@ use crate::SelectorCache;
 use crate::ids::{in_both, set_of_slice};
 use crate::judge::selected_of;
 use crate::made::{Made, shared};
-use crate::table::{Row, Table};
 use crate::tried::{headings_of, tried};
 use pol_changes::Change;
 use pol_data::{Memory, Steps};
 use pol_ident::Identities;
-use pol_rule::Peer;
+use pol_selectors::{Row, Selectors};
 use pol_sets::IdSet;
 use std::alloc::Global;
 use std::marker::Model;
@@ -78,7 +77,7 @@ fn push_some(changes: &mut Vec<Planned>, change: Option<Planned>) -> Result<(), 
 /// that was made last, where that is it.
 fn plan_one<L: Ledger>(
     alloc: Global,
-    peer: &Peer,
+    number: u64,
     row: &Row,
     come: &IdSet,
     gone: &IdSet,
@@ -86,18 +85,18 @@ fn plan_one<L: Ledger>(
     last: &mut Option<Made>,
     steps: &mut Steps<L>,
 ) -> Result<Option<Planned>, Memory>
-    requires moving { Moving identities.now come.now gone.now peer.now (arc_value row.now.set) }
-    ensures change { IfOk result (λ change. option_map planned_of change ≡ change_to (set_at (rows_without gone.now identities.now) peer.now) (live_of (peer.now, row.now))) }
-    ensures cost { steps.new ≤ steps.old + steps_of peer.now * length come.now }
+    requires moving { Moving identities.now come.now gone.now row.now.peer (arc_value row.now.set) }
+    ensures change { IfOk result (λ change. option_map planned_of change ≡ change_to (set_at (rows_without gone.now identities.now) row.now.peer) (live_of number row.now)) }
+    ensures cost { steps.new ≤ steps.old + steps_of row.now.peer * length come.now }
 {
-    let gained = selected_of(alloc, peer, come, identities, steps)?;
+    let gained = selected_of(alloc, &row.peer, come, identities, steps)?;
     let lost = in_both(alloc, gone, &row.set)?;
     if is_still(&gained, &lost) {
         return Ok(None);
     }
     let set = shared(alloc, &row.set, &gained, &lost, last)?;
     Ok(Some(Planned {
-        selector: row.number,
+        selector: number,
         gained,
         lost,
         set,
@@ -107,7 +106,7 @@ fn plan_one<L: Ledger>(
 /// The same of each selector of these numbers.
 fn plan_each<L: Ledger>(
     alloc: Global,
-    table: &Table,
+    table: &Selectors,
     tried: &[u64],
     come: &IdSet,
     gone: &IdSet,
@@ -124,10 +123,11 @@ fn plan_each<L: Ledger>(
     let mut near = 0;
     let mut last = None;
     for number in tried {
-        let place = table.place_near(*number, near);
-        near = place.wrapping_add(1);
-        let (peer, row) = table.at(place);
-        let change = plan_one(alloc, peer, row, come, gone, identities, &mut last, steps)?;
+        let (row, next) = table.row_near(*number, near);
+        near = next;
+        let change = plan_one(
+            alloc, *number, row, come, gone, identities, &mut last, steps,
+        )?;
         push_some(&mut changes, change)?;
     }
     Ok(changes)
@@ -137,7 +137,7 @@ fn plan_each<L: Ledger>(
 /// peer selects it.
 fn plan_all<L: Ledger>(
     alloc: Global,
-    table: &Table,
+    table: &Selectors,
     come: &IdSet,
     gone: &IdSet,
     identities: &Identities,
@@ -205,11 +205,11 @@ impl SelectorCache {
         let _ = &self.next;
         let mut near = 0;
         for change in changes {
-            near = self.carry_one(revision, change, near).wrapping_add(1);
+            near = self.carry_one(revision, change, near);
         }
     }
 
-    /// Makes one change, of a selector that is looked for at a place first, and gives its place.
+    /// Makes one change, of a selector that is looked for at a place first, and gives the place behind it.
     fn carry_one(&mut self, revision: u64, change: Planned, near: usize) -> usize
         requires live { is_live change.selector self.old.live ≡ true }
         requires in_order { newest self.old.log ≤ revision }
@@ -223,14 +223,14 @@ impl SelectorCache {
             lost,
             set,
         } = change;
-        let place = self.table.put_set(selector, set, near);
+        let next = self.table.put_set(selector, set, near);
         self.log.record(Change {
             selector,
             revision,
             gained,
             lost,
         });
-        place
+        next
     }
 
     /// `plan`, and then `carry_out`.

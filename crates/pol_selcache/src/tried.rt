@@ -5,13 +5,13 @@ ghost use Rattle.pol_changes.specs.Ids.{has};
 ghost use Rattle.pol_filing.specs.Heading.{heading_of};
 ghost use Rattle.pol_filing.specs.Tried.{AreKept, is_among};
 ghost use Rattle.pol_model.specs.Ascending.{Ascends};
-ghost use Rattle.pol_selcache.specs.Filed.{HasAllAt};
+ghost use Rattle.pol_selcache.specs.Tried.{HasAllAt};
 ghost use Rattle.pol_selcache.specs.Live.{is_live};
 
-use crate::table::Table;
 use pol_data::Memory;
 use pol_filing::Headings;
 use pol_ident::Identities;
+use pol_selectors::Selectors;
 use pol_sets::IdSet;
 use std::alloc::Global;
 
@@ -24,7 +24,7 @@ fn add_number(headings: &mut Headings, number: u32, identities: &Identities) -> 
         None => Ok(()),
         Some(labels) => {
             let prefix = identities.prefix_of(number);
-            headings.add_all_of(labels, prefix.is_some())
+            headings.add_all_of(labels, &prefix)
         }
     }
 }
@@ -72,7 +72,11 @@ fn ascending(numbers: Vec<u64>) -> Result<Vec<u64>, Memory>
 }
 
 /// The numbers of the selectors that stand under some of the headings, ascending.
-pub(crate) fn tried(alloc: Global, table: &Table, headings: &Headings) -> Result<Vec<u64>, Memory>
+pub(crate) fn tried(
+    alloc: Global,
+    table: &Selectors,
+    headings: &Headings,
+) -> Result<Vec<u64>, Memory>
     ensures live { IfOk result (λ numbers. AllByRecursion (λ n. is_live n table.now ≡ true) numbers.items) }
     ensures all { IfOk result (λ numbers. AllByRecursion (λ s. is_among headings.now (heading_of s.peer) ≡ true → has s.number numbers.items ≡ true) table.now) }
     ensures ascend { IfOk result (λ numbers. Ascends numbers.items) }

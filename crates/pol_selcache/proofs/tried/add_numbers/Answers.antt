@@ -1,7 +1,7 @@
 use Rattle.std.proofs.Common.{◌<◌, length, take, arith}
 use Rattle.std.specs.Prelude.{slice_index}
 use Rattle.std.proofs.lemmas.Option.{slice_get-get_or}
-use Rattle.pol_selcache.specs.Filed.{HasAllAt}
+use Rattle.pol_selcache.specs.Tried.{HasAllAt}
 use Rattle.pol_selcache.proofs.Untried.{all_kept, every_more}
 use Rattle.pol_selcache.proofs.tried.add_numbers.Goals as goal
 

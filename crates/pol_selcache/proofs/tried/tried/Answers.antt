@@ -4,7 +4,7 @@ use Rattle.pol_data.proofs.Members.{every-from_in}
 use Rattle.pol_filing.specs.Heading.{heading_of}
 use Rattle.pol_filing.specs.Tried.{is_among}
 use Rattle.pol_selcache.specs.Live.{Live, is_live}
-use Rattle.pol_selcache.proofs.Filed.{In_stands, stands_lives}
+use Rattle.pol_selectors.proofs.Kept.{In_stands, stands_lives}
 use Rattle.pol_selcache.proofs.Numbers.{has-In}
 use Rattle.pol_selcache.proofs.tried.tried.Goals as goal
 

@@ -52,24 +52,19 @@ returns-then-place-ge-CLUSTER_IDENTITIES-clause-exhausted c =
     rw (← c.self.view_is) (λ e. full, λ e. refl)
 
 -- a new set takes one
-pub returns-in_err-copy-in-None-2-clause-exhausted : goal.returns-in_err-copy-in-None-2-clause-exhausted
-returns-in_err-copy-in-None-2-clause-exhausted c =
-    let held = (hold-new _ _ _ c.self.invariant c.args.labels.now c.in-None-2.ensures.none (not_reserved c.args.labels.now (sym c.is_init.ensures ∙ c.if-is_init.false) c.requires.allowed) c.as_slice-ordered.ensures.ordered c.requires.allowed _ c.free_place-place.ensures c.if-place-ge-CLUSTER_IDENTITIES.false) in
-    rw (← c.self.view_is) (λ e. absurd (memory_only c.from_residual-in_err-copy-in-None-2.result c.from_residual-in_err-copy-in-None-2.ensures.1 e), λ full. absurd (both_ways _ held.room full))
-
 pub returns-in_err-add-in-None-2-clause-exhausted : goal.returns-in_err-add-in-None-2-clause-exhausted
 returns-in_err-add-in-None-2-clause-exhausted c =
     let held = (hold-new _ _ _ c.self.invariant c.args.labels.now c.in-None-2.ensures.none (not_reserved c.args.labels.now (sym c.is_init.ensures ∙ c.if-is_init.false) c.requires.allowed) c.as_slice-ordered.ensures.ordered c.requires.allowed _ c.free_place-place.ensures c.if-place-ge-CLUSTER_IDENTITIES.false) in
     rw (← c.self.view_is) (λ e. absurd (memory_only c.from_residual-in_err-add-in-None-2.result c.from_residual-in_err-add-in-None-2.ensures.1 e), λ full. absurd (both_ways _ held.room full))
 
 pub invariant_of-self-in-None-2 : goal.invariant_of-self-in-None-2
-invariant_of-self-in-None-2 c = rw (c.in_ok-add-in-None-2.ensures.ok, c.in_ok-copy-in-None-2.ensures.equal) (hold-new _ _ _ c.self.invariant c.args.labels.now c.in-None-2.ensures.none (not_reserved c.args.labels.now (sym c.is_init.ensures ∙ c.if-is_init.false) c.requires.allowed) c.as_slice-ordered.ensures.ordered c.requires.allowed _ c.free_place-place.ensures c.if-place-ge-CLUSTER_IDENTITIES.false).kept
+invariant_of-self-in-None-2 c = rw c.in_ok-add-in-None-2.ensures.ok (hold-new _ _ _ c.self.invariant c.args.labels.now c.in-None-2.ensures.none (not_reserved c.args.labels.now (sym c.is_init.ensures ∙ c.if-is_init.false) c.requires.allowed) c.as_slice-ordered.ensures.ordered c.requires.allowed _ c.free_place-place.ensures c.if-place-ge-CLUSTER_IDENTITIES.false).kept
 
 pub returns-in_ok-add-in-None-2-clause-number : goal.returns-in_ok-add-in-None-2-clause-number
 returns-in_ok-add-in-None-2-clause-number c = rw (← c.self.view_is) (hold-new _ _ _ c.self.invariant c.args.labels.now c.in-None-2.ensures.none (not_reserved c.args.labels.now (sym c.is_init.ensures ∙ c.if-is_init.false) c.requires.allowed) c.as_slice-ordered.ensures.ordered c.requires.allowed _ c.free_place-place.ensures c.if-place-ge-CLUSTER_IDENTITIES.false).number
 
 pub returns-in_ok-add-in-None-2-clause-ok : goal.returns-in_ok-add-in-None-2-clause-ok
-returns-in_ok-add-in-None-2-clause-ok c = rw (c.in_ok-add-in-None-2.ensures.ok, c.in_ok-copy-in-None-2.ensures.equal, ← c.self.view_is) (hold-new _ _ _ c.self.invariant c.args.labels.now c.in-None-2.ensures.none (not_reserved c.args.labels.now (sym c.is_init.ensures ∙ c.if-is_init.false) c.requires.allowed) c.as_slice-ordered.ensures.ordered c.requires.allowed _ c.free_place-place.ensures c.if-place-ge-CLUSTER_IDENTITIES.false).is
+returns-in_ok-add-in-None-2-clause-ok c = rw (c.in_ok-add-in-None-2.ensures.ok, ← c.self.view_is) (hold-new _ _ _ c.self.invariant c.args.labels.now c.in-None-2.ensures.none (not_reserved c.args.labels.now (sym c.is_init.ensures ∙ c.if-is_init.false) c.requires.allowed) c.as_slice-ordered.ensures.ordered c.requires.allowed _ c.free_place-place.ensures c.if-place-ge-CLUSTER_IDENTITIES.false).is
 
 pub returns-in_ok-add-in-None-2-clause-exhausted : goal.returns-in_ok-add-in-None-2-clause-exhausted
 returns-in_ok-add-in-None-2-clause-exhausted c =

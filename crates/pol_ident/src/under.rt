@@ -1,0 +1,110 @@
+//! The identities under a heading, by the index of their kind.
+ghost use Rattle.std.specs.Prelude.{◌≡◌, ◌≤◌, ◌++◌, None, Some, IfOk, OnOk, filter, length, map};
+ghost use Rattle.pol_facts.specs.Keeps.{KeepsRows};
+ghost use Rattle.pol_filing.specs.declared.heading.Heading.TheVariants.{Label as ByLabel};
+ghost use Rattle.pol_filing.specs.Heading.{heading_by};
+ghost use Rattle.pol_filing.specs.Stands.{stands_under, stands_with};
+ghost use Rattle.pol_label_sets.specs.Carried.{carries_heading};
+ghost use Rattle.pol_model.specs.Worlds.{ipv4, world_around, world_labels};
+ghost use Rattle.pol_places.specs.Slots.{numbers_where};
+
+use crate::Identities;
+use pol_data::Memory;
+use pol_filing::HeadingRef;
+use pol_label_sets::LabelSets;
+use pol_labels::LabelSet;
+use pol_local_prefixes::LocalPrefixes;
+use pol_model::{
+    CLUSTER_FIRST, CLUSTER_IDENTITIES, IdentityRow, LOCAL_FIRST, LOCAL_IDENTITIES, WORLD_IDENTITY,
+};
+use std::alloc::Global;
+
+/// Whether some label has this key and this value, whatever its source.
+fn has_label(labels: &LabelSet, key: &str, value: &str) -> bool
+    ensures { result ≡ carries_heading (ByLabel key.now value.now) labels.now }
+{
+    labels.as_slice().iter().any(|own| own.key.as_str() == key && own.value.as_str() == value)
+}
+
+/// Whether the row stands under the heading.
+fn stands_under(row: &IdentityRow, heading: &HeadingRef<'_>) -> bool
+    ensures { result ≡ stands_under (heading_by heading.now) row.now }
+{
+    match heading {
+        HeadingRef::Label { key, value } => has_label(&row.labels, *key, *value),
+        HeadingRef::Prefix(within) => match &row.prefix {
+            Some(own) => within.covers(own),
+            None => false,
+        },
+        HeadingRef::Any => true,
+    }
+}
+
+/// The numbers of the rows that stand under the heading.
+fn numbers_of(
+    alloc: Global,
+    rows: &[IdentityRow],
+    heading: &HeadingRef<'_>,
+) -> Result<Vec<u32>, Memory>
+    ensures { IfOk result (λ numbers. numbers.items ≡ map (λ row. row.number) (filter (stands_under (heading_by heading.now)) rows.now)) }
+{
+    rows.iter()
+        .filter(|row| stands_under(*row, heading))
+        .map(|row| row.number)
+        .collect(alloc)
+}
+
+/// Puts the numbers of the label sets that stand under the heading behind these.
+fn push_cluster(
+    cluster: &LabelSets,
+    heading: &HeadingRef<'_>,
+    numbers: &mut Vec<u32>,
+) -> Result<(), Memory>
+    requires few { length cluster.now ≤ CLUSTER_IDENTITIES }
+    ensures { OnOk result (numbers.new.items ≡ numbers.old.items ++ numbers_where CLUSTER_FIRST (λ labels. stands_with labels None (heading_by heading.now)) cluster.now) }
+{
+    match heading {
+        HeadingRef::Label { .. } => cluster.push_numbers_with(CLUSTER_FIRST, heading, numbers),
+        HeadingRef::Prefix(_) => Ok(()),
+        HeadingRef::Any => cluster.push_numbers(CLUSTER_FIRST, numbers),
+    }
+}
+
+/// Puts the numbers of the prefixes that stand under the heading behind these. Each has the labels of the world.
+fn push_local(
+    local: &LocalPrefixes,
+    world: &LabelSet,
+    heading: &HeadingRef<'_>,
+    numbers: &mut Vec<u32>,
+) -> Result<(), Memory>
+    requires few { length local.now ≤ LOCAL_IDENTITIES }
+    requires world { world.now ≡ world_labels ipv4 }
+    ensures { OnOk result (numbers.new.items ≡ numbers.old.items ++ numbers_where LOCAL_FIRST (λ prefix. stands_with (world_labels (world_around prefix)) (Some prefix) (heading_by heading.now)) local.now) }
+{
+    match heading {
+        HeadingRef::Label { key, value } => {
+            if has_label(world, *key, *value) {
+                local.push_numbers(LOCAL_FIRST, numbers)
+            } else {
+                Ok(())
+            }
+        }
+        HeadingRef::Prefix(within) => local.push_numbers_within(LOCAL_FIRST, within, numbers),
+        HeadingRef::Any => local.push_numbers(LOCAL_FIRST, numbers),
+    }
+}
+
+impl Identities {
+    /// The numbers of the identities that stand under the heading, ascending: of the reserved ones each is looked at, of the
+    /// others those alone that are filed under it ('profile'). The one error is want of memory.
+    pub fn numbers_under(&self, alloc: Global, heading: &HeadingRef<'_>) -> Result<Vec<u32>, Memory>
+        ensures numbers { IfOk result (λ numbers. numbers.items ≡ map (λ row. row.number) (filter (stands_under (heading_by heading.now)) self.now)) }
+        ensures sound { KeepsRows self.now }
+    {
+        let mut numbers = numbers_of(alloc, &self.reserved, heading)?;
+        push_cluster(&self.cluster, heading, &mut numbers)?;
+        let world = &self.reserved[WORLD_IDENTITY as usize - 1];
+        push_local(&self.local, &world.labels, heading, &mut numbers)?;
+        Ok(numbers)
+    }
+}

@@ -1,0 +1,4 @@
+pub mod LiveLists
+pub mod Middle
+pub mod Placed
+pub mod Kept
