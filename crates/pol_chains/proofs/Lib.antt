@@ -6,3 +6,4 @@ pub mod Numbers
 pub mod Retold
 pub mod Chains
 pub mod MoveLaws
+pub mod Worked

@@ -1,3 +1,4 @@
 pub mod Changes
 pub mod Chained
 pub mod Moves
+pub mod Examples

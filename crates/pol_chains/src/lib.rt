@@ -6,6 +6,7 @@
 //! journal makes, and `specs/Chained` says what a repository has to keep to tell them.
 #![tactic(auto)]
 
+pub mod examples;
 pub mod laws;
 mod moves;
 

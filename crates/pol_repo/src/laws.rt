@@ -1,9 +1,11 @@
 //! Laws, each the contract of a function that does nothing.
-ghost use Rattle.std.specs.Prelude.{◌≡◌, ◌∷◌, ℕ, List, [], Some, codes, false, true};
+ghost use Rattle.std.specs.Prelude.{◌≡◌, ◌<◌, ◌^◌, ◌∷◌, ℕ, List, [], None, Some, codes, false, true};
+ghost use Rattle.std.specs.Arc.{arc_value};
 ghost use Rattle.pol_addr.specs.Address.{IsAddr};
 ghost use Rattle.pol_addr.specs.declared.address.Addr.{Addr};
 ghost use Rattle.pol_ports.specs.declared.Direction.{Direction};
 ghost use Rattle.pol_ports.specs.declared.Proto.{Proto};
+ghost use Rattle.pol_mapkey.specs.Entries.{read_map};
 ghost use Rattle.pol_rule.specs.declared.policy.Peer.TheVariants.{Cidr};
 ghost use Rattle.pol_rule.specs.declared.policy.Peers.TheVariants.{Listed};
 ghost use Rattle.pol_model.specs.declared.answer.Trace.{Trace};
@@ -15,15 +17,20 @@ ghost use Rattle.pol_model.specs.declared.request.Request.{Request};
 ghost use Rattle.pol_model.specs.declared.request.Request.TheVariants.{AddIdentity, Apply, Remove, RemoveEndpoint, RemoveIdentity, SetMode};
 ghost use Rattle.pol_model.specs.declared.row.Endpoint.{Endpoint};
 ghost use Rattle.pol_model.specs.After.{state_of};
+ghost use Rattle.pol_model.specs.Committed.{committed_of, slots_of};
 ghost use Rattle.pol_model.specs.Endpoints.{endpoint_of};
 ghost use Rattle.pol_model.specs.Explain.{explain_of};
 ghost use Rattle.pol_model.specs.Remote.{number_at, verdict_at_address};
 ghost use Rattle.pol_model.specs.State.{State};
 ghost use Rattle.pol_model.specs.Verdict.{verdict_of};
-ghost use Rattle.pol_facts.specs.Examples.{app, net};
+ghost use Rattle.pol_facts.specs.Examples.{adds, app, net};
 ghost use Rattle.pol_facts.specs.Keeps.{Keeps};
 ghost use Rattle.pol_facts.specs.WithoutFaults.{WithoutFaults};
 ghost use Rattle.pol_facts.specs.WorkedMaps.{all_let_in, app_peer, ingress_policy, key_of, ordinary, web, x_denied};
+ghost use Rattle.pol_distill.specs.Distilled.{distilled};
+ghost use Rattle.pol_addresses.specs.AddressTable.{number_in};
+ghost use Rattle.pol_taken.specs.declared.taken.Taken.{Taken as OneTaken};
+ghost use Rattle.pol_taken.specs.OfState.{IsTakenOf};
 ghost use Rattle.pol_requests.specs.Readied.{is_of_policy};
 ghost use Rattle.pol_repo.specs.Cost.{label_peers};
 
@@ -52,4 +59,24 @@ pub fn label_peers_are_counted_once()
     ensures none { label_peers [] ≡ 0 }
     ensures of_a_policy { (is_of_policy (Apply (ingress_policy (codes "p") [] [])) ≡ true) × (is_of_policy (Remove (key_of (codes "p"))) ≡ true) }
     ensures of_none { (is_of_policy web ≡ false) × (is_of_policy (RemoveEndpoint (codes "web")) ≡ false) × (is_of_policy (AddIdentity (codes "x") (app (codes "x"))) ≡ false) × (is_of_policy (RemoveIdentity (codes "x")) ≡ false) × (is_of_policy (SetMode Always) ≡ false) }
+{}
+
+/// What is taken for an endpoint judges each address as a scan of the rules does: the map of its filters and sets, read at
+/// the number that its addresses give, has the verdict at the address, judged by itself, in the state that it was taken of.
+pub fn what_is_taken_judges_addresses()
+    ensures { (options : Options) (requests : List Request) (slot : ℕ) (taken : OneTaken) (dir : Direction) (address : Addr) (proto : Proto) (port : ℕ)
+        → WithoutFaults options requests → IsTakenOf options (state_of options requests) slot taken → IsAddr address → port < 2 ^ 16
+        → read_map (distilled (arc_value taken.filters) taken.sets) dir (number_in address (arc_value taken.addresses)) proto port
+        ≡ verdict_at_address options (state_of options requests) taken.endpoint dir address proto port }
+{}
+
+/// An answer has one slot more than the greatest that is live, and the identity of what the request added. Each case is
+/// computed.
+pub fn answers_tell_slots()
+    ensures first_gone { slots_of (state_of ordinary (adds (codes "a") 1 ∷ adds (codes "b") 2 ∷ RemoveEndpoint (codes "a") ∷ [])).endpoints ≡ 2 }
+    ensures last_gone { slots_of (state_of ordinary (adds (codes "a") 1 ∷ adds (codes "b") 2 ∷ RemoveEndpoint (codes "b") ∷ [])).endpoints ≡ 1 }
+    ensures none { slots_of [] ≡ 0 }
+    ensures endpoint { committed_of (state_of ordinary (adds (codes "a") 1 ∷ adds (codes "b") 2 ∷ [])) (adds (codes "b") 2) ≡ record { revision = 2; identity = Some 257; slots = 2 } }
+    ensures identity { committed_of (state_of ordinary (adds (codes "a") 1 ∷ AddIdentity (codes "b") (app (codes "a")) ∷ [])) (AddIdentity (codes "b") (app (codes "a"))) ≡ record { revision = 2; identity = Some 256; slots = 1 } }
+    ensures mode { committed_of (state_of ordinary (adds (codes "a") 1 ∷ SetMode Always ∷ [])) (SetMode Always) ≡ record { revision = 2; identity = None; slots = 1 } }
 {}

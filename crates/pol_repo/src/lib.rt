@@ -14,6 +14,10 @@ mod prepare;
 mod repo;
 mod take;
 
+pub use pol_model::{
+    CommitError, Committed, Endpoint as EndpointRow, Fault, FullList, FullSlot, Query, Refused,
+    Remote, Request, Trace,
+};
 pub use pol_taken::{Addresses, Move, Moves, SetRow, Sets, TakeError, Taken};
 pub use prepare::Ready;
 pub use repo::Repo;
