@@ -6,7 +6,6 @@ use Rattle.pol_labels.specs.declared.label.Label.{Label}
 use Rattle.pol_labels.specs.declared.requirement.Requirement.{Requirement}
 use Rattle.pol_labels.specs.Match.{matches}
 use Rattle.std.proofs.Math.Nat.{mul-le-mul_left}
-use Rattle.pol_filing.specs.Heading.{heading_of}
 use Rattle.pol_filing.specs.Stands.{stands_under}
 use Rattle.pol_facts.specs.Holding.{row_of}
 use Rattle.pol_model.specs.declared.row.IdentityRow.{IdentityRow}
@@ -14,7 +13,7 @@ use Rattle.pol_model.specs.Selects.{selects_row}
 use Rattle.pol_rule.specs.declared.policy.Peer.{Peer}
 use Rattle.pol_rule.specs.declared.policy.Peer.TheVariants.{Labels}
 use Rattle.pol_ident.specs.Look.{labels_at, selects_held}
-use Rattle.pol_selcache.specs.Held.{rows_judged, steps_at, steps_of}
+use Rattle.pol_selcache.specs.Held.{judged_under, rows_judged, steps_at, steps_of}
 
 module _ (rows : List IdentityRow) (n : ℕ) where
   module _ (selector : List Requirement) where
@@ -51,4 +50,4 @@ fewer test (row ∷ rows) = by (test row) (fewer test rows)
     by false rest = omega arith
 
 pub judged_at_most : (rows : List IdentityRow) (p : Peer) → steps_of p * length (rows_judged rows p) ≤ steps_of p * length rows
-judged_at_most rows p = mul-le-mul_left (steps_of p) (fewer (stands_under (heading_of p)) rows)
+judged_at_most rows p = mul-le-mul_left (steps_of p) (fewer (stands_under (judged_under p)) rows)

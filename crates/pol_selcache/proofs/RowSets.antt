@@ -4,22 +4,23 @@ use Rattle.std.specs.List.{AllByRecursion, list_any}
 use Rattle.std.specs.List.Sorted.{IsStrictlySortedBy}
 use Rattle.std.specs.Option.{option_map_or}
 use Rattle.std.specs.Ordering.{nat_cmp}
-use Rattle.std.proofs.lemmas.Bool.{cases_Bool, eqb-true, and_right, ne_eqb}
+use Rattle.std.proofs.lemmas.Bool.{and_parts, cases_Bool, eqb-true, and_right, ne_eqb}
 use Rattle.std.proofs.lemmas.Map.Views.{any-filter_same}
 use Rattle.pol_facts.proofs.Membership.{In-filter, In-map, filter-In, list_any-map, map-In}
 use Rattle.pol_facts.proofs.SelectedPeerSets.{set_ascends}
 use Rattle.pol_facts.specs.Holding.{row_of}
 use Rattle.pol_model.specs.declared.row.IdentityRow.{IdentityRow}
-use Rattle.pol_filing.specs.Heading.{heading_of}
+use Rattle.pol_addr.specs.Prefix.{covers}
 use Rattle.pol_filing.specs.Stands.{stands_under}
 use Rattle.pol_filing.proofs.Selected.{selected_stands}
 use Rattle.pol_model.specs.Selects.{selects_row, set_at}
 use Rattle.pol_model.proofs.AscendingStates.{RowsAscend}
 use Rattle.pol_model.proofs.Ascents.{filter_ascends}
 use Rattle.pol_rule.specs.declared.policy.Peer.{Peer}
+use Rattle.pol_rule.specs.declared.policy.Peer.TheVariants as peer
 use Rattle.pol_ident.specs.Look.{selects_held}
 use Rattle.pol_changes.specs.Ids.{has}
-use Rattle.pol_selcache.specs.Held.{rows_judged}
+use Rattle.pol_selcache.specs.Held.{judged_under, rows_judged}
 use Rattle.pol_selcache.specs.Live.{rows_without}
 use Rattle.std.proofs.lemmas.List.Kept.{IsStrictlySortedBy-filter}
 use Rattle.pol_data.proofs.Members.{In}
@@ -117,8 +118,14 @@ module _ (p : Peer) (rows few : List IdentityRow) (ascend : RowsAscend rows) (fe
       within true b implies = implies refl
       within false b implies = refl
 
--- of the numbers under the peer's heading those that it selects are its set
+-- who is selected is judged
+selected_judged : (p : Peer) (row : IdentityRow) → selects_row p row ≡ true → stands_under (judged_under p) row ≡ true
+selected_judged (peer.Labels selector) row selected = selected_stands (peer.Labels selector) row selected
+selected_judged (peer.Cidr prefix except) row selected = (and_parts (option_map_or (covers prefix) row.prefix false) _ selected).0
+selected_judged (peer.Entity entity) row selected = selected_stands (peer.Entity entity) row selected
+
+-- of the numbers that are judged those that the peer selects are its set
 pub judged_selected : (rows : List IdentityRow) (p : Peer) → RowsAscend rows → filter (selects_held rows p) (map (λ row. row.number) (rows_judged rows p)) ≡ set_at rows p
 judged_selected rows p ascend =
-    selected_among p rows (rows_judged rows p) ascend (filter_ascends (λ row. row.number) (stands_under (heading_of p)) rows ascend)
-    (λ row there selected. filter-In (stands_under (heading_of p)) row rows there (selected_stands p row selected))
+    selected_among p rows (rows_judged rows p) ascend (filter_ascends (λ row. row.number) (stands_under (judged_under p)) rows ascend)
+    (λ row there selected. filter-In (stands_under (judged_under p)) row rows there (selected_judged p row selected))

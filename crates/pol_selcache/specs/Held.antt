@@ -2,10 +2,13 @@
 use Rattle.std.specs.Prelude.{ℕ, if◌then◌else◌, List, filter}
 use Rattle.std.specs.Option.{option_map_or}
 use Rattle.pol_facts.specs.Holding.{row_of}
+use Rattle.pol_filing.specs.declared.heading.Heading.{Heading}
+use Rattle.pol_filing.specs.declared.heading.Heading.TheVariants as heading
 use Rattle.pol_filing.specs.Heading.{heading_of}
 use Rattle.pol_filing.specs.Stands.{stands_under}
 use Rattle.pol_model.specs.declared.row.IdentityRow.{IdentityRow}
 use Rattle.pol_rule.specs.declared.policy.Peer.{Peer}
+use Rattle.pol_rule.specs.declared.policy.Peer.TheVariants as peer
 use Rattle.pol_selcache.specs.Live.{is_label_peer}
 
 -- how many match steps it takes to judge one number
@@ -16,6 +19,13 @@ steps_of p = if is_label_peer p then 1 else 0
 abbrev pub steps_at : List IdentityRow → Peer → ℕ → ℕ
 steps_at rows p number = option_map_or (λ (row : IdentityRow). steps_of p) (row_of number rows) 0
 
--- the rows that are judged for a peer's new selector: those that stand under its heading
+-- Under what the identities stand that are judged for a peer's new selector: under a prefix itself, and else under the
+-- peer's heading.
+abbrev pub judged_under : Peer → Heading
+judged_under (peer.Labels selector) = heading_of (peer.Labels selector)
+judged_under (peer.Cidr prefix except) = heading.Prefix prefix
+judged_under (peer.Entity entity) = heading_of (peer.Entity entity)
+
+-- the rows that are judged
 abbrev pub rows_judged : List IdentityRow → Peer → List IdentityRow
-rows_judged rows p = filter (stands_under (heading_of p)) rows
+rows_judged rows p = filter (stands_under (judged_under p)) rows

@@ -4,7 +4,8 @@ ghost use Rattle.pol_facts.specs.Keeps.{KeepsRows};
 ghost use Rattle.pol_model.specs.Selects.{set_at};
 ghost use Rattle.pol_ident.specs.Look.{selects_held};
 ghost use Rattle.pol_rule.specs.declared.policy.Peer.TheVariants.{Labels as LabelPeer};
-ghost use Rattle.pol_selcache.specs.Held.{rows_judged, steps_at, steps_of};
+ghost use Rattle.pol_filing.specs.Heading.{heading_by};
+ghost use Rattle.pol_selcache.specs.Held.{judged_under, rows_judged, steps_at, steps_of};
 
 use crate::ids::one_if;
 use pol_data::{Memory, Steps};
@@ -72,7 +73,17 @@ fn selected<L: Ledger>(
     Ok(own)
 }
 
-/// The held numbers that the peer selects. Those under its heading are judged, among which all are that it selects.
+/// Under what all identities stand that the peer selects.
+fn judged_under<'a>(peer: &'a Peer) -> HeadingRef<'a>
+    ensures { heading_by result ≡ judged_under peer.now }
+{
+    match peer {
+        Peer::Cidr { prefix, .. } => HeadingRef::Prefix(*prefix),
+        Peer::Labels(_) | Peer::Entity(_) => HeadingRef::of(peer),
+    }
+}
+
+/// The held numbers that the peer selects. Those alone are judged that stand where all do that it selects.
 pub(crate) fn set_of<L: Ledger>(
     alloc: Global,
     peer: &Peer,
@@ -82,7 +93,7 @@ pub(crate) fn set_of<L: Ledger>(
     ensures set { IfOk result (λ set. set ≡ set_at identities.now peer.now) }
     ensures cost { steps.new ≤ steps.old + steps_of peer.now * length (rows_judged identities.now peer.now) }
 {
-    let heading = HeadingRef::of(peer);
+    let heading = judged_under(peer);
     let numbers = identities.numbers_under(alloc, &heading)?;
     let own = selected(alloc, peer, numbers.as_slice(), identities, steps)?;
     Ok(IdSet::from_ascending(own))

@@ -15,7 +15,7 @@ pub from_ascending-requires : goal.from_ascending-requires
 from_ascending-requires g c =
     let rows = c.args.identities.now in
     let p = c.args.peer.now in
-    let numbers = c.as_slice.ensures.value ∙ c.in_ok-numbers.ensures.numbers ∙ ap (λ (h : Heading). map (λ (row : IdentityRow). row.number) (filter (stands_under h) rows)) c.of-heading.ensures in
+    let numbers = c.as_slice.ensures.value ∙ c.in_ok-numbers.ensures.numbers ∙ ap (λ (h : Heading). map (λ (row : IdentityRow). row.number) (filter (stands_under h) rows)) c.judged_under-heading.ensures in
     let is : c.in_ok-own.own.items ≡ set_at rows p =
     c.in_ok-own.ensures.selected ∙ ap (filter (selects_held rows p)) numbers ∙ judged_selected rows p c.numbers_under.ensures.sound.numbers in
     record { ascending = subst (IsStrictlySortedBy nat_cmp) (sym is) (set_sorted p rows c.numbers_under.ensures.sound.numbers) }
@@ -24,14 +24,14 @@ pub returns-clause-set : goal.returns-clause-set
 returns-clause-set g c =
     let rows = c.args.identities.now in
     let p = c.args.peer.now in
-    let numbers = c.as_slice.ensures.value ∙ c.in_ok-numbers.ensures.numbers ∙ ap (λ (h : Heading). map (λ (row : IdentityRow). row.number) (filter (stands_under h) rows)) c.of-heading.ensures in
+    let numbers = c.as_slice.ensures.value ∙ c.in_ok-numbers.ensures.numbers ∙ ap (λ (h : Heading). map (λ (row : IdentityRow). row.number) (filter (stands_under h) rows)) c.judged_under-heading.ensures in
     c.from_ascending.ensures ∙ c.in_ok-own.ensures.selected ∙ ap (filter (selects_held rows p)) numbers ∙ judged_selected rows p c.numbers_under.ensures.sound.numbers
 
 pub returns-clause-cost : goal.returns-clause-cost
 returns-clause-cost g c =
     let rows = c.args.identities.now in
     let p = c.args.peer.now in
-    let numbers = c.as_slice.ensures.value ∙ c.in_ok-numbers.ensures.numbers ∙ ap (λ (h : Heading). map (λ (row : IdentityRow). row.number) (filter (stands_under h) rows)) c.of-heading.ensures in
+    let numbers = c.as_slice.ensures.value ∙ c.in_ok-numbers.ensures.numbers ∙ ap (λ (h : Heading). map (λ (row : IdentityRow). row.number) (filter (stands_under h) rows)) c.judged_under-heading.ensures in
     let count = ap (λ n. steps_of p * n) (ap length numbers ∙ length-map (rows_judged rows p) (λ (row : IdentityRow). row.number)) in
     omega (arith, c.selected.ensures.cost, count)
 
@@ -39,6 +39,6 @@ pub returns-in_err-own-clause-cost : goal.returns-in_err-own-clause-cost
 returns-in_err-own-clause-cost g c =
     let rows = c.args.identities.now in
     let p = c.args.peer.now in
-    let numbers = c.as_slice.ensures.value ∙ c.in_ok-numbers.ensures.numbers ∙ ap (λ (h : Heading). map (λ (row : IdentityRow). row.number) (filter (stands_under h) rows)) c.of-heading.ensures in
+    let numbers = c.as_slice.ensures.value ∙ c.in_ok-numbers.ensures.numbers ∙ ap (λ (h : Heading). map (λ (row : IdentityRow). row.number) (filter (stands_under h) rows)) c.judged_under-heading.ensures in
     let count = ap (λ n. steps_of p * n) (ap length numbers ∙ length-map (rows_judged rows p) (λ (row : IdentityRow). row.number)) in
     omega (arith, c.selected.ensures.cost, count)
