@@ -98,7 +98,7 @@ labels_under selector labels own matched = by (find names_one selector) refl
     by (Some requirement) found = labels_stand labels own (under_first requirement) (matched_under selector labels requirement matched found)
 
 -- ---- what lies in a prefix lies in its first whole octets
-covers_octets : (p q : Prefix) → covers p q ≡ true → covers (whole_octets p) q ≡ true
+pub covers_octets : (p q : Prefix) → covers p q ≡ true → covers (whole_octets p) q ≡ true
 covers_octets p q over =
     let (short, bits) = covers-parts p q over in
     let shorter : p.len / 8 * 8 ≤ p.len = omega arith in

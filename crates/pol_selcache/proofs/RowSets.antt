@@ -1,5 +1,5 @@
 -- Which numbers the sets of a peer over some rows have.
-use Rattle.std.proofs.Common.{◌≡◌, ℕ, ◌==◌, ◌<◌, ◌&&◌, ◌||◌, Bool, true, false, cond, not, List, [], ◌∷◌, map, filter, Option, Some, None, is_some, refl, sym, ap, ◌∙◌, subst, inl, inr, arith}
+use Rattle.std.proofs.Common.{◌≡◌, ℕ, ◌==◌, ◌<◌, ◌&&◌, ◌||◌, Bool, true, false, cond, not, List, [], ◌∷◌, map, filter, Some, refl, sym, ap, ◌∙◌, subst, inl, inr, arith}
 use Rattle.std.specs.List.{AllByRecursion, list_any}
 use Rattle.std.specs.List.Sorted.{IsStrictlySortedBy}
 use Rattle.std.specs.Option.{option_map_or}
@@ -10,16 +10,16 @@ use Rattle.pol_facts.proofs.Membership.{In-filter, In-map, filter-In, list_any-m
 use Rattle.pol_facts.proofs.SelectedPeerSets.{set_ascends}
 use Rattle.pol_facts.specs.Holding.{row_of}
 use Rattle.pol_model.specs.declared.row.IdentityRow.{IdentityRow}
-use Rattle.pol_addr.specs.declared.network.Prefix.{Prefix}
-use Rattle.pol_labels.specs.declared.label.Label.{Label}
-use Rattle.pol_model.specs.Selects.{known_as, selects, selects_row, set_at}
+use Rattle.pol_filing.specs.Heading.{heading_of}
+use Rattle.pol_filing.specs.Stands.{stands_under}
+use Rattle.pol_filing.proofs.Selected.{selected_stands}
+use Rattle.pol_model.specs.Selects.{selects_row, set_at}
 use Rattle.pol_model.proofs.AscendingStates.{RowsAscend}
 use Rattle.pol_model.proofs.Ascents.{filter_ascends}
 use Rattle.pol_rule.specs.declared.policy.Peer.{Peer}
-use Rattle.pol_rule.specs.declared.policy.Peer.TheVariants.{Cidr}
 use Rattle.pol_ident.specs.Look.{selects_held}
-use Rattle.pol_ident.specs.Prefixed.{has_prefix, numbers_with_prefix}
 use Rattle.pol_changes.specs.Ids.{has}
+use Rattle.pol_selcache.specs.Held.{rows_judged}
 use Rattle.pol_selcache.specs.Live.{rows_without}
 use Rattle.std.proofs.lemmas.List.Kept.{IsStrictlySortedBy-filter}
 use Rattle.pol_data.proofs.Members.{In}
@@ -117,17 +117,8 @@ module _ (p : Peer) (rows few : List IdentityRow) (ascend : RowsAscend rows) (fe
       within true b implies = implies refl
       within false b implies = refl
 
--- of all held numbers those that the peer selects are its set
-pub all_selected : (rows : List IdentityRow) (p : Peer) → RowsAscend rows → filter (selects_held rows p) (map (λ row. row.number) rows) ≡ set_at rows p
-all_selected rows p ascend = selected_among p rows rows ascend ascend (λ row there selected. there)
-
--- no prefix selects an identity without one
-prefix_only : (prefix : Prefix) (except : List Prefix) (number : ℕ) (labels : List Label) (own : Option Prefix) → selects (known_as number labels own) (Cidr prefix except) ≡ true → is_some own ≡ true
-prefix_only prefix except number labels None selected = absurd (let wrong : ⊥ = cc in wrong)
-prefix_only prefix except number labels (Some own) selected = refl
-
--- the same of the numbers that have a prefix
-pub prefixed_selected : (rows : List IdentityRow) (prefix : Prefix) (except : List Prefix) → RowsAscend rows → filter (selects_held rows (Cidr prefix except)) (numbers_with_prefix rows) ≡ set_at rows (Cidr prefix except)
-prefixed_selected rows prefix except ascend =
-    selected_among (Cidr prefix except) rows (filter has_prefix rows) ascend (filter_ascends (λ row. row.number) has_prefix rows ascend)
-    (λ row there selected. filter-In has_prefix row rows there (prefix_only prefix except row.number row.labels row.prefix selected))
+-- of the numbers under the peer's heading those that it selects are its set
+pub judged_selected : (rows : List IdentityRow) (p : Peer) → RowsAscend rows → filter (selects_held rows p) (map (λ row. row.number) (rows_judged rows p)) ≡ set_at rows p
+judged_selected rows p ascend =
+    selected_among p rows (rows_judged rows p) ascend (filter_ascends (λ row. row.number) (stands_under (heading_of p)) rows ascend)
+    (λ row there selected. filter-In (stands_under (heading_of p)) row rows there (selected_stands p row selected))

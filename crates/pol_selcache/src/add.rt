@@ -1,7 +1,7 @@
 //! One reference more.
 ghost use Rattle.std.specs.Prelude.{◌≡◌, ◌+◌, ◌≤◌, ◌*◌, IfOk, OnOk, OnErr, length, None};
 ghost use Rattle.pol_selcache.specs.Live.{AreExact, number_of};
-ghost use Rattle.pol_selcache.specs.Held.{steps_of};
+ghost use Rattle.pol_selcache.specs.Held.{rows_judged, steps_of};
 ghost use Rattle.pol_selcache.specs.Cache.{IsSound, added, added_by, number_added};
 
 use crate::SelectorCache;
@@ -29,7 +29,7 @@ impl SelectorCache {
         ensures err { OnErr result (self.new ≡ self.old) }
         ensures exact { AreExact identities.now self.new.live }
         ensures sound { IsSound self.new }
-        ensures cost { steps.new ≤ steps.old + steps_of peer.now * length identities.now }
+        ensures cost { steps.new ≤ steps.old + steps_of peer.now * length (rows_judged identities.now peer.now) }
     {
         match self.table.number_of(peer) {
             None => self.add_new(peer, identities, steps),
@@ -52,7 +52,7 @@ impl SelectorCache {
         ensures added { OnOk result (self.new ≡ added_by None peer.now identities.now self.old) }
         ensures err { OnErr result (self.new ≡ self.old) }
         ensures sound { IsSound self.new }
-        ensures cost { steps.new ≤ steps.old + steps_of peer.now * length identities.now }
+        ensures cost { steps.new ≤ steps.old + steps_of peer.now * length (rows_judged identities.now peer.now) }
     {
         let alloc = self.alloc;
         let number = self.next;

@@ -1,13 +1,14 @@
 //! Which held numbers a peer selects.
-ghost use Rattle.std.specs.Prelude.{◌≡◌, ◌+◌, ◌≤◌, ◌*◌, IfOk, filter, length, map};
+ghost use Rattle.std.specs.Prelude.{◌≡◌, ◌+◌, ◌≤◌, ◌*◌, IfOk, filter, length};
 ghost use Rattle.pol_facts.specs.Keeps.{KeepsRows};
 ghost use Rattle.pol_model.specs.Selects.{set_at};
 ghost use Rattle.pol_ident.specs.Look.{selects_held};
 ghost use Rattle.pol_rule.specs.declared.policy.Peer.TheVariants.{Labels as LabelPeer};
-ghost use Rattle.pol_selcache.specs.Held.{steps_at, steps_of};
+ghost use Rattle.pol_selcache.specs.Held.{rows_judged, steps_at, steps_of};
 
 use crate::ids::one_if;
 use pol_data::{Memory, Steps};
+use pol_filing::HeadingRef;
 use pol_ident::Identities;
 use pol_labels::Selector;
 use pol_rule::Peer;
@@ -71,19 +72,7 @@ fn selected<L: Ledger>(
     Ok(own)
 }
 
-/// The held numbers that are judged for a peer: no prefix selects a number without one.
-fn judged_for(alloc: Global, peer: &Peer, identities: &Identities) -> Result<Vec<u32>, Memory>
-    ensures set { IfOk result (λ numbers. filter (selects_held identities.now peer.now) numbers.items ≡ set_at identities.now peer.now) }
-    ensures cost { IfOk result (λ numbers. steps_of peer.now * length numbers.items ≤ steps_of peer.now * length identities.now) }
-    ensures sound { KeepsRows identities.now }
-{
-    match peer {
-        Peer::Cidr { .. } => identities.numbers_with_prefix(alloc),
-        Peer::Labels(_) | Peer::Entity(_) => identities.numbers(alloc),
-    }
-}
-
-/// The held numbers that the peer selects.
+/// The held numbers that the peer selects. Those under its heading are judged, among which all are that it selects.
 pub(crate) fn set_of<L: Ledger>(
     alloc: Global,
     peer: &Peer,
@@ -91,9 +80,10 @@ pub(crate) fn set_of<L: Ledger>(
     steps: &mut Steps<L>,
 ) -> Result<IdSet, Memory>
     ensures set { IfOk result (λ set. set ≡ set_at identities.now peer.now) }
-    ensures cost { steps.new ≤ steps.old + steps_of peer.now * length identities.now }
+    ensures cost { steps.new ≤ steps.old + steps_of peer.now * length (rows_judged identities.now peer.now) }
 {
-    let numbers = judged_for(alloc, peer, identities)?;
+    let heading = HeadingRef::of(peer);
+    let numbers = identities.numbers_under(alloc, &heading)?;
     let own = selected(alloc, peer, numbers.as_slice(), identities, steps)?;
     Ok(IdSet::from_ascending(own))
 }

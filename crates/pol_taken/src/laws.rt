@@ -1,15 +1,17 @@
 //! Laws of what is taken, over the definitions alone. Each function does nothing: its contract is the law.
-ghost use Rattle.std.specs.Prelude.{◌≡◌, ℕ, Bool, List, IsSome};
+ghost use Rattle.std.specs.Prelude.{◌≡◌, ◌∷◌, ℕ, Bool, List, [], IsSome, codes, map};
 ghost use Rattle.std.specs.Arc.{arc_value};
 ghost use Rattle.std.specs.List.{AllByRecursion, flat_map};
+ghost use Rattle.pol_addr.specs.Address.{addr_of_octets};
 ghost use Rattle.pol_labels.specs.declared.label.Label.{Label as OneLabel};
 ghost use Rattle.pol_model.specs.declared.options.Mode.{Mode};
 ghost use Rattle.pol_model.specs.declared.options.Options.{Options};
 ghost use Rattle.pol_model.specs.declared.row.Stamped.{Stamped as OnePolicy};
 ghost use Rattle.pol_model.specs.declared.request.Request.{Request};
-ghost use Rattle.pol_model.specs.After.{state_of};
+ghost use Rattle.pol_model.specs.After.{new_endpoint, start, state_of};
 ghost use Rattle.pol_model.specs.PolicyMap.{policy_map};
 ghost use Rattle.pol_facts.specs.WithoutFaults.{WithoutFaults};
+ghost use Rattle.pol_facts.specs.WorkedMaps.{app_peer, namespace_label, ordinary, x_denied};
 ghost use Rattle.pol_selcache.specs.Live.{Live as OneSelector, number_of};
 ghost use Rattle.pol_peers.specs.Listed.{listed_peers};
 ghost use Rattle.pol_peers.specs.References.{RefsOf};
@@ -33,4 +35,14 @@ pub fn listed_peers_are_live()
     ensures { (policies : List OnePolicy) (labels : List OneLabel) (mode : Mode) (localhost : Bool) (live : List OneSelector)
         → RefsOf (flat_map (λ stamped. listed_peers stamped.policy) policies) live
         → AllByRecursion (λ p. IsSome (number_of p live)) (filter_peers (filters_for policies labels mode localhost)) }
+{}
+
+/// What is taken where two policies list one peer for an endpoint: the state's revision, the endpoint, and one row, which has
+/// the peer's set.
+pub fn what_is_taken_of_a_small_state()
+    ensures revision { (taken : OneTaken) → IsTakenOf ordinary (state_of ordinary x_denied) 0 taken → taken.revision ≡ 4 }
+    ensures endpoint { (taken : OneTaken) → IsTakenOf ordinary (state_of ordinary x_denied) 0 taken
+        → taken.endpoint ≡ new_endpoint (start ordinary) (codes "web") (namespace_label ∷ []) (addr_of_octets 10 0 0 1) }
+    ensures peers { (taken : OneTaken) → IsTakenOf ordinary (state_of ordinary x_denied) 0 taken → map (λ row. row.peer) taken.sets ≡ app_peer (codes "x") ∷ [] }
+    ensures sets { (taken : OneTaken) → IsTakenOf ordinary (state_of ordinary x_denied) 0 taken → map (λ row. arc_value row.set) taken.sets ≡ (257 ∷ []) ∷ [] }
 {}
