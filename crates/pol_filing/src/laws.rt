@@ -1,5 +1,8 @@
 //! Laws of headings, over the definitions alone. Each function does nothing: its contract is the law.
-ghost use Rattle.std.specs.Prelude.{◌≡◌, ◌+◌, ◌%◌, ◌<◌, ◌⊎◌, true, List, ℕ, [], ◌∷◌};
+ghost use Rattle.std.specs.Prelude.{◌≡◌, ◌+◌, ◌%◌, ◌<◌, ◌&&◌, ◌⊎◌, true, false, List, ℕ, [], ◌∷◌};
+ghost use Rattle.std.specs.List.{list_any};
+ghost use Rattle.std.specs.Option.{option_map_or};
+ghost use Rattle.std.specs.Str.{bytes_eq};
 ghost use Rattle.pol_addr.specs.declared.network.Prefix.{Prefix as OnePrefix};
 ghost use Rattle.pol_addr.specs.Cidr.{IsPrefix};
 ghost use Rattle.pol_addr.specs.Prefix.{covers};
@@ -20,6 +23,14 @@ ghost use Rattle.pol_rule.specs.declared.policy.Peer.TheVariants as peer;
 pub fn equal_headings_are_the_same()
     ensures to { (a b : OneHeading) → same_heading a b ≡ true → a ≡ b }
     ensures from { (a : OneHeading) → same_heading a a ≡ true }
+{}
+
+/// An identity stands under a label exactly where it has one of the key and the value, and under a prefix exactly where it
+/// has a prefix that lies in it.
+pub fn headings_are_conditions()
+    ensures label { (key value : List ℕ) (row : OneRow) → stands_under (heading.Label key value) row ≡ list_any (λ label. bytes_eq label.key key && bytes_eq label.value value) row.labels }
+    ensures prefix { (p : OnePrefix) (row : OneRow) → stands_under (heading.Prefix p) row ≡ option_map_or (covers p) row.prefix false }
+    ensures any { (row : OneRow) → stands_under heading.Any row ≡ true }
 {}
 
 /// Each identity that a peer selects stands under the peer's heading.

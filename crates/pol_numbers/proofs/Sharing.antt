@@ -1,8 +1,9 @@
 -- The table that is shared, as prefixes are held and released.
-use Rattle.std.proofs.Common.{◌≡◌, ℕ, ◌&&◌, ◌||◌, ◌==◌, Bool, true, false, not, cond, is_none, length, List, [], ◌∷◌, Option, None, Some, IfSome, refl, sym, ap, subst, ◌∙◌, inl, inr, arith}
+use Rattle.std.proofs.Common.{◌≡◌, ℕ, ◌+◌, ◌<◌, ◌≤◌, ◌&&◌, ◌||◌, ◌==◌, Bool, true, false, not, cond, is_none, drop, get_or, length, List, [], ◌∷◌, Option, None, Some, IfSome, refl, sym, ap, subst, ◌∙◌, inl, inr, arith}
 use Rattle.std.specs.FinMap as map
 use Rattle.std.specs.List.{list_any}
 use Rattle.std.proofs.lemmas.Bool.{cases_Bool, cond-false, cond-true, both_ways, eqb-true, false≢true, or_parts}
+use Rattle.std.proofs.lemmas.List.{drop_all, drop_more}
 use Rattle.pol_addr.specs.declared.network.Prefix.{Prefix}
 use Rattle.pol_addr.specs.Prefix.{same_prefix}
 use Rattle.pol_model.specs.declared.row.IdentityRow.{IdentityRow}
@@ -25,6 +26,16 @@ use Rattle.pol_numbers.specs.Sharing.{IsRenewedAt, IsTableBut, IsWithoutGone, is
 pub each_some : {T : Type 0} {P Q : T → Type 0} (o : Option T) → ((x : T) → P x → Q x) → IfSome o P → IfSome o Q
 each_some None to is = is
 each_some (Some x) to is = to x is
+
+-- ---- a walk over prefixes: the table may differ where those that are left say
+module _ (but : List Prefix → Prefix → Bool) (rows : List IdentityRow) (prefixes : List Prefix) (i : ℕ) (table : PrefixMap) where
+  -- the next prefix is the first of them
+  pub at_next : (prefix : Prefix) → i < length prefixes → get_or prefixes i prefix ≡ prefix → IsTableBut (but (drop i prefixes)) rows table → IsTableBut (but (prefix ∷ drop (i + 1) prefixes)) rows table
+  at_next prefix within is = subst (λ ps. IsTableBut (but ps) rows table) (drop_more prefixes i prefix within ∙ ap (λ p. p ∷ drop (i + 1) prefixes) is)
+
+  -- where none is left, the table is that of the rows
+  pub at_end : ((own : Prefix) → but [] own ≡ false) → length prefixes ≤ i → IsTableBut (but (drop i prefixes)) rows table → IsTableOf rows table
+  at_end never past all own = subst (λ ps. IsTableBut (but ps) rows table) (drop_all i prefixes past) all own (never own)
 
 -- ---- one prefix
 module _ (prefix : Prefix) (rows : List IdentityRow) where

@@ -14,7 +14,7 @@ ghost use Rattle.pol_prefixes.specs.Beyond.{AreBeyond};
 ghost use Rattle.pol_numbers.specs.Held.{Readies, with_log_room};
 
 use crate::Numbers;
-use crate::shared::{copied, once_held, once_released, stays};
+use crate::shared::{once_held, once_planned, once_released};
 use pol_addr::Prefix;
 use pol_data::{Memory, Steps};
 use pol_ident::IdentError;
@@ -71,12 +71,8 @@ impl Numbers {
     fn ready_shared(&mut self, numbers_go: bool)
         ensures same { self.new ≡ self.old }
     {
-        if !stays(&self.shared, numbers_go) {
-            self.shared = match copied(self.alloc, &self.prefixes) {
-                Ok(table) => Some(table),
-                Err(_) => None,
-            };
-        }
+        let shared = self.shared.take();
+        self.shared = once_planned(self.alloc, shared, &self.prefixes, numbers_go);
     }
 
     /// What changes of the sets where these numbers came and the prefixes are released.

@@ -1,8 +1,9 @@
 //! The table of the prefixes that is handed out. Where prefixes change, it is changed in place if nobody else has it. One
 //! that others have is never changed.
-ghost use Rattle.std.specs.Prelude.{◌≡◌, true, is_none, IfOk, IfSome, OnOk};
+ghost use Rattle.std.specs.Prelude.{◌≡◌, true, false, is_none, is_some, IfOk, IfSome, List, OnOk};
 ghost use Rattle.std.specs.Arc.{arc_value};
 ghost use Rattle.std.specs.List.{list_any};
+ghost use Rattle.pol_model.specs.declared.row.IdentityRow.{IdentityRow as OneRow};
 ghost use Rattle.pol_model.specs.Prefixes.{number_of_prefix};
 ghost use Rattle.pol_prefixes.specs.Tables.{IsTableOf};
 ghost use Rattle.pol_numbers.specs.Sharing.{IsRenewedAt, IsTableBut, IsWithoutGone, is_gone, is_of};
@@ -80,6 +81,7 @@ pub(crate) fn once_held(
     requires same { none_came ≡ true → IfSome shared (λ table. IsTableOf identities.now (arc_value table)) }
     requires others { IfSome shared (λ table. IsTableBut (is_of prefixes.now) identities.now (arc_value table)) }
     ensures table { IfSome result (λ table. IsTableOf identities.now (arc_value table)) }
+    ensures kept { none_came ≡ true → result ≡ shared }
 {
     if none_came {
         return shared;
@@ -100,6 +102,7 @@ pub(crate) fn once_released(
 ) -> Option<Arc<PrefixTable>>
     requires others { IfSome shared (λ table. IsTableBut (is_gone prefixes.now identities.now) identities.now (arc_value table)) }
     ensures table { IfSome result (λ table. IsTableOf identities.now (arc_value table)) }
+    ensures kept { list_any (λ prefix. is_none (number_of_prefix prefix identities.now)) prefixes.now ≡ false → result ≡ shared }
 {
     if !is_any_gone(identities, prefixes) {
         return shared;
@@ -110,7 +113,9 @@ pub(crate) fn once_released(
 }
 
 /// Whether the table is there, and what comes leaves it: where numbers go, nobody else may have it.
-pub(crate) fn stays(shared: &Option<Arc<PrefixTable>>, numbers_go: bool) -> bool {
+fn stays(shared: &Option<Arc<PrefixTable>>, numbers_go: bool) -> bool
+    ensures stays { numbers_go ≡ false → result ≡ is_some shared.now }
+{
     match shared {
         Some(table) => !numbers_go || Arc::strong_count(table) == 1,
         None => false,
@@ -123,4 +128,21 @@ pub(crate) fn copied(alloc: Global, table: &PrefixTable) -> Result<Arc<PrefixTab
 {
     let copy = table.copy(alloc)?;
     Ok(Arc::new(alloc, copy)?)
+}
+
+/// The table once a release is planned: the one that is there, but a copy of one's own where there is none, or where
+/// numbers go and others have it. Without memory there is none then.
+pub(crate) fn once_planned(
+    alloc: Global,
+    shared: Option<Arc<PrefixTable>>,
+    own: &PrefixTable,
+    numbers_go: bool,
+) -> Option<Arc<PrefixTable>>
+    ensures table { (rows : List OneRow) → IsTableOf rows own.now → IfSome shared (λ table. IsTableOf rows (arc_value table)) → IfSome result (λ table. IsTableOf rows (arc_value table)) }
+    ensures kept { numbers_go ≡ false → is_some shared ≡ true → result ≡ shared }
+{
+    if stays(&shared, numbers_go) {
+        return shared;
+    }
+    copied(alloc, own).ok()
 }

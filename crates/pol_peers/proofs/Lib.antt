@@ -2,6 +2,7 @@ pub mod Found
 pub mod Counts
 pub mod Holds
 pub mod Sections
+pub mod Walks
 pub mod Kept
 pub mod Costs
 pub mod Numbering

@@ -1,6 +1,7 @@
 //! Which selectors the peers of a policy refer to.
 //!
-//! `hold_peers` adds a reference for each peer that a policy lists, and `drop_peers` takes them back.
+//! `hold_peers` adds a reference for each peer that a policy lists, and `drop_peers` takes them back. `push_listed` gives the
+//! peers of one entry or filter by reference.
 #![tactic(auto)]
 
 mod drop;
@@ -10,3 +11,4 @@ mod listed;
 
 pub use drop::drop_peers;
 pub use hold::hold_peers;
+pub use listed::push_listed;

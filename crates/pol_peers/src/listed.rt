@@ -16,10 +16,11 @@ fn push_peers<'a>(out: &mut Vec<&'a Peer>, peers: &'a [Peer]) -> Result<(), Memo
     Ok(())
 }
 
-fn push_entry<'a>(out: &mut Vec<&'a Peer>, entry: &'a Entry) -> Result<(), Memory>
-    ensures { OnOk result (map (λ p. p.now) out.new.items ≡ map (λ p. p.now) out.old.items ++ peers_in entry.now.peers) }
+/// Puts the peers that are listed behind those that are there. The one error is want of memory.
+pub fn push_listed<'a>(out: &mut Vec<&'a Peer>, peers: &'a Peers) -> Result<(), Memory>
+    ensures listed { OnOk result (map (λ p. p.now) out.new.items ≡ map (λ p. p.now) out.old.items ++ peers_in peers.now) }
 {
-    match &entry.peers {
+    match peers {
         Peers::Every => Ok(()),
         Peers::Listed(peers) => push_peers(out, peers.as_slice()),
     }
@@ -29,7 +30,7 @@ fn push_section<'a>(out: &mut Vec<&'a Peer>, entries: &'a [Entry]) -> Result<(),
     ensures { OnOk result (map (λ p. p.now) out.new.items ≡ map (λ p. p.now) out.old.items ++ section_peers entries.now) }
 {
     for entry in entries {
-        push_entry(out, entry)?;
+        push_listed(out, &entry.peers)?;
     }
     Ok(())
 }

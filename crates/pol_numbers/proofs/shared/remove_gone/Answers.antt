@@ -1,7 +1,6 @@
-use Rattle.std.proofs.Common.{◌≡◌, ◌+◌, ◌<◌, [], ◌∷◌, drop, length, refl, sym, ap, ◌∙◌, subst, arith}
-use Rattle.std.proofs.lemmas.List.{drop_all, drop_more}
-use Rattle.pol_numbers.specs.Sharing.{IsTableBut, is_gone}
-use Rattle.pol_numbers.proofs.Sharing.{gone_less}
+use Rattle.std.proofs.Common.{◌+◌, drop, refl, sym, arith}
+use Rattle.pol_numbers.specs.Sharing.{is_gone}
+use Rattle.pol_numbers.proofs.Sharing.{at_end, at_next, gone_less}
 use Rattle.pol_numbers.proofs.shared.remove_gone.Goals as goal
 
 pub loop-prefix-preserved : goal.loop-prefix-preserved
@@ -10,14 +9,10 @@ loop-prefix-preserved c =
     let all = c.args.prefixes.now in
     let i = c.loop-prefix.prefix-index in
     let prefix = c.prefix-item.result in
-    let within : i < length all = omega arith in
-    let split : drop i all ≡ prefix ∷ drop (i + 1) all = drop_more all i prefix within ∙ ap (λ q. q ∷ drop (i + 1) all) (sym c.prefix-item.is) in
     gone_less prefix rows (drop (i + 1) all) c.loop-prefix.table c.remove_if_gone.new.table
-    (subst (λ ps. IsTableBut (is_gone ps rows) rows c.loop-prefix.table) split c.loop-prefix.invariant) c.remove_if_gone.ensures
+    (at_next (λ ps. is_gone ps rows) rows all i c.loop-prefix.table prefix (omega arith) (sym c.prefix-item.is) c.loop-prefix.invariant) c.remove_if_gone.ensures
 
 pub returns : goal.returns
 returns c =
     let rows = c.args.identities.now in
-    let all = c.args.prefixes.now in
-    let none : drop c.loop-prefix.prefix-index all ≡ [] = drop_all c.loop-prefix.prefix-index all (omega arith) in
-    record { table = λ own. subst (λ ps. IsTableBut (is_gone ps rows) rows c.loop-prefix.table) none c.loop-prefix.invariant own refl }
+    record { table = at_end (λ ps. is_gone ps rows) rows c.args.prefixes.now c.loop-prefix.prefix-index c.loop-prefix.table (λ own. refl) (omega arith) c.loop-prefix.invariant }
