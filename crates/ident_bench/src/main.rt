@@ -1,10 +1,11 @@
-//! Times identities at 1,000 rows and at 65,280: label sets that take numbers, numbers that are given back, and the numbers
-//! under a label. The figures go to standard error.
+//! Times identities at 1,000 rows and at 65,280: label sets and prefixes that take numbers, numbers that are given back,
+//! and the numbers under a heading. The figures go to standard error.
 #![tactic(auto)]
 
 ghost use Rattle.std.specs.Prelude.{◌≤◌};
 
 use anyhow::Result;
+use pol_addr::{Addr, Prefix};
 use pol_data::Text;
 use pol_filing::HeadingRef;
 use pol_ident::Identities;
@@ -14,7 +15,7 @@ use std::alloc::{AllocError, Global};
 use std::rt::Clock;
 use std::time::Instant;
 
-/// How many label sets take a number in one turn, and give it back in the same.
+/// How many take a number in one turn, and give it back in the same.
 const WINDOW: u32 = 500;
 
 /// How many turns are timed.
@@ -45,17 +46,46 @@ fn label_set(alloc: Global, number: u32) -> Result<LabelSet> {
     Ok(LabelSet::from_labels(alloc, labels)?)
 }
 
-/// So many such sets, from a number on.
-fn label_sets(alloc: Global, first: u32, count: u32) -> Result<Vec<LabelSet>> {
-    let mut sets = Vec::new(alloc);
-    for i in 0..count {
-        sets.push(label_set(alloc, first.wrapping_add(i))?)?;
+/// What takes a number.
+#[derive(Drop)]
+enum Comer {
+    Labels(LabelSet),
+    Prefix(Prefix),
+}
+
+/// Which of both.
+#[derive(Clone, Copy)]
+enum Kind {
+    Labels,
+    Prefix,
+}
+
+/// Four labels, or a prefix of 24 bits.
+fn comer(alloc: Global, kind: Kind, number: u32) -> Result<Comer> {
+    match kind {
+        Kind::Labels => Ok(Comer::Labels(label_set(alloc, number)?)),
+        Kind::Prefix => {
+            let bits = number.wrapping_mul(1 << 8);
+            Ok(Comer::Prefix(Prefix::new(Addr { bits }, 24)))
+        }
     }
-    Ok(sets)
+}
+
+/// So many of them, from a number on.
+fn comers(alloc: Global, kind: Kind, first: u32, count: u32) -> Result<Vec<Comer>> {
+    let mut all = Vec::new(alloc);
+    for i in 0..count {
+        all.push(comer(alloc, kind, first.wrapping_add(i))?)?;
+    }
+    Ok(all)
 }
 
 /// Takes a number for the set, and puts it behind the others.
-fn take(identities: &mut Identities, labels: &LabelSet, numbers: &mut Vec<u32>) -> Result<()> {
+fn take_labels(
+    identities: &mut Identities,
+    labels: &LabelSet,
+    numbers: &mut Vec<u32>,
+) -> Result<()> {
     if !has_reserved(labels) {
         let number = identities.acquire(labels)?;
         numbers.push(number)?;
@@ -63,9 +93,23 @@ fn take(identities: &mut Identities, labels: &LabelSet, numbers: &mut Vec<u32>) 
     Ok(())
 }
 
-fn take_all(identities: &mut Identities, sets: &[LabelSet], numbers: &mut Vec<u32>) -> Result<()> {
-    for labels in sets {
-        take(identities, labels, numbers)?;
+/// The same for a prefix.
+fn take_prefix(identities: &mut Identities, prefix: Prefix, numbers: &mut Vec<u32>) -> Result<()> {
+    let number = identities.acquire_prefix(prefix)?;
+    numbers.push(number)?;
+    Ok(())
+}
+
+fn take(identities: &mut Identities, comer: &Comer, numbers: &mut Vec<u32>) -> Result<()> {
+    match comer {
+        Comer::Labels(labels) => take_labels(identities, labels, numbers),
+        Comer::Prefix(prefix) => take_prefix(identities, *prefix, numbers),
+    }
+}
+
+fn take_all(identities: &mut Identities, comers: &[Comer], numbers: &mut Vec<u32>) -> Result<()> {
+    for comer in comers {
+        take(identities, comer, numbers)?;
     }
     Ok(())
 }
@@ -82,15 +126,15 @@ fn give_back(identities: &mut Identities, numbers: &[u32]) -> u32 {
     held
 }
 
-/// How many nanoseconds it took to take a number for each set.
+/// How many nanoseconds it took to take a number for each.
 fn time_takes<R: Clock + AllocGlobal>(
     rt: &R,
     identities: &mut Identities,
-    sets: &[LabelSet],
+    comers: &[Comer],
     numbers: &mut Vec<u32>,
 ) -> Result<u128> {
     let start = Instant::now(rt)?;
-    take_all(identities, sets, numbers)?;
+    take_all(identities, comers, numbers)?;
     Ok(start.elapsed(rt)?.as_nanos())
 }
 
@@ -109,10 +153,10 @@ fn time_returns<R: Clock + AllocGlobal>(
 fn time_turn<R: Clock + AllocGlobal>(
     rt: &R,
     identities: &mut Identities,
-    sets: &[LabelSet],
+    comers: &[Comer],
 ) -> Result<(u128, u128)> {
-    let mut numbers = Vec::with_capacity(rt.alloc(), sets.len())?;
-    let taking = time_takes(rt, identities, sets, &mut numbers)?;
+    let mut numbers = Vec::with_capacity(rt.alloc(), comers.len())?;
+    let taking = time_takes(rt, identities, comers, &mut numbers)?;
     let returning = time_returns(rt, identities, numbers.as_slice())?;
     Ok((taking, returning))
 }
@@ -121,12 +165,12 @@ fn time_turn<R: Clock + AllocGlobal>(
 fn time_turns<R: Clock + AllocGlobal>(
     rt: &R,
     identities: &mut Identities,
-    sets: &[LabelSet],
+    comers: &[Comer],
 ) -> Result<(u128, u128)> {
     let mut taking = u128::MAX;
     let mut returning = u128::MAX;
     for _ in 0..TURNS {
-        let (took, returned) = time_turn(rt, identities, sets)?;
+        let (took, returned) = time_turn(rt, identities, comers)?;
         taking = taking.min(took);
         returning = returning.min(returned);
     }
@@ -134,75 +178,106 @@ fn time_turns<R: Clock + AllocGlobal>(
     Ok((taking / calls, returning / calls))
 }
 
-/// Takes a number for so many more sets, and gives the nanoseconds that it took.
+/// Takes a number for so many more, and gives the nanoseconds that it took.
 fn grow<R: Clock + AllocGlobal>(
     rt: &R,
     identities: &mut Identities,
+    kind: Kind,
     first: u32,
     count: u32,
 ) -> Result<u128> {
-    let sets = label_sets(rt.alloc(), first, count)?;
+    let comers = comers(rt.alloc(), kind, first, count)?;
     let mut numbers = Vec::new(rt.alloc());
-    time_takes(rt, identities, sets.as_slice(), &mut numbers)
+    time_takes(rt, identities, comers.as_slice(), &mut numbers)
 }
 
-/// Takes numbers for this many sets, and gives the mean of an acquire on the way.
-fn fill<R: Clock + AllocGlobal>(rt: &R, identities: &mut Identities, count: u32) -> Result<u128>
+/// Takes this many numbers, and gives the mean of an acquire on the way.
+fn fill<R: Clock + AllocGlobal>(
+    rt: &R,
+    identities: &mut Identities,
+    kind: Kind,
+    count: u32,
+) -> Result<u128>
     requires { 1 ≤ count }
 {
     let mut taking = 0u128;
     for turn in 0..count / WINDOW + 1 {
         let first = turn.wrapping_mul(WINDOW);
         let more = count.saturating_sub(first).min(WINDOW);
-        taking = taking.wrapping_add(grow(rt, identities, first, more)?);
+        taking = taking.wrapping_add(grow(rt, identities, kind, first, more)?);
     }
     Ok(taking / u128::from(count))
 }
 
-/// How many nanoseconds it took to find the numbers under a label, in the shortest of all turns.
-fn time_label<R: Clock + AllocGlobal>(
+/// How many nanoseconds it took to find the numbers under a heading, in the shortest of all turns.
+fn time_heading<R: Clock + AllocGlobal>(
     rt: &R,
     identities: &Identities,
-    key: &str,
-    value: &str,
+    heading: &HeadingRef<'_>,
 ) -> Result<u128> {
-    let heading = HeadingRef::Label { key, value };
     let mut finding = u128::MAX;
     for _ in 0..TURNS {
         let start = Instant::now(rt)?;
-        let _numbers = identities.numbers_under(rt.alloc(), &heading)?;
+        let _numbers = identities.numbers_under(rt.alloc(), heading)?;
         finding = finding.min(start.elapsed(rt)?.as_nanos());
     }
     Ok(finding)
 }
 
-/// Fills the identities up to so many rows of label sets, and times turns that go up to there.
+/// Headings under which one stands, and under which each does.
+fn headings(kind: Kind) -> (HeadingRef<'static>, HeadingRef<'static>) {
+    match kind {
+        Kind::Labels => {
+            let app = HeadingRef::Label {
+                key: "app",
+                value: "web-1",
+            };
+            let namespace = HeadingRef::Label {
+                key: "io.kubernetes.pod.namespace",
+                value: "default",
+            };
+            (app, namespace)
+        }
+        Kind::Prefix => {
+            let one = Prefix::new(Addr { bits: 1 << 8 }, 24);
+            let all = Prefix::new(Addr { bits: 0 }, 0);
+            (HeadingRef::Prefix(one), HeadingRef::Prefix(all))
+        }
+    }
+}
+
+/// Fills the identities up to so many rows of a kind, and times turns that go up to there.
 fn time_at<R: Clock + Eprint + AllocGlobal>(
     rt: &R,
     identities: &mut Identities,
+    what: &str,
+    kind: Kind,
     rows: u32,
 ) -> Result<()>
     requires { 501 ≤ rows }
 {
-    let filling = fill(rt, identities, rows - WINDOW)?;
-    let sets = label_sets(rt.alloc(), rows, WINDOW)?;
-    let (taking, returning) = time_turns(rt, identities, sets.as_slice())?;
-    let one = time_label(rt, identities, "app", "web-1")?;
-    let each = time_label(rt, identities, "io.kubernetes.pod.namespace", "default")?;
+    let filling = fill(rt, identities, kind, rows - WINDOW)?;
+    let comers = comers(rt.alloc(), kind, rows, WINDOW)?;
+    let (taking, returning) = time_turns(rt, identities, comers.as_slice())?;
+    let (first, second) = headings(kind);
+    let one = time_heading(rt, identities, &first)?;
+    let each = time_heading(rt, identities, &second)?;
     eprintln!(rt;
-        "{rows} rows: acquire {taking} ns, release {returning} ns; acquire on the way there {filling} ns; the numbers under a label that one set has {one} ns, that each has {each} ns"
+        "{rows:>6} {what:<10} acquire {taking:>4} ns, release {returning:>4} ns, acquire on the way there {filling:>4} ns; the numbers under a heading of one {one:>4} ns, of each {each} ns"
     )?;
     Ok(())
 }
 
-fn measure<R: Clock + Eprint + AllocGlobal>(rt: &R, rows: u32) -> Result<()>
+fn measure<R: Clock + Eprint + AllocGlobal>(rt: &R, what: &str, kind: Kind, rows: u32) -> Result<()>
     requires { 501 ≤ rows }
 {
     let mut identities = Identities::new(rt.alloc())?;
-    time_at(rt, &mut identities, rows)
+    time_at(rt, &mut identities, what, kind, rows)
 }
 
 fn main(rt: HostRuntime) -> Result<()> {
-    measure(&rt, 1_000)?;
-    measure(&rt, 65_280)
+    measure(&rt, "label sets", Kind::Labels, 1_000)?;
+    measure(&rt, "label sets", Kind::Labels, 65_280)?;
+    measure(&rt, "prefixes", Kind::Prefix, 1_000)?;
+    measure(&rt, "prefixes", Kind::Prefix, 65_280)
 }

@@ -1,38 +1,28 @@
 //! The requests of a run.
 
-use crate::made::{
-    Named, endpoint, identity, no_endpoint, no_identity, no_policy, policy, policy_of_ten,
-};
+use crate::peers::Named;
+use crate::pods::{endpoint, identity, no_endpoint, no_identity};
+use crate::policies::{no_policy, policy};
 use anyhow::Result;
 use pol_model::{Mode, Request};
 use std::alloc::Global;
 
 /// How many requests of a kind one run has.
-pub(crate) const BATCH: u32 = 16;
-
-/// How many entries a policy has that the repository is filled with.
-const ENTRIES: u32 = 4;
-
-/// The least number of a policy that is measured; those that the repository is filled with have lesser ones.
-const FIRST: u32 = 1_000_000;
+pub(crate) const BATCH: u32 = 8;
 
 /// What comes and goes.
 #[derive(Clone, Copy)]
 pub(crate) enum Kind {
-    /// Identities that one selector selects.
+    /// Identities of two selectors: one selects an identity of the same application.
     Identity,
     /// Endpoints of labels that nobody else has, and that one selector selects.
     Endpoint,
-    /// Policies of ten entries, whose peers other policies list too.
-    KnownPeers,
-    /// Policies of ten entries, whose peers no other policy lists.
-    NewPeers,
-    /// Policies of ten entries, whose prefixes no other policy lists.
-    NewPrefixes,
-    /// The policies that the repository was filled with, the oldest first.
-    Oldest,
     /// Modes.
     Mode,
+    /// Policies of ten entries.
+    Policy(Named),
+    /// The policies that the repository was filled with, the oldest first.
+    Oldest(Named),
 }
 
 /// What is asked of it.
@@ -43,31 +33,50 @@ pub(crate) enum Step {
     Goes,
 }
 
-/// The policy of that number that the repository is filled with: its peers are pods, each of a number of its own.
-pub(crate) fn filling(alloc: Global, number: u32) -> Result<Request> {
-    let first = number.wrapping_mul(ENTRIES);
-    policy(alloc, number, Named::Pods, first, ENTRIES)
-}
+static MODE: [Step; 1] = [Step::Comes];
 
-/// A policy whose peers are those from a number on, or ten further ones where it takes the place of another.
-fn policy_request(
-    alloc: Global,
-    step: Step,
-    number: u32,
-    named: Named,
-    first: u32,
-) -> Result<Request> {
-    match step {
-        Step::Comes => policy_of_ten(alloc, number, named, first),
-        Step::Replaces => policy_of_ten(alloc, number, named, first.wrapping_add(10)),
-        Step::Goes => no_policy(alloc, number),
+static TURN: [Step; 2] = [Step::Comes, Step::Goes];
+
+static POLICY: [Step; 3] = [Step::Comes, Step::Replaces, Step::Goes];
+
+static OLDEST: [Step; 2] = [Step::Goes, Step::Comes];
+
+/// What a run asks of a kind, in this order. What was there from the beginning goes first, and comes again.
+pub(crate) fn steps_of(kind: Kind) -> &'static [Step] {
+    match kind {
+        Kind::Mode => &MODE,
+        Kind::Identity | Kind::Endpoint => &TURN,
+        Kind::Policy(_) => &POLICY,
+        Kind::Oldest(_) => &OLDEST,
     }
 }
 
-fn oldest_request(alloc: Global, step: Step, number: u32) -> Result<Request> {
+/// What the policies are called that the repository is filled with.
+fn family(named: Named) -> &'static str {
+    match named {
+        Named::Pods => "pods",
+        _ => "prefixes",
+    }
+}
+
+/// The policy of that number that the repository is filled with: nobody else lists its peers.
+pub(crate) fn filling(alloc: Global, named: Named, number: u32) -> Result<Request> {
+    policy(alloc, family(named), number, named, number)
+}
+
+/// A policy. The one that takes its place has the peers that the policy before it had.
+fn policy_request(alloc: Global, step: Step, named: Named, number: u32) -> Result<Request> {
     match step {
-        Step::Goes => no_policy(alloc, number),
-        _ => filling(alloc, number),
+        Step::Comes => policy(alloc, "new", number, named, number.wrapping_add(1)),
+        Step::Replaces => policy(alloc, "new", number, named, number),
+        Step::Goes => no_policy(alloc, "new", number),
+    }
+}
+
+fn oldest_request(alloc: Global, step: Step, named: Named, number: u32) -> Result<Request> {
+    match step {
+        Step::Goes => no_policy(alloc, family(named), number),
+        _ => filling(alloc, named, number),
     }
 }
 
@@ -95,19 +104,15 @@ fn mode_request(number: u32) -> Request {
 
 /// The request of a number in its run.
 fn request(alloc: Global, kind: Kind, step: Step, run: u32, number: u32) -> Result<Request> {
-    let own = run.wrapping_mul(BATCH).wrapping_add(number);
-    let policy = FIRST.wrapping_add(own);
-    let peers = policy.wrapping_mul(20);
     match kind {
         Kind::Identity => identity_request(alloc, step, number),
         Kind::Endpoint => endpoint_request(alloc, step, number),
-        Kind::KnownPeers => {
-            policy_request(alloc, step, policy, Named::Pods, number.wrapping_mul(20))
-        }
-        Kind::NewPeers => policy_request(alloc, step, policy, Named::Pods, peers),
-        Kind::NewPrefixes => policy_request(alloc, step, policy, Named::Prefixes, peers),
-        Kind::Oldest => oldest_request(alloc, step, own),
         Kind::Mode => Ok(mode_request(number)),
+        Kind::Policy(named) => policy_request(alloc, step, named, number),
+        Kind::Oldest(named) => {
+            let own = run.wrapping_mul(BATCH).wrapping_add(number);
+            oldest_request(alloc, step, named, own)
+        }
     }
 }
 

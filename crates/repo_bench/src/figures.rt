@@ -1,17 +1,16 @@
 //! What is measured.
 
-use pol_data::Memory;
-use std::alloc::Global;
+use crate::asked::Step;
 
 /// Nanoseconds of one commit, 0 where there is no such figure.
 #[derive(Clone, Copy)]
 pub(crate) struct Figures {
     /// Of something new.
-    pub(crate) comes: u128,
+    comes: u128,
     /// Of something that takes the place of another of the same key.
-    pub(crate) replaces: u128,
+    replaces: u128,
     /// Of something that goes.
-    pub(crate) goes: u128,
+    goes: u128,
 }
 
 /// No figures.
@@ -23,31 +22,33 @@ pub(crate) fn none() -> Figures {
     }
 }
 
-/// The lesser ones of two runs.
-pub(crate) fn lesser(a: Figures, b: Figures) -> Figures {
-    Figures {
-        comes: a.comes.min(b.comes),
-        replaces: a.replaces.min(b.replaces),
-        goes: a.goes.min(b.goes),
+impl Figures {
+    /// The figure of a step.
+    pub(crate) fn of(self, step: Step) -> u128 {
+        match step {
+            Step::Comes => self.comes,
+            Step::Replaces => self.replaces,
+            Step::Goes => self.goes,
+        }
     }
-}
 
-/// What a step took, with its share of what it took before the sizes changed.
-fn step_text(alloc: Global, step: &str, now: u128, before: u128) -> Result<String, Memory> {
-    if now == 0 {
-        return Ok(String::new(alloc));
+    /// With another one for a step.
+    pub(crate) fn with(self, step: Step, nanos: u128) -> Figures {
+        let mut figures = self;
+        match step {
+            Step::Comes => figures.comes = nanos,
+            Step::Replaces => figures.replaces = nanos,
+            Step::Goes => figures.goes = nanos,
+        }
+        figures
     }
-    if before == 0 {
-        return format!(in alloc; " {step} {now} ns;");
-    }
-    let percent = now.wrapping_mul(100) / before;
-    format!(in alloc; " {step} {now} ns ({percent} %);")
-}
 
-/// All of these.
-pub(crate) fn text(alloc: Global, now: Figures, before: Figures) -> Result<String, Memory> {
-    let comes = step_text(alloc, "comes", now.comes, before.comes)?;
-    let replaces = step_text(alloc, "replaces", now.replaces, before.replaces)?;
-    let goes = step_text(alloc, "goes", now.goes, before.goes)?;
-    format!(in alloc; "{comes}{replaces}{goes}")
+    /// The lesser ones of both.
+    pub(crate) fn lesser(self, other: Figures) -> Figures {
+        Figures {
+            comes: self.comes.min(other.comes),
+            replaces: self.replaces.min(other.replaces),
+            goes: self.goes.min(other.goes),
+        }
+    }
 }

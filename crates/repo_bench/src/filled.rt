@@ -2,10 +2,12 @@
 ghost use Rattle.std.specs.Prelude.{◌≡◌, None};
 
 use crate::asked::{BATCH, filling};
-use crate::made::{endpoint, identity};
+use crate::peers::Named;
+use crate::pods::{endpoint, identity};
 use crate::runs::commit;
 use anyhow::Result;
 use pol_data::Steps;
+use pol_model::Request;
 use pol_repo::Repo;
 use std::alloc::Global;
 use std::sync::ledger::Ledger;
@@ -13,15 +15,36 @@ use std::sync::ledger::Ledger;
 /// How many there are of each.
 #[derive(Clone, Copy)]
 pub(crate) struct Sizes {
-    pub(crate) policies: u32,
+    /// Policies of ten label peers.
+    pub(crate) of_pods: u32,
+    /// Policies of ten prefixes.
+    pub(crate) of_prefixes: u32,
     pub(crate) identities: u32,
     /// With those that a run adds.
     pub(crate) endpoints: u32,
 }
 
-fn fill_policies<L: Ledger>(
+/// What the repository is filled with.
+#[derive(Clone, Copy)]
+enum Filling {
+    Identities,
+    /// They leave the numbers of a run free. Each has the labels of an identity.
+    Endpoints,
+    Policies(Named),
+}
+
+fn filling_request(alloc: Global, filled: Filling, number: u32) -> Result<Request> {
+    match filled {
+        Filling::Identities => identity(alloc, number, "default"),
+        Filling::Endpoints => endpoint(alloc, number.wrapping_add(BATCH), "default"),
+        Filling::Policies(named) => filling(alloc, named, number),
+    }
+}
+
+fn fill_with<L: Ledger>(
     alloc: Global,
     repo: &mut Repo,
+    filled: Filling,
     count: u32,
     steps: &mut Steps<L>,
 ) -> Result<()>
@@ -29,38 +52,7 @@ fn fill_policies<L: Ledger>(
     ensures idle { repo.new.prepared ≡ None }
 {
     for number in 0..count {
-        commit(repo, filling(alloc, number)?, steps)?;
-    }
-    Ok(())
-}
-
-fn fill_identities<L: Ledger>(
-    alloc: Global,
-    repo: &mut Repo,
-    count: u32,
-    steps: &mut Steps<L>,
-) -> Result<()>
-    requires idle { repo.old.prepared ≡ None }
-    ensures idle { repo.new.prepared ≡ None }
-{
-    for number in 0..count {
-        commit(repo, identity(alloc, number, "default")?, steps)?;
-    }
-    Ok(())
-}
-
-/// Endpoints that leave the numbers of a run free. Each has the labels of an identity.
-fn fill_endpoints<L: Ledger>(
-    alloc: Global,
-    repo: &mut Repo,
-    count: u32,
-    steps: &mut Steps<L>,
-) -> Result<()>
-    requires idle { repo.old.prepared ≡ None }
-    ensures idle { repo.new.prepared ≡ None }
-{
-    for number in BATCH..count {
-        commit(repo, endpoint(alloc, number, "default")?, steps)?;
+        commit(repo, filling_request(alloc, filled, number)?, steps)?;
     }
     Ok(())
 }
@@ -75,7 +67,11 @@ pub(crate) fn fill<L: Ledger>(
     requires idle { repo.old.prepared ≡ None }
     ensures idle { repo.new.prepared ≡ None }
 {
-    fill_identities(alloc, repo, sizes.identities, steps)?;
-    fill_policies(alloc, repo, sizes.policies, steps)?;
-    fill_endpoints(alloc, repo, sizes.endpoints, steps)
+    let endpoints = sizes.endpoints.saturating_sub(BATCH);
+    let pods = Filling::Policies(Named::Pods);
+    let prefixes = Filling::Policies(Named::Prefixes);
+    fill_with(alloc, repo, Filling::Identities, sizes.identities, steps)?;
+    fill_with(alloc, repo, pods, sizes.of_pods, steps)?;
+    fill_with(alloc, repo, prefixes, sizes.of_prefixes, steps)?;
+    fill_with(alloc, repo, Filling::Endpoints, endpoints, steps)
 }

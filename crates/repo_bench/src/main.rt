@@ -1,17 +1,21 @@
-//! Times commits of the repository as policies, identities or endpoints double. The figures go to standard error.
+//! Times commits of the repository as policies, identities, endpoints or prefixes double. The figures go to standard error.
 #![tactic(auto)]
 
 mod asked;
 mod figures;
 mod filled;
-mod made;
-mod row;
+mod peers;
+mod pods;
+mod policies;
 mod runs;
+mod table;
 
 ghost use Rattle.std.specs.Prelude.{◌≡◌, None};
 
+use crate::figures::Figures;
 use crate::filled::{Sizes, fill};
-use crate::row::{Row, tell_all};
+use crate::runs::time_runs;
+use crate::table::{Column, KINDS, tell};
 use anyhow::Result;
 use pol_data::Steps;
 use pol_model::Mode;
@@ -20,93 +24,104 @@ use std::marker::Brand;
 use std::rt::Clock;
 use std::sync::ledger::{Blank, Ledger};
 
+/// Times each kind.
+fn time_all<R: Clock + AllocGlobal, L: Ledger>(
+    rt: &R,
+    repo: &mut Repo,
+    steps: &mut Steps<L>,
+) -> Result<Vec<Figures>>
+    requires idle { repo.old.prepared ≡ None }
+{
+    let mut figures = Vec::new(rt.alloc());
+    for kind in &KINDS {
+        figures.push(time_runs(rt, repo, *kind, steps)?)?;
+    }
+    Ok(figures)
+}
+
 /// Fills the repository up to the sizes, and times each kind there.
-fn measure_in<R: Clock + Eprint + AllocGlobal, L: Ledger>(
+fn measure_in<R: Clock + AllocGlobal, L: Ledger>(
     rt: &R,
     repo: &mut Repo,
     sizes: Sizes,
-    before: Row,
     steps: &mut Steps<L>,
-) -> Result<Row>
+) -> Result<Vec<Figures>>
     requires idle { repo.old.prepared ≡ None }
 {
     fill(rt.alloc(), repo, sizes, steps)?;
-    tell_all(rt, repo, before, steps)
+    time_all(rt, repo, steps)
 }
 
 /// The same from an empty repository.
-fn measure_over<R: Clock + Eprint + AllocGlobal, L: Ledger>(
+fn measure_over<R: Clock + AllocGlobal, L: Ledger>(
     rt: &R,
     blank: Blank,
     sizes: Sizes,
-    before: Row,
-) -> Result<Row>
+) -> Result<Vec<Figures>>
     requires name { blank.name ≡ L.name }
     requires parts { blank.parts ≡ L.parts }
     requires some { blank.parts ≡ 1 }
 {
     let mut steps = Steps::<L>::new(blank);
     let mut repo = Repo::new(rt.alloc(), Mode::Default, true)?;
-    measure_in(rt, &mut repo, sizes, before, &mut steps)
+    measure_in(rt, &mut repo, sizes, &mut steps)
 }
 
-fn measure<R: Clock + Eprint + AllocGlobal>(rt: &R, sizes: Sizes, before: Row) -> Result<Row> {
-    let Sizes {
-        policies,
-        identities,
-        endpoints,
-    } = sizes;
-    eprintln!(rt; "{policies} policies, {identities} identities, {endpoints} endpoints")?;
-    measure_over::<R, Brand>(rt, Blank::new(1), sizes, before)
+fn measure<R: Clock + AllocGlobal>(rt: &R, sizes: Sizes) -> Result<Vec<Figures>> {
+    measure_over::<R, Brand>(rt, Blank::new(1), sizes)
 }
 
-/// Doubles the policies.
-fn of_policies<R: Clock + Eprint + AllocGlobal>(rt: &R) -> Result<()> {
+/// What is doubled.
+#[derive(Clone, Copy)]
+enum Doubled {
+    Policies,
+    Identities,
+    Endpoints,
+    Prefixes,
+}
+
+/// The sizes with so many of what is doubled: half of the policies list label peers, and half prefixes.
+fn sizes_with(doubled: Doubled, count: u32) -> Sizes {
     let mut sizes = Sizes {
-        policies: 250,
+        of_pods: 500,
+        of_prefixes: 500,
         identities: 4_000,
         endpoints: 256,
     };
-    let mut row = row::none();
-    for _ in 0..4 {
-        row = measure(rt, sizes, row)?;
-        sizes.policies = sizes.policies.wrapping_mul(2);
+    match doubled {
+        Doubled::Policies => {
+            sizes.of_pods = count / 2;
+            sizes.of_prefixes = count / 2;
+        }
+        Doubled::Identities => sizes.identities = count,
+        Doubled::Endpoints => sizes.endpoints = count,
+        Doubled::Prefixes => sizes.of_prefixes = count / 10,
     }
-    Ok(())
+    sizes
 }
 
-/// Doubles the identities.
-fn of_identities<R: Clock + Eprint + AllocGlobal>(rt: &R) -> Result<()> {
-    let mut sizes = Sizes {
-        policies: 1_000,
-        identities: 250,
-        endpoints: 256,
-    };
-    let mut row = row::none();
-    for _ in 0..7 {
-        row = measure(rt, sizes, row)?;
-        sizes.identities = sizes.identities.wrapping_mul(2);
+/// Doubles it from a count on, and tells the figures at so many counts.
+fn double<R: Clock + Eprint + AllocGlobal>(
+    rt: &R,
+    doubled: Doubled,
+    what: &str,
+    least: u32,
+    times: u32,
+) -> Result<()> {
+    let mut columns = Vec::new(rt.alloc());
+    let mut count = least;
+    for _ in 0..times {
+        let figures = measure(rt, sizes_with(doubled, count))?;
+        columns.push(Column { count, figures })?;
+        count = count.wrapping_mul(2);
     }
-    Ok(())
-}
-
-/// Doubles the endpoints.
-fn of_endpoints<R: Clock + Eprint + AllocGlobal>(rt: &R) -> Result<()> {
-    let mut sizes = Sizes {
-        policies: 1_000,
-        identities: 4_000,
-        endpoints: 64,
-    };
-    let mut row = row::none();
-    for _ in 0..3 {
-        row = measure(rt, sizes, row)?;
-        sizes.endpoints = sizes.endpoints.wrapping_mul(2);
-    }
-    Ok(())
+    tell(rt, what, columns.as_slice())
 }
 
 fn main(rt: HostRuntime) -> Result<()> {
-    of_policies(&rt)?;
-    of_identities(&rt)?;
-    of_endpoints(&rt)
+    eprintln!(rt; "microseconds of a commit, and how many times the figure on the left they are")?;
+    double(&rt, Doubled::Policies, "policies", 250, 4)?;
+    double(&rt, Doubled::Identities, "identities", 250, 7)?;
+    double(&rt, Doubled::Endpoints, "endpoints", 64, 3)?;
+    double(&rt, Doubled::Prefixes, "prefixes", 1_000, 5)
 }

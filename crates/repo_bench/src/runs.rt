@@ -1,8 +1,9 @@
 //! Requests committed, and timed.
 ghost use Rattle.std.specs.Prelude.{◌≡◌, None};
 
-use crate::asked::{BATCH, Kind, Step, requests};
-use crate::figures::{Figures, lesser};
+use crate::asked::{BATCH, Kind, Step, requests, steps_of};
+use crate::figures::{Figures, none};
+use crate::peers::Named;
 use anyhow::Result;
 use pol_data::Steps;
 use pol_model::{CommitError, Request};
@@ -11,8 +12,14 @@ use std::rt::Clock;
 use std::sync::ledger::Ledger;
 use std::time::Instant;
 
-/// How many runs there are; the shortest counts.
-const RUNS: u32 = 15;
+/// How many runs of a kind there are; the shortest counts. There are no more policies of a kind than 100 in the least
+/// repository, and each run on the oldest policies takes the next ones.
+fn runs_of(kind: Kind) -> u32 {
+    match kind {
+        Kind::Policy(Named::AllBut) => 3,
+        _ => 12,
+    }
+}
 
 /// Commits a request.
 pub(crate) fn commit<L: Ledger>(
@@ -76,8 +83,7 @@ fn time_step<R: Clock + AllocGlobal, L: Ledger>(
     Ok(took / u128::from(BATCH))
 }
 
-/// Something comes, another takes its place if that is a policy, and it goes. What is there from the beginning goes first,
-/// and comes again.
+/// Times each step of a kind.
 fn time_run<R: Clock + AllocGlobal, L: Ledger>(
     rt: &R,
     repo: &mut Repo,
@@ -88,21 +94,9 @@ fn time_run<R: Clock + AllocGlobal, L: Ledger>(
     requires idle { repo.old.prepared ≡ None }
     ensures idle { repo.new.prepared ≡ None }
 {
-    let mut figures = crate::figures::none();
-    match kind {
-        Kind::Oldest => {
-            figures.goes = time_step(rt, repo, kind, Step::Goes, run, steps)?;
-            figures.comes = time_step(rt, repo, kind, Step::Comes, run, steps)?;
-        }
-        Kind::Identity | Kind::Endpoint | Kind::Mode => {
-            figures.comes = time_step(rt, repo, kind, Step::Comes, run, steps)?;
-            figures.goes = time_step(rt, repo, kind, Step::Goes, run, steps)?;
-        }
-        Kind::KnownPeers | Kind::NewPeers | Kind::NewPrefixes => {
-            figures.comes = time_step(rt, repo, kind, Step::Comes, run, steps)?;
-            figures.replaces = time_step(rt, repo, kind, Step::Replaces, run, steps)?;
-            figures.goes = time_step(rt, repo, kind, Step::Goes, run, steps)?;
-        }
+    let mut figures = none();
+    for step in steps_of(kind) {
+        figures = figures.with(*step, time_step(rt, repo, kind, *step, run, steps)?);
     }
     Ok(figures)
 }
@@ -118,8 +112,8 @@ pub(crate) fn time_runs<R: Clock + AllocGlobal, L: Ledger>(
     ensures idle { repo.new.prepared ≡ None }
 {
     let mut least = time_run(rt, repo, kind, 0, steps)?;
-    for run in 1..RUNS {
-        least = lesser(least, time_run(rt, repo, kind, run, steps)?);
+    for run in 1..runs_of(kind) {
+        least = least.lesser(time_run(rt, repo, kind, run, steps)?);
     }
     Ok(least)
 }

@@ -4,7 +4,7 @@ use Rattle.pol_facts.specs.Holding.{has_row}
 use Rattle.pol_model.specs.declared.row.IdentityRow.{IdentityRow}
 use Rattle.pol_selcache.specs.Live.{AreExact}
 use Rattle.pol_selcache.proofs.Coming.{exact_without}
-use Rattle.cache_bench.proofs.is_given_back.Goals as goal
+use Rattle.cache_bench.proofs.turns.is_given_back.Goals as goal
 
 pub returns : goal.returns
 returns c = record {

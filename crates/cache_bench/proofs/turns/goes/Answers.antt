@@ -1,5 +1,5 @@
 use Rattle.pol_selcache.proofs.Coming.{newest_changed, one_may_go}
-use Rattle.cache_bench.proofs.goes.Goals as goal
+use Rattle.cache_bench.proofs.turns.goes.Goals as goal
 
 pub change-requires : goal.change-requires
 change-requires g c = record { may = one_may_go c.args.number c.args.identities.now c.requires.held c.args.revision c.args.cache.now c.requires.newer c.requires.exact }

@@ -3,7 +3,7 @@ use Rattle.pol_model.specs.declared.row.IdentityRow.{IdentityRow}
 use Rattle.pol_selcache.specs.Cache.{MayPlan}
 use Rattle.pol_facts.specs.Holding.{has_row}
 use Rattle.pol_selcache.proofs.Coming.{it_is_held, new_may_come}
-use Rattle.cache_bench.proofs.acquired.Goals as goal
+use Rattle.cache_bench.proofs.turns.labels_acquired.Goals as goal
 
 pub returns-in-Ok-clause-may : goal.returns-in-Ok-clause-may
 returns-in-Ok-clause-may c = λ revision cache newer exact.

@@ -1,5 +1,5 @@
 use Rattle.pol_selcache.proofs.Coming.{exact_over_all, newest_changed}
-use Rattle.cache_bench.proofs.comes.Goals as goal
+use Rattle.cache_bench.proofs.turns.comes.Goals as goal
 
 pub returns-in-Ok-clause-exact : goal.returns-in-Ok-clause-exact
 returns-in-Ok-clause-exact g c = λ _. exact_over_all c.args.identities.now c.change.new.self.live c.in-Ok.ensures.exact
