@@ -108,7 +108,7 @@ pub(crate) fn peers(alloc: Global, ask: Ask, first: u32, count: u32) -> Result<V
 }
 
 /// What takes a number, and is taken by the selector of the number 0.
-pub(crate) fn comer(alloc: Global, ask: Ask) -> Result<Comer> {
+pub(crate) fn comer_for(alloc: Global, ask: Ask) -> Result<Comer> {
     match ask {
         Ask::OwnPrefix => Ok(Comer::Prefix(prefix(0))),
         _ => Ok(Comer::Labels(label_set(alloc)?)),
