@@ -22,7 +22,7 @@ pub(crate) enum Ask {
 
 /// What takes a number.
 #[derive(Drop)]
-pub(crate) enum Comer {
+pub(crate) enum Holder {
     Labels(LabelSet),
     Prefix(Prefix),
 }
@@ -108,9 +108,9 @@ pub(crate) fn peers(alloc: Global, ask: Ask, first: u32, count: u32) -> Result<V
 }
 
 /// What takes a number, and is taken by the selector of the number 0.
-pub(crate) fn comer_for(alloc: Global, ask: Ask) -> Result<Comer> {
+pub(crate) fn holder_for(alloc: Global, ask: Ask) -> Result<Holder> {
     match ask {
-        Ask::OwnPrefix => Ok(Comer::Prefix(prefix(0))),
-        _ => Ok(Comer::Labels(label_set(alloc)?)),
+        Ask::OwnPrefix => Ok(Holder::Prefix(prefix(0))),
+        _ => Ok(Holder::Labels(label_set(alloc)?)),
     }
 }

@@ -11,7 +11,7 @@ ghost use Rattle.std.specs.Prelude.{◌≡◌};
 ghost use Rattle.pol_changes.specs.Log.{newest};
 ghost use Rattle.pol_selcache.specs.Live.{AreExact};
 
-use crate::asked::{Ask, comer_for};
+use crate::asked::{Ask, holder_for};
 use crate::selectors::{add_all, time_oldest};
 use crate::turns::rounds;
 use anyhow::Result;
@@ -46,8 +46,8 @@ fn time_all<R: Clock + AllocGlobal, L: Ledger>(
     match moves {
         Moves::Selector => Ok(Some(time_oldest(rt, cache, identities, ask, steps)?)),
         Moves::Identity => {
-            let comer = comer_for(rt.alloc(), ask)?;
-            Ok(rounds(rt, cache, identities, &comer, steps))
+            let holder = holder_for(rt.alloc(), ask)?;
+            Ok(rounds(rt, cache, identities, &holder, steps))
         }
     }
 }

@@ -8,7 +8,7 @@ ghost use Rattle.pol_model.specs.Prefixes.{number_of_prefix};
 ghost use Rattle.pol_selcache.specs.Cache.{MayCome, MayPlan};
 ghost use Rattle.pol_selcache.specs.Live.{AreExact, Live, rows_without};
 
-use crate::asked::Comer;
+use crate::asked::Holder;
 use pol_addr::Prefix;
 use pol_data::Steps;
 use pol_ident::Identities;
@@ -80,13 +80,13 @@ fn prefix_taken(identities: &mut Identities, prefix: Prefix) -> Option<u32>
 }
 
 /// Takes a number for what comes, where it has none.
-fn taken(identities: &mut Identities, comer: &Comer) -> Option<u32>
+fn taken(identities: &mut Identities, holder: &Holder) -> Option<u32>
     ensures may { IfSome result (λ number. MayCome number identities.old identities.new) }
     ensures held { IfSome result (λ number. has_row number identities.new ≡ true) }
 {
-    match comer {
-        Comer::Labels(labels) => labels_taken(identities, labels),
-        Comer::Prefix(prefix) => prefix_taken(identities, *prefix),
+    match holder {
+        Holder::Labels(labels) => labels_taken(identities, labels),
+        Holder::Prefix(prefix) => prefix_taken(identities, *prefix),
     }
 }
 
@@ -150,7 +150,7 @@ fn turn<R: Clock, L: Ledger>(
     rt: &R,
     cache: &mut SelectorCache,
     identities: &mut Identities,
-    comer: &Comer,
+    holder: &Holder,
     revision: u64,
     steps: &mut Steps<L>,
 ) -> Option<(u128, u128)>
@@ -160,7 +160,7 @@ fn turn<R: Clock, L: Ledger>(
     ensures newest { IfSome result (λ took. newest cache.new.log ≤ revision + 1) }
     ensures exact { IfSome result (λ took. AreExact identities.new cache.new.live) }
 {
-    let number = taken(identities, comer)?;
+    let number = taken(identities, holder)?;
     let start = Instant::now(rt).ok()?;
     if !comes(cache, identities, number, revision, steps) {
         return None;
@@ -182,7 +182,7 @@ fn round<R: Clock, L: Ledger>(
     rt: &R,
     cache: &mut SelectorCache,
     identities: &mut Identities,
-    comer: &Comer,
+    holder: &Holder,
     before: u64,
     steps: &mut Steps<L>,
 ) -> Option<(u128, u128)>
@@ -196,7 +196,7 @@ fn round<R: Clock, L: Ledger>(
     let mut going = 0u128;
     for i in 0..TURNS {
         let revision = before + 2 * u64::from(i) + 1;
-        let (came, went) = turn(rt, cache, identities, comer, revision, steps)?;
+        let (came, went) = turn(rt, cache, identities, holder, revision, steps)?;
         coming = coming.wrapping_add(came);
         going = going.wrapping_add(went);
     }
@@ -209,7 +209,7 @@ pub(crate) fn rounds<R: Clock, L: Ledger>(
     rt: &R,
     cache: &mut SelectorCache,
     identities: &mut Identities,
-    comer: &Comer,
+    holder: &Holder,
     steps: &mut Steps<L>,
 ) -> Option<(u128, u128)>
     requires newest { newest cache.old.log ≡ 0 }
@@ -219,7 +219,7 @@ pub(crate) fn rounds<R: Clock, L: Ledger>(
     let mut going = u128::MAX;
     for i in 0..ROUNDS {
         let before = u64::from(i) * 40;
-        let (came, went) = round(rt, cache, identities, comer, before, steps)?;
+        let (came, went) = round(rt, cache, identities, holder, before, steps)?;
         coming = coming.min(came);
         going = going.min(went);
     }

@@ -48,7 +48,7 @@ fn label_set(alloc: Global, number: u32) -> Result<LabelSet> {
 
 /// What takes a number.
 #[derive(Drop)]
-enum Comer {
+enum Holder {
     Labels(LabelSet),
     Prefix(Prefix),
 }
@@ -61,21 +61,21 @@ enum Kind {
 }
 
 /// Four labels, or a prefix of 24 bits.
-fn comer(alloc: Global, kind: Kind, number: u32) -> Result<Comer> {
+fn holder_for(alloc: Global, kind: Kind, number: u32) -> Result<Holder> {
     match kind {
-        Kind::Labels => Ok(Comer::Labels(label_set(alloc, number)?)),
+        Kind::Labels => Ok(Holder::Labels(label_set(alloc, number)?)),
         Kind::Prefix => {
             let bits = number.wrapping_mul(1 << 8);
-            Ok(Comer::Prefix(Prefix::new(Addr { bits }, 24)))
+            Ok(Holder::Prefix(Prefix::new(Addr { bits }, 24)))
         }
     }
 }
 
 /// So many of them, from a number on.
-fn comers(alloc: Global, kind: Kind, first: u32, count: u32) -> Result<Vec<Comer>> {
+fn holders(alloc: Global, kind: Kind, first: u32, count: u32) -> Result<Vec<Holder>> {
     let mut all = Vec::new(alloc);
     for i in 0..count {
-        all.push(comer(alloc, kind, first.wrapping_add(i))?)?;
+        all.push(holder_for(alloc, kind, first.wrapping_add(i))?)?;
     }
     Ok(all)
 }
@@ -100,16 +100,16 @@ fn take_prefix(identities: &mut Identities, prefix: Prefix, numbers: &mut Vec<u3
     Ok(())
 }
 
-fn take(identities: &mut Identities, comer: &Comer, numbers: &mut Vec<u32>) -> Result<()> {
-    match comer {
-        Comer::Labels(labels) => take_labels(identities, labels, numbers),
-        Comer::Prefix(prefix) => take_prefix(identities, *prefix, numbers),
+fn take(identities: &mut Identities, holder: &Holder, numbers: &mut Vec<u32>) -> Result<()> {
+    match holder {
+        Holder::Labels(labels) => take_labels(identities, labels, numbers),
+        Holder::Prefix(prefix) => take_prefix(identities, *prefix, numbers),
     }
 }
 
-fn take_all(identities: &mut Identities, comers: &[Comer], numbers: &mut Vec<u32>) -> Result<()> {
-    for comer in comers {
-        take(identities, comer, numbers)?;
+fn take_all(identities: &mut Identities, holders: &[Holder], numbers: &mut Vec<u32>) -> Result<()> {
+    for holder in holders {
+        take(identities, holder, numbers)?;
     }
     Ok(())
 }
@@ -130,11 +130,11 @@ fn give_back(identities: &mut Identities, numbers: &[u32]) -> u32 {
 fn time_takes<R: Clock + AllocGlobal>(
     rt: &R,
     identities: &mut Identities,
-    comers: &[Comer],
+    holders: &[Holder],
     numbers: &mut Vec<u32>,
 ) -> Result<u128> {
     let start = Instant::now(rt)?;
-    take_all(identities, comers, numbers)?;
+    take_all(identities, holders, numbers)?;
     Ok(start.elapsed(rt)?.as_nanos())
 }
 
@@ -153,10 +153,10 @@ fn time_returns<R: Clock + AllocGlobal>(
 fn time_turn<R: Clock + AllocGlobal>(
     rt: &R,
     identities: &mut Identities,
-    comers: &[Comer],
+    holders: &[Holder],
 ) -> Result<(u128, u128)> {
-    let mut numbers = Vec::with_capacity(rt.alloc(), comers.len())?;
-    let taking = time_takes(rt, identities, comers, &mut numbers)?;
+    let mut numbers = Vec::with_capacity(rt.alloc(), holders.len())?;
+    let taking = time_takes(rt, identities, holders, &mut numbers)?;
     let returning = time_returns(rt, identities, numbers.as_slice())?;
     Ok((taking, returning))
 }
@@ -165,12 +165,12 @@ fn time_turn<R: Clock + AllocGlobal>(
 fn time_turns<R: Clock + AllocGlobal>(
     rt: &R,
     identities: &mut Identities,
-    comers: &[Comer],
+    holders: &[Holder],
 ) -> Result<(u128, u128)> {
     let mut taking = u128::MAX;
     let mut returning = u128::MAX;
     for _ in 0..TURNS {
-        let (took, returned) = time_turn(rt, identities, comers)?;
+        let (took, returned) = time_turn(rt, identities, holders)?;
         taking = taking.min(took);
         returning = returning.min(returned);
     }
@@ -186,9 +186,9 @@ fn grow<R: Clock + AllocGlobal>(
     first: u32,
     count: u32,
 ) -> Result<u128> {
-    let comers = comers(rt.alloc(), kind, first, count)?;
+    let holders = holders(rt.alloc(), kind, first, count)?;
     let mut numbers = Vec::new(rt.alloc());
-    time_takes(rt, identities, comers.as_slice(), &mut numbers)
+    time_takes(rt, identities, holders.as_slice(), &mut numbers)
 }
 
 /// Takes this many numbers, and gives the mean of an acquire on the way.
@@ -257,8 +257,8 @@ fn time_at<R: Clock + Eprint + AllocGlobal>(
     requires { 501 ≤ rows }
 {
     let filling = fill(rt, identities, kind, rows - WINDOW)?;
-    let comers = comers(rt.alloc(), kind, rows, WINDOW)?;
-    let (taking, returning) = time_turns(rt, identities, comers.as_slice())?;
+    let holders = holders(rt.alloc(), kind, rows, WINDOW)?;
+    let (taking, returning) = time_turns(rt, identities, holders.as_slice())?;
     let (first, second) = headings(kind);
     let one = time_heading(rt, identities, &first)?;
     let each = time_heading(rt, identities, &second)?;
