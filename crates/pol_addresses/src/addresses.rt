@@ -66,6 +66,13 @@ impl Addresses {
         })
     }
 
+    /// The table of the prefixes that have a number, shared with whoever else has it.
+    pub fn prefixes(&self) -> &Arc<PrefixTable>
+        ensures prefixes { arc_value result.now ≡ self.now.prefixes }
+    {
+        &self.prefixes
+    }
+
     /// The identity of an address: that of the endpoint that has it, else of the longest held prefix that contains it, else
     /// of the world (Cilium, Terminology, "Identity"). It takes no memory.
     pub fn remote(&self, addr: Addr) -> u32

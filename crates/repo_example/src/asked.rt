@@ -55,17 +55,25 @@ fn rules(alloc: Global) -> Option<Rules> {
     Rules::one(alloc, rule).ok()
 }
 
-/// The policy of one rule that lets every endpoint reach that prefix.
-pub(crate) fn policy(alloc: Global) -> Option<Request> {
-    let key = PolicyKey {
+fn key(alloc: Global) -> Option<PolicyKey> {
+    Some(PolicyKey {
         cluster_wide: true,
         namespace: Text::empty(alloc),
         name: Text::from_str(alloc, "p").ok()?,
-    };
+    })
+}
+
+/// The policy of one rule that lets every endpoint reach that prefix.
+pub(crate) fn policy(alloc: Global) -> Option<Request> {
     Some(Request::Apply(Policy {
-        key,
+        key: key(alloc)?,
         rules: rules(alloc)?,
     }))
+}
+
+/// That the policy goes.
+pub(crate) fn no_policy(alloc: Global) -> Option<Request> {
+    Some(Request::Remove(key(alloc)?))
 }
 
 /// Commits the request.

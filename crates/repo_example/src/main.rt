@@ -3,6 +3,7 @@
 #![tactic(auto)]
 
 mod asked;
+mod shared;
 mod taken;
 mod withdrawn;
 
@@ -10,5 +11,6 @@ use anyhow::Result;
 
 fn main(rt: HostRuntime) -> Result<()> {
     taken::show(&rt)?;
-    withdrawn::show(&rt)
+    withdrawn::show(&rt)?;
+    shared::show(&rt)
 }

@@ -12,7 +12,7 @@ use std::marker::Brand;
 use std::sync::ledger::{Blank, Ledger};
 
 /// The endpoint first, and then the policy.
-fn fill<L: Ledger>(alloc: Global, repo: &mut Repo, steps: &mut Steps<L>) -> Option<()>
+pub(crate) fn fill<L: Ledger>(alloc: Global, repo: &mut Repo, steps: &mut Steps<L>) -> Option<()>
     requires idle { repo.old.prepared ≡ None }
     ensures idle { IfSome result (λ _. repo.new.prepared ≡ None) }
 {
