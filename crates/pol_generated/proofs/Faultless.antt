@@ -103,7 +103,7 @@ round_quiet n round =
 
 -- ---- the whole script
 
-asked_plays : (options : Options) (n : ℕ) → Plays (start options) (asked.asked n)
+pub asked_plays : (options : Options) (n : ℕ) → Plays (start options) (asked.asked n)
 asked_plays options n =
     let first = asked.endpoints n in
     let rounds = flat_map (asked.round_commands n) (range_with_len 0 n) in

@@ -13,3 +13,4 @@ pub mod Plays
 pub mod FewRows
 pub mod Settled
 pub mod Faultless
+pub mod Counted

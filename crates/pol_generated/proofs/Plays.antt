@@ -59,7 +59,7 @@ committed : (s : State) (request : Request) (fault : Option Fault) → fault ≡
 committed s request None none = refl
 committed s request (Some fault) none = absurd cc
 
-committed_state : (s : State) (request : Request) (fault : Option Fault) → fault ≡ None → state_with s request fault ≡ after s request
+pub committed_state : (s : State) (request : Request) (fault : Option Fault) → fault ≡ None → state_with s request fault ≡ after s request
 committed_state s request None none = refl
 committed_state s request (Some fault) none = absurd cc
 

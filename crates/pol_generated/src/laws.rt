@@ -1,6 +1,7 @@
 //! Laws of generated scripts, over the definitions alone.
 //! Each function does nothing: its contract is the law.
-ghost use Rattle.std.specs.Prelude.{◌≡◌, ℕ, map, Ok};
+ghost use Rattle.std.specs.Prelude.{◌≡◌, ℕ, ◌+◌, length, map, Ok};
+ghost use Rattle.std.specs.List.{count_by};
 ghost use Rattle.pol_facts.specs.WithoutFaults.{WithoutFaults};
 ghost use Rattle.pol_gen.specs.Generated.{generated};
 ghost use Rattle.pol_model.specs.declared.options.Options.{Options};
@@ -9,12 +10,19 @@ ghost use Rattle.pol_run.specs.Serial.{serial_answers};
 ghost use Rattle.pol_script.specs.Lines.{lines_of};
 ghost use Rattle.pol_script.specs.Reading.{reading_of};
 ghost use Rattle.pol_generated.specs.Asked.{asked};
-ghost use Rattle.pol_generated.specs.Requests.{requests_asked};
+ghost use Rattle.pol_generated.specs.Requests.{is_committed, requests_asked, requests_read};
 
 /// Each line of a generated script is read as what it is to ask, for every number, and there are no other
 /// lines. So none has a fault of its own ('profile').
 pub fn generated_lines_are_read()
     ensures { (n : ℕ) → map reading_of (lines_of (generated n)) ≡ map Ok (asked n) }
+{}
+
+/// The requests of a generated script are those which its lines read as, in their order, and there are 32 and one for each
+/// round ('profile').
+pub fn requests_are_those_of_lines()
+    ensures lines { (n : ℕ) → requests_read (readings_of (generated n)) ≡ requests_asked n }
+    ensures count { (n : ℕ) → length (requests_asked n) ≡ 32 + n }
 {}
 
 /// The requests of a generated script commit one after another, for every number and whatever the options: each is
@@ -27,4 +35,10 @@ pub fn no_request_has_a_fault()
 /// order, from the state alone, none has an answer that makes the status 1 ('profile').
 pub fn no_generated_line_is_refused()
     ensures { (options : Options) (n : ℕ) → status_of (serial_answers options (readings_of (generated n))) ≡ 0 }
+{}
+
+/// So 32 lines of a generated script and one for each round are answered by a commit: answered in input order, from the
+/// state alone, as the summary counts them ('profile').
+pub fn commits_are_counted()
+    ensures { (options : Options) (n : ℕ) → count_by is_committed (serial_answers options (readings_of (generated n))) ≡ 32 + n }
 {}
