@@ -84,7 +84,7 @@ requests_counted n =
     let endpoints : how_many first ≡ 32 = each_one (λ i. asked.endpoint_command i (after_draws i n) ∷ []) (λ i. refl) 0 32 in
     let policies : how_many rounds ≡ n = each_one (asked.round_commands n) (round_many n) 0 n in
     let last : how_many (asked.last_check n) ≡ 0 = no_check_where (n % 10 == 0) (after_draws (draws_before n) n) in
-    both_many (first ++ rounds) (asked.last_check n) ∙ (λ i. (both_many first rounds ∙ (λ j. endpoints j + policies j)) i + last i)
+    both_many (first ++ rounds) (asked.last_check n) ∙ (λ i. (both_many first rounds ∙ (λ j. endpoints j + policies j)) i + last i) ∙ omega arith
 
 -- ---- each is answered by a commit, and no other line is
 
@@ -113,17 +113,22 @@ plays_counted options s phase (command.Commit session request ∷ others) plays 
     (sym (committed_state s request (fault_of s request) none))
     (one_more (commit_answer s request) (answers_from options (after s request) phase (map Ok others)) true _ (committed s request (fault_of s request) none)
     (plays_counted options (after s request) phase others plays.1))
+    ∙ omega arith
 plays_counted options s phase (command.Look session query ∷ others) plays =
     one_more (look_answer options s query) (answers_from options s phase (map Ok others)) false _
     (looked options s query (endpoint_of query.endpoint s.endpoints)) (plays_counted options s phase others plays.1)
+    ∙ omega arith
 plays_counted options s phase (command.Trace session query ∷ others) plays =
     one_more (trace_answer options s query) (answers_from options s phase (map Ok others)) false _
     (traced options s query (endpoint_of query.endpoint s.endpoints)) (plays_counted options s phase others plays.1)
+    ∙ omega arith
 plays_counted options s phase (command.Sync session ∷ others) plays =
     one_more (answer.Synced s.revision []) (answers_from options s phase (map Ok others)) false _ refl (plays_counted options s phase others plays)
+    ∙ omega arith
 plays_counted options s phase (command.Phase ∷ others) plays =
     let next = phase_after phase (Ok command.Phase) in
     one_more (answer.Phase phase) (answers_from options s next (map Ok others)) false _ refl (plays_counted options s next others plays)
+    ∙ omega arith
 
 pub commits_counted : (options : Options) (n : ℕ) → count_by is_committed (serial_answers options (readings_of (generated n))) ≡ 32 + n
 commits_counted options n =
