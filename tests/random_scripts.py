@@ -1,11 +1,10 @@
 #!/usr/bin/env python3
-"""Random scripts over all operations, 8 sessions and 5 phases: each is played twice, and its answers must be equal.
+"""Random scripts over all operations, up to 8 sessions and 5 phases: the answers to each must be a run of the policy machine.
 
-    tests/random_scripts.py PROGRAM [SEED ..]     plays the scripts of these seeds, 1 to 3 where none is given
+    tests/random_scripts.py PROGRAM [FIRST [LAST]]     plays the scripts of the seeds FIRST to LAST, 1 to 3 without them
 
-A script has 2,000 lines. Of its answers it is also checked that there is one for each line, that the `ok` lines carry
-1 to n, ascending in each session, that phases are counted from 1, and that no verdict is older than its endpoint, nor
-than the newest `synced` line that its session has seen and that isn't older than the endpoint.
+A script has 600 lines. Seed 1 has one session, seed 8 has eight, and so on from 9; each takes 0 to 8 workers. The
+judge of tests/judge says what is wrong with the answers. A play that takes over two minutes has failed.
 """
 import json
 import random
@@ -13,9 +12,11 @@ import subprocess
 import sys
 
 sys.dont_write_bytecode = True
-LINES = 2000
-SESSIONS = 8
+from judge.runs import wrong_with  # noqa: E402
+
+LINES = 600
 PHASES = 5
+SECONDS = 120
 NAMES = [f"e{i}" for i in range(24)]
 KINDS = ["CiliumNetworkPolicy", "CiliumClusterwideNetworkPolicy"]
 
@@ -68,7 +69,7 @@ def query(pick, op):
     return found
 
 
-def line(pick):
+def line(pick, sessions):
     op = pick.choice(["endpoint"] * 3 + ["remove-endpoint", "identity", "remove-identity"] + ["apply"] * 4 + ["delete", "mode"]
                      + ["verdict"] * 6 + ["trace"] * 3 + ["sync"] * 2 + ["faulty"])
     found = {"op": op}
@@ -88,85 +89,36 @@ def line(pick):
         found = query(pick, op)
     elif op == "faulty":
         return pick.choice(['{"op":"sync","session":9}', '{"op":"verdict"}', "[]", "", '{"op":"mode","enable":"on"}', '{"op":"sync","x":1}'])
-    found["session"] = pick.randrange(1, SESSIONS + 1)
+    found["session"] = pick.randrange(1, sessions + 1)
     return json.dumps(found, separators=(",", ":"))
 
 
 def script(seed):
-    pick = random.Random(seed)
+    """The words and the script of a seed."""
+    pick, sessions = random.Random(seed), (seed - 1) % 8 + 1
     ends = {LINES * phase // PHASES for phase in range(1, PHASES)}
-    return [*('{"op":"phase"}' if at in ends else line(pick) for at in range(LINES))]
+    lines = ['{"op":"phase"}' if at in ends else line(pick, sessions) for at in range(LINES)]
+    return ["--workers", str(pick.randrange(9))], "".join(f"{it}\n" for it in lines).encode()
 
 
-class Run:
-    """What the lines so far have shown, by session and by phase."""
-
-    def __init__(self):
-        self.wrong, self.numbers, self.phases, self.added = [], [], 0, {}
-        # The newest `ok` number and the newest `synced` line of each session, and the latter of the phases that ended.
-        self.last, self.synced, self.ended = {}, {}, 0
-
-    def take(self, number, given, told):
-        read = json.loads(given) if told.split()[0] not in ("phase", "refused") else {}
-        session, words = read.get("session", 1), told.split()
-        if words[0] == "ok":
-            self.commit(number, read, session, int(words[1]))
-        elif words[0] == "phase":
-            self.phases += 1
-            self.ended = max([self.ended, *self.synced.values()])
-            if int(words[1]) != self.phases:
-                self.wrong.append(f"line {number}: {told}, and not {self.phases}")
-        elif words[0] == "synced":
-            self.synced[session] = int(words[1])
-        elif words[0] in ("allowed", "denied-by-rule", "denied-by-default"):
-            self.verdict(number, told, read["endpoint"], session, int(words[2]))
-
-    def commit(self, number, read, session, revision):
-        self.numbers.append(revision)
-        if revision <= self.last.get(session, 0):
-            self.wrong.append(f"line {number}: ok {revision}, and {self.last[session]} before it")
-        self.last[session] = revision
-        if read["op"] == "endpoint":
-            self.added[read["name"]] = revision
-
-    def verdict(self, number, told, name, session, revision):
-        added, seen = self.added[name], max(self.ended, self.synced.get(session, 0))
-        if revision < max(added, seen if added <= seen else 0):
-            self.wrong.append(f"line {number}: {told}, behind synced {seen} and the endpoint's {added}")
-
-
-def wrong_with(lines, answers):
-    """What is wrong with the answers, in lines."""
-    if len(answers) != len(lines):
-        return [f"{len(answers)} answers to {len(lines)} lines"]
-    run = Run()
-    for number, (given, told) in enumerate(zip(lines, answers), 1):
-        run.take(number, given, told)
-    if sorted(run.numbers) != [*range(1, len(run.numbers) + 1)]:
-        run.wrong.append("the ok lines don't carry 1 to n, each once")
-    if run.phases != PHASES - 1:
-        run.wrong.append(f"{run.phases} phases ended, and not {PHASES - 1}")
-    return run.wrong
-
-
-def play(command, seed):
-    """What is wrong with two runs of the command on the script of that seed, in lines."""
-    lines = script(seed)
-    given = "".join(f"{it}\n" for it in lines).encode()
-    runs = [subprocess.run([*command], input=given, stdout=subprocess.PIPE, stderr=subprocess.PIPE, timeout=120) for _ in range(2)]
-    if runs[0].stdout != runs[1].stdout or runs[0].returncode != runs[1].returncode:
-        return ["two runs have two answers"]
-    if runs[0].returncode not in (0, 1):
-        return [f"status {runs[0].returncode}"]
-    return wrong_with(lines, runs[0].stdout.decode().splitlines())
+def play(command, seed, limit):
+    """What is wrong with the command's answers to the script of that seed, in lines."""
+    words, given = script(seed)
+    try:
+        ended = subprocess.run([*command, *words], input=given, stdout=subprocess.PIPE, stderr=subprocess.PIPE, timeout=SECONDS)
+    except subprocess.TimeoutExpired:
+        return [f"no end within {SECONDS} seconds"]
+    wrong = wrong_with(given, ended.stdout, ended.returncode, limit=limit)
+    return [wrong] if wrong else []
 
 
 def main(words):
-    failed = False
-    for seed in map(int, words[1:] or ["1", "2", "3"]):
-        wrong = play(words[:1], seed)
-        failed = failed or bool(wrong)
-        print(f"seed {seed}: {'; '.join(wrong[:5]) or 'ok'}")
+    first, last = int((words[1:] or ["1"])[0]), int((words[2:] or words[1:] or ["3"])[0])
+    failed = 0
+    for seed in range(first, last + 1):
+        wrong = play(words[:1], seed, None)
+        failed += bool(wrong)
+        print(f"seed {seed}: {'; '.join(wrong) or 'a run'}", flush=True)
     return 1 if failed else 0
 
 

@@ -1,0 +1,51 @@
+"""Checks of the judge of outputs: it takes what is a run, and refuses what isn't, of small outputs and of the cases."""
+import compare
+from judge import small
+from judge.runs import wrong_with
+
+# The statuses at which the output is the answers to a script.
+ANSWERED = (0, 1)
+# How many entries a policy map may have: policyd keeps no maps yet, so none is too large.
+LIMIT = None
+
+
+def options(words):
+    """The mode and whether the local host is always let in, by the words; None where no script is read."""
+    found = {"--enable-policy": "default", "--allow-localhost": "always"}
+    for name, value in zip(words[::2], words[1::2]):
+        found[name] = value
+    if "--generate" in found:
+        return None
+    return found["--enable-policy"], found["--allow-localhost"] == "always"
+
+
+def of_case(case):
+    """What is wrong with the answers of a case, in lines."""
+    wrong = wrong_with(case.given(), case.out(), case.status(), *options(case.words()), LIMIT)
+    return [wrong] if wrong else []
+
+
+def of_small(shorts, answers, limit, is_run):
+    """What is wrong with what the judge says of a small output, in lines."""
+    status = 1 if small.is_marked(answers) else 0
+    wrong = wrong_with(small.script(shorts), small.output(answers), status, limit=limit)
+    if is_run:
+        return [f"it is refused: {wrong}"] if wrong else []
+    return [] if wrong else ["it is taken for a run"]
+
+
+def of_status():
+    script, output = small.script("E a"), small.output("ok 1 identity 256")
+    return [] if wrong_with(script, output, 1) and wrong_with(script, output[:-1], 0) else ["a wrong status or a cut line is taken"]
+
+
+def checks():
+    """Pairs of a name and what finds out what is wrong, in lines."""
+    for outputs, limit, is_run in ((small.RUNS, None, True), (small.REFUTED, None, False),
+                                   (small.LIMITED_RUNS, small.LIMIT, True), (small.LIMITED_REFUTED, small.LIMIT, False)):
+        for name, *given in outputs:
+            yield f"judge: {'' if is_run else 'no run: '}{name}", lambda given=given, rest=(limit, is_run): of_small(*given, *rest)
+    yield "judge: no run: another status", of_status
+    for case in compare.cases("case", "cases"):
+        if case.status() in ANSWERED and options(case.words()):
+            yield f"judge: {case.name}", lambda case=case: of_case(case)
