@@ -1,0 +1,4 @@
+pub mod Said
+pub mod Differences
+pub mod Merging
+pub mod Making
