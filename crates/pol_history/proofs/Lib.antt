@@ -10,5 +10,11 @@ pub mod Published
 pub mod Grown
 pub mod Schedule
 pub mod Contents
+pub mod LookedIn
+pub mod Beginnings
+pub mod Own
+pub mod Later
+pub mod Meetings
+pub mod Reported
 pub mod Looks
 pub mod Small

@@ -27,3 +27,17 @@ pub record Grows (options : Options) (old new : PassView) (own : List Request) :
 pub record GrowsWhole (options : Options) (pass : ℕ) (old new : PassView) (own : List Request) : Type 0 where
   pub grows : Grows options old new own
   pub commits : commits_by pass new.history ≡ new.mine
+
+-- a pass: its number, and what it has
+pub record PassState : Type 0 where
+  pub number : ℕ
+  pub has : PassView
+
+-- a call of the pass, which keeps its number, and the same of a call after which it has seen all its own commits
+pub record PassGrows (options : Options) (old new : PassState) (own : List Request) : Type 0 where
+  pub number : new.number ≡ old.number
+  pub grows : Grows options old.has new.has own
+
+pub record PassGrowsWhole (options : Options) (old new : PassState) (own : List Request) : Type 0 where
+  pub number : new.number ≡ old.number
+  pub whole : GrowsWhole options old.number old.has new.has own

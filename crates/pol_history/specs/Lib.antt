@@ -10,6 +10,8 @@ pub mod Meet
 pub mod Calls
 pub mod Regenerate
 pub mod Content
+pub mod Held
+pub mod LookIn
 pub mod ExampleEvents
 pub mod SmallHistories
 pub mod SmallRuns
