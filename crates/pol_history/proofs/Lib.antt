@@ -16,5 +16,7 @@ pub mod Own
 pub mod Later
 pub mod Meetings
 pub mod Reported
+pub mod Taken
+pub mod SyncTurns
 pub mod Looks
 pub mod Small

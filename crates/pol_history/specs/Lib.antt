@@ -9,6 +9,7 @@ pub mod Grows
 pub mod Meet
 pub mod Calls
 pub mod Regenerate
+pub mod SlotTurns
 pub mod Content
 pub mod Held
 pub mod LookIn

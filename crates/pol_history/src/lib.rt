@@ -6,7 +6,7 @@
 //! `Look` is what a look-up finds, `Content` what a board holds, `Held` what that tells of the history, and
 //! `LookIn` what a look-up finds in it. `Machine` is the pure machine, `Grows` how what a pass has seen grows
 //! in a call, `Meet` what passes see of each other, and `Calls` and `Regenerate` what calls of the node may
-//! answer.
+//! answer. `SlotTurns` is what a sync learns of the slots, and `turn` that this is what it tells.
 //! The laws between them are in `laws`.
 //!
 //! Small histories and runs hold the definitions (`examples`; `SmallHistories`, `SmallRuns`, `SmallMeetings`).
@@ -16,6 +16,8 @@ mod event;
 pub mod examples;
 pub mod laws;
 mod machine;
+pub mod turn;
 
 pub use event::{EndpointId, HistoryEvent, LastReport};
 pub use machine::{Event, Reply};
+pub use turn::SlotTurn;
