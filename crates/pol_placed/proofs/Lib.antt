@@ -15,3 +15,9 @@ pub mod Sole
 pub mod PlayingOn
 pub mod PhaseLines
 pub mod Phased
+pub mod CutScript
+pub mod PutBack
+pub mod Seated
+pub mod SeatedLines
+pub mod OneMore
+pub mod ReadSessions

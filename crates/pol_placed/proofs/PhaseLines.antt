@@ -63,7 +63,7 @@ phase_take (line ∷ lines) (suc i) (suc j) fewer =
 -- ---- lines of the phase
 
 -- what a line adds in front of the lines of a phase
-abbrev lead : ℕ → Option (Command × Answer) → List (Command × Answer)
+abbrev pub lead : ℕ → Option (Command × Answer) → List (Command × Answer)
 lead zero None = []
 lead zero (Some x) = x ∷ []
 lead (suc phase) found = []
@@ -73,10 +73,10 @@ lead_cons None xs = refl
 lead_cons (Some x) xs = refl
 
 module _ (session : ℕ) where
-  played_past : (line : Line) (lines : List Line) (phase : ℕ) → is_phase line ≡ true → played_in (suc phase) session (line ∷ lines) ≡ played_in phase session lines
+  pub played_past : (line : Line) (lines : List Line) (phase : ℕ) → is_phase line ≡ true → played_in (suc phase) session (line ∷ lines) ≡ played_in phase session lines
   played_past line lines phase is = rw is refl
 
-  played_more : (line : Line) (lines : List Line) (phase : ℕ) → is_phase line ≡ false
+  pub played_more : (line : Line) (lines : List Line) (phase : ℕ) → is_phase line ≡ false
       → played_in phase session (line ∷ lines) ≡ lead phase (command_of session line) ++ played_in phase session lines
   played_more line lines zero is = rw is (lead_cons (command_of session line) (played_in 0 session lines))
   played_more line lines (suc phase) is = rw is refl

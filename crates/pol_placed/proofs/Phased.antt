@@ -31,7 +31,7 @@ prefix_take front whole n begins within = ap (take n) (sym begins.1) ∙ take-ap
 prefix_itself : {X : Type 0} (front whole : List X) → IsPrefix front whole → take (length front) whole ≡ front
 prefix_itself front whole begins = prefix_take front whole (length front) begins (omega arith) ∙ take-length front
 
-prefix_join : (a b c : List HistoryEvent) → IsPrefix a b → IsPrefix b c → IsPrefix a c
+pub prefix_join : (a b c : List HistoryEvent) → IsPrefix a b → IsPrefix b c → IsPrefix a c
 prefix_join a b c one two =
     (one.0 ++ two.0, sym (append_assoc a one.0 two.0) ∙ ap (λ (h : List HistoryEvent). h ++ two.0) one.1 ∙ two.1)
 

@@ -132,7 +132,7 @@ none_ok session (Ok (command.Commit its request), answer.Committed revision iden
     (ne_eqb its session (λ same. both_ways (session == its) apart (eq-eqb session its (sym same))))
 none_ok session (reading, told) apart = refl
 
-no_line : (session : ℕ) (lines : List Line) → has_line lines session ≡ false → sum_by (ok_in session) lines ≡ 0
+pub no_line : (session : ℕ) (lines : List Line) → has_line lines session ≡ false → sum_by (ok_in session) lines ≡ 0
 no_line session [] none = refl
 no_line session (line ∷ lines) none =
     let parts = or_parts (is_of session line) (has_line lines session) none in

@@ -1,16 +1,20 @@
 -- The law of runs: what is to be proved of lines that a legal history places.
-use Rattle.std.specs.Prelude.{◌≡◌, ℕ, List, length}
+use Rattle.std.specs.Prelude.{◌≡◌, ℕ, List, length, slice_get, Some}
 use Rattle.std.specs.List.{zip}
 use Rattle.pol_model.specs.declared.options.Options.{Options}
 use Rattle.pol_script.specs.Lines.{lines_of}
 use Rattle.pol_answer.specs.Text.{texts_of}
 use Rattle.pol_answer.specs.declared.answer.Answer.{Answer}
 use Rattle.pol_run.specs.Run.{IsRun, IsRunOf, readings_of, status_of}
-use Rattle.pol_run.specs.Spots.{Line, spots_of}
+use Rattle.pol_run.specs.Spots.{Line, Reading, spots_of}
 use Rattle.pol_history.specs.declared.event.HistoryEvent.{HistoryEvent}
+use Rattle.pol_history.specs.Grows.{PassState}
 use Rattle.pol_history.specs.Legal.{IsLegal}
+use Rattle.pol_placed.specs.Cut.{AreSeated, answers_to, script_of}
 use Rattle.pol_placed.specs.HistoryOfRun.{IsHistoryOf}
+use Rattle.pol_placed.specs.Phases.{ArePlayedInPhases}
 use Rattle.pol_placed.specs.Placed.{IsPlaced}
+use Rattle.pol_placed.specs.Seats.{AreNewSeats, ArePhases}
 
 -- The law of runs: lines that a legal history places are a run of the policy machine.
 abbrev pub PlacedLinesAreARun : Type 0
@@ -28,3 +32,28 @@ PlacedAnswersAreARun = (options : Options) (history : List HistoryEvent) (script
 abbrev pub HistoriesHoldTheRun : Type 0
 HistoriesHoldTheRun = (options : Options) (history : List HistoryEvent) (lines : List Line)
     → IsLegal options history → IsPlaced options history lines → IsHistoryOf options history lines
+
+-- The law of phases: where the sessions of a script play it phase after phase, what any of them has seen in the end is a
+-- legal history, in which the lines were played in phases.
+abbrev pub PhasesArePlayed : Type 0
+PhasesArePlayed = (options : Options) (handed_out : List ℕ) (olds news : List PassState) (lines : List Reading) (told : List (List (List Answer)))
+    → AreNewSeats handed_out olds → AreSeated (length olds) lines
+    → ArePhases options handed_out olds (script_of (length olds) lines) told news
+    → (k : ℕ) (seat : PassState) → slice_get news k ≡ Some seat
+    → IsLegal options seat.has.history × ArePlayedInPhases options seat.has.history (zip lines (answers_to lines told))
+
+-- so they are a run of the policy machine
+abbrev pub PhasesAreARun : Type 0
+PhasesAreARun = (options : Options) (handed_out : List ℕ) (olds news : List PassState) (lines : List Reading) (told : List (List (List Answer)))
+    → AreNewSeats handed_out olds → AreSeated (length olds) lines
+    → ArePhases options handed_out olds (script_of (length olds) lines) told news
+    → (k : ℕ) (seat : PassState) → slice_get news k ≡ Some seat
+    → IsRun options (spots_of (zip lines (answers_to lines told)))
+
+-- and what any of them has seen in the end holds what was written
+abbrev pub PhasesAreOfAHistory : Type 0
+PhasesAreOfAHistory = (options : Options) (handed_out : List ℕ) (olds news : List PassState) (lines : List Reading) (told : List (List (List Answer)))
+    → AreNewSeats handed_out olds → AreSeated (length olds) lines
+    → ArePhases options handed_out olds (script_of (length olds) lines) told news
+    → (k : ℕ) (seat : PassState) → slice_get news k ≡ Some seat
+    → IsHistoryOf options seat.has.history (zip lines (answers_to lines told))

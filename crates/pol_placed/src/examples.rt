@@ -1,6 +1,8 @@
 //! Small outputs that a legal history places, so that the premises of the law of runs are possible. They are
 //! three of those of `pol_run` that no lines answered in input order give.
+ghost use Rattle.std.specs.Prelude.{◌≡◌};
 ghost use Rattle.pol_history.specs.Legal.{IsLegal};
+ghost use Rattle.pol_placed.specs.Cut.{answers_to, script_of};
 ghost use Rattle.pol_placed.specs.Examples as history;
 ghost use Rattle.pol_placed.specs.Placed.{IsPlaced};
 ghost use Rattle.pol_run.specs.ExampleLines.{one_entry, unlimited};
@@ -22,4 +24,11 @@ pub fn interleaved()
 pub fn rows_of_old_and_new()
     ensures legal { IsLegal one_entry history.rows_of_old_and_new }
     ensures placed { IsPlaced one_entry history.rows_of_old_and_new lines.rows_of_old_and_new }
+{}
+
+/// Lines of two sessions over three phases, and a faulty one: the commands of each session in each phase, and the answers
+/// in the order of the lines ('profile').
+pub fn cut_and_put_back()
+    ensures cut { script_of 2 history.read_lines ≡ history.cut_lines }
+    ensures put_back { answers_to history.read_lines history.told_lines ≡ history.answered_lines }
 {}
