@@ -16,12 +16,13 @@ fn full_and_empty<R: Wait>(
     rt: &R,
     alloc: Global,
     slot: u32,
+    next: u32,
 ) -> Result<(bool, bool, Option<u32>, Option<u32>), Memory>
     ensures { IfOk result (λ r. r ≡ (true, true, Some slot, None)) }
 {
     let (hints, mut pass) = Hints::new(alloc, 1)?;
     let put = hints.put(rt, &mut pass, slot).is_ok();
-    let full = hints.put(rt, &mut pass, slot).is_err();
+    let full = hints.put(rt, &mut pass, next).is_err();
     let first = hints.take(rt, &mut pass);
     let second = hints.take(rt, &mut pass);
     Ok((put, full, first, second))
@@ -29,13 +30,67 @@ fn full_and_empty<R: Wait>(
 
 #[test]
 fn a_queue_fills_and_empties(rt: HostRuntime) -> Result<(), Fail> {
-    assert!(rt; full_and_empty(&rt, rt.alloc(), 7)? == (true, true, Some(7), None));
+    assert!(rt; full_and_empty(&rt, rt.alloc(), 5, 6)? == (true, true, Some(5), None));
     let (hints, mut pass) = Hints::new(rt.alloc(), 2)?;
     let mut other = hints.split(&rt, &mut pass)?;
     assert!(rt; hints.put(&rt, &mut pass, 5).is_ok() && hints.put(&rt, &mut pass, 6).is_ok());
     assert!(rt; hints.take(&rt, &mut other) == Some(5));
     hints.join(&rt, &mut pass, other);
     assert!(rt; hints.take(&rt, &mut pass) == Some(6));
+    Ok(())
+}
+
+// Writes down the numbers of the calls and the slots between them, a digit each. There is no memory for the slot 9.
+#[derive(Drop)]
+struct Digits {
+    written: AtomicU32,
+}
+
+impl Digits {
+    fn write(&self, digit: u32) {
+        let so_far = self.written.load(Ordering::SeqCst);
+        self.written.store(
+            so_far.wrapping_mul(10).wrapping_add(digit),
+            Ordering::SeqCst,
+        );
+    }
+}
+
+impl Job for Digits {
+    fn run<R: Wait>(&self, _rt: &R, _alloc: Global, slot: u32) -> Result<(), Memory> {
+        self.write(slot);
+        if slot == 9 { Err(Memory) } else { Ok(()) }
+    }
+}
+
+impl Gate for Digits {
+    fn start<R: Wait>(&self, _rt: &R, _session: u32) {}
+
+    fn enter<R: Wait>(&self, _rt: &R, call: u32) {
+        self.write(call);
+    }
+
+    fn leave<R: Wait>(&self, _rt: &R, call: u32) {
+        self.write(call);
+    }
+}
+
+#[test]
+fn a_worker_numbers_its_calls(rt: HostRuntime) -> Result<(), Fail> {
+    let (hints, mut pass) = Hints::new(rt.alloc(), 4)?;
+    for slot in [7, 8, 9, 6] {
+        assert!(rt; hints.put(&rt, &mut pass, slot).is_ok());
+    }
+    let digits = Digits {
+        written: AtomicU32::new(0),
+    };
+    let (calls, over) = (Calls::new(), Over::new());
+    over.set();
+    let done = work(&rt, rt.alloc(), &hints, &mut pass, &digits, &digits, &calls, &over);
+    assert!(rt; done.is_err() && digits.written.load(Ordering::SeqCst) == 171_282_393);
+    digits.written.store(0, Ordering::SeqCst);
+    let done = work(&rt, rt.alloc(), &hints, &mut pass, &digits, &digits, &calls, &over);
+    assert!(rt; done.is_ok() && digits.written.load(Ordering::SeqCst) == 464);
     Ok(())
 }
 
@@ -98,7 +153,7 @@ struct Yard {
 impl Yard {
     // The threads 0 and 1 put half of the hints each, and the others take them.
     fn play<R: Wait>(&self, rt: &R, alloc: Global, mut pass: HintPass, thread: u32) -> bool
-        requires { pass.queue ≡ self.now.hints }
+        requires { pass.queue ≡ self.now.hints.name }
     {
         if thread < 2 {
             self.put_half(rt, pass, thread);
@@ -117,7 +172,7 @@ impl Yard {
 
     // Waits where the queue is full.
     fn put_half<R: Wait>(&self, rt: &R, mut pass: HintPass, thread: u32)
-        requires { pass.queue ≡ self.now.hints }
+        requires { pass.queue ≡ self.now.hints.name }
     {
         let mut left = self.half;
         for _ in rt.forever() {
@@ -141,16 +196,16 @@ impl Yard {
         two: HintPass,
         thread: u32,
     ) -> bool
-        requires one { one.queue ≡ self.now.hints }
-        requires two { two.queue ≡ self.now.hints }
+        requires one { one.queue ≡ self.now.hints.name }
+        requires two { two.queue ≡ self.now.hints.name }
     {
         let (first, second) = thread::join(
             rt,
             move ||
-                requires { one.queue ≡ self.now.hints }
+                requires { one.queue ≡ self.now.hints.name }
             { self.play(rt, alloc, one, thread) },
             move ||
-                requires { two.queue ≡ self.now.hints }
+                requires { two.queue ≡ self.now.hints.name }
             { self.play(rt, alloc, two, thread.saturating_add(1)) },
         );
         if thread == 0 {
@@ -190,10 +245,10 @@ fn is_each_worked_on_once<R: Threads + Wait + Sync>(
     let (put, taken) = thread::join(
         rt,
         move ||
-            requires { (pass.queue ≡ shared.now.hints) × (one.queue ≡ shared.now.hints) }
+            requires { (pass.queue ≡ shared.now.hints.name) × (one.queue ≡ shared.now.hints.name) }
         { shared.two(rt, alloc, pass, one, 0) },
         move ||
-            requires { (two.queue ≡ shared.now.hints) × (three.queue ≡ shared.now.hints) }
+            requires { (two.queue ≡ shared.now.hints.name) × (three.queue ≡ shared.now.hints.name) }
         { shared.two(rt, alloc, two, three, 2) },
     );
     let once = yard

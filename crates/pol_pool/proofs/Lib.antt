@@ -3,4 +3,4 @@ pub mod Histories
 pub mod Shares
 pub mod Views
 pub mod Steps
-pub mod Owed
+pub mod Taken

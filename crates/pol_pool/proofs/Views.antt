@@ -5,7 +5,7 @@ use mathlib.Core.List.{IsPrefix}
 use mathlib.Core.Logic.{dite}
 use mathlib.Core.Option.{some, some-injective, some-ne-none}
 use lib.ListN.{get_elem?}
-use Rattle.atomic_table.proofs.Lists.{at_longer, at_set, at_snoc, set_else}
+use Rattle.crossbeam_queue.proofs.Lists.{at_longer, at_set, at_snoc, set_else}
 use Rattle.pol_pool.specs.declared.standing.Standing.{Standing}
 use Rattle.pol_pool.specs.declared.turn.Turn.{Turn}
 use Rattle.pol_pool.specs.History.{longer}
@@ -61,7 +61,7 @@ no_other views port j v u it at there other all part =
     let few = it.few in
     omega (arith, whole, more, first, second, few)
 
-module _ (room : ℕ) (history : List Turn) (views : List Standing) (it : AreOf room history views) (port : ℕ) (v : Standing) (at : get_elem? views port ≡ some v) where
+module _ (history : List Turn) (views : List Standing) (it : AreOf history views) (port : ℕ) (v : Standing) (at : get_elem? views port ≡ some v) where
   -- it has seen all
   pub knows_all : IsAll v.share → v.seen ≡ history
   knows_all all =
@@ -89,12 +89,12 @@ module _ (room : ℕ) (history : List Turn) (views : List Standing) (it : AreOf 
       record { whole = shares.whole; units = mine.mine + mine.rest; least = shares.least; few = omega (arith, sum, few); come = mine.put w mine.mine (rw (sym same) mine.is) }
 
   -- the pass has then seen all of the history, which has gone on to `now`, and each turn more is its own
-  pub steps : (now : List Turn) (w : Standing) → IsPart v.share → IsPrefix history now → w.seen ≡ now → w.met ≡ [] → w.room ≡ v.room → v.share ≡ w.share → w.own + length history ≡ v.own + length now → AreOf room now (set views port w)
-  steps now w part later seen unmet same share own = record {
+  pub steps : (now : List Turn) (w : Standing) → IsPart v.share → IsPrefix history now → w.seen ≡ now → w.met ≡ [] → v.share ≡ w.share → w.own + length history ≡ v.own + length now → AreOf now (set views port w)
+  steps now w part later seen unmet share own = record {
     each =
-        each_set (HasSeen room now) views port w
-        (record { fits = λ _. same ∙ (it.each port v at).fits part; past = ([], append-nil w.seen ∙ seen); met = (w.seen, ap (λ (l : List Turn). l ++ w.seen) unmet) })
-        (λ j u there. let old = it.each j u there in record { fits = old.fits; past = begins_further u.seen history now old.past later; met = old.met });
+        each_set (HasSeen now) views port w
+        (record { past = ([], append-nil w.seen ∙ seen); met = (w.seen, ap (λ (l : List Turn). l ++ w.seen) unmet) })
+        (λ j u there. let old = it.each j u there in record { past = begins_further u.seen history now old.past later; met = old.met });
     known = record { port = port; by = w; at = at_here views port v w at; part = rw (sym share) part; knows = seen };
     own = (let sum = own_set views port v w at in let before = it.own in omega (arith, sum, before, own));
     shares = same_shares w share;
@@ -121,15 +121,15 @@ module _ (room : ℕ) (history : List Turn) (views : List Standing) (it : AreOf 
         come = one_more (2 * shares.whole) (old.mine + mine.rest) old.mine (set views port (with_half v)) (other_half v) (mine.put (with_half v) old.mine is) is;
       }
 
-  pub splits : IsPart v.share → AreOf room history (set views port (with_half v) ++ other_half v ∷ [])
+  pub splits : IsPart v.share → AreOf history (set views port (with_half v) ++ other_half v ∷ [])
   splits part =
       let left = with_half v in
       let known = it.known in
       let mine = it.each port v at in
-      let seen : HasSeen room history left = record { fits = λ _. mine.fits part; past = mine.past; met = (v.seen, refl) } in
-      let seen' : HasSeen room history (other_half v) = record { fits = λ _. mine.fits part; past = mine.past; met = (v.seen, refl) } in
+      let seen : HasSeen history left = record { past = mine.past; met = (v.seen, refl) } in
+      let seen' : HasSeen history (other_half v) = record { past = mine.past; met = (v.seen, refl) } in
       record {
-        each = each_more (HasSeen room history) (set views port left) (other_half v) seen' (each_set (HasSeen room history) views port left seen it.each);
+        each = each_more (HasSeen history) (set views port left) (other_half v) seen' (each_set (HasSeen history) views port left seen it.each);
         known =
             dite (ℕ_discrete port known.port)
             (λ same. let by = one_there views port known.port v known.by same at known.at in record {
@@ -194,14 +194,14 @@ module _ (room : ℕ) (history : List Turn) (views : List Standing) (it : AreOf 
           knows = known.knows;
         }))
 
-    pub joins : IsPart v.share → IsPart w.share → AreOf room history (set (set views port (of_both v w)) other spent)
+    pub joins : IsPart v.share → IsPart w.share → AreOf history (set (set views port (of_both v w)) other spent)
     joins part part' =
         let mine = (it.each port v at).past in
         let theirs = (it.each other w there).past in
-        let both : HasSeen room history (of_both v w) = record { fits = λ _. (it.each port v at).fits part; past = longer_begins v.seen w.seen history mine theirs; met = shorter_begins v.seen w.seen history mine theirs } in
-        let nothing : HasSeen room history spent = record { fits = λ (none : IsPart spent.share). absurd (let some_part = none.part in omega (arith, some_part)); past = (history, refl); met = ([], refl) } in
+        let both : HasSeen history (of_both v w) = record { past = longer_begins v.seen w.seen history mine theirs; met = shorter_begins v.seen w.seen history mine theirs } in
+        let nothing : HasSeen history spent = record { past = (history, refl); met = ([], refl) } in
         record {
-          each = each_set (HasSeen room history) (set views port (of_both v w)) other spent nothing (each_set (HasSeen room history) views port (of_both v w) both it.each);
+          each = each_set (HasSeen history) (set views port (of_both v w)) other spent nothing (each_set (HasSeen history) views port (of_both v w) both it.each);
           known = both_known part part';
           own =
               (let sum = own_set views port v (of_both v w) at in
@@ -210,10 +210,10 @@ module _ (room : ℕ) (history : List Turn) (views : List Standing) (it : AreOf 
           shares = both_shares;
         }
 
-pub begins : (room : ℕ) → AreOf room [] (newly_made room ∷ [])
-begins room = record {
-  each = each_more (HasSeen room []) [] (newly_made room) (record { fits = λ _. refl; past = ([], refl); met = ([], refl) }) (λ j u at. absurd (some-ne-none u (sym at)));
-  known = record { port = 0; by = newly_made room; at = refl; part = record { part = omega arith; of = omega arith }; knows = refl };
+pub begins : AreOf [] (newly_made ∷ [])
+begins = record {
+  each = each_more (HasSeen []) [] newly_made (record { past = ([], refl); met = ([], refl) }) (λ j u at. absurd (some-ne-none u (sym at)));
+  known = record { port = 0; by = newly_made; at = refl; part = record { part = omega arith; of = omega arith }; knows = refl };
   own = refl;
   shares = record { whole = 1; units = 1; least = omega arith; few = omega arith; come = (1, 0, record { of = omega arith; is = refl }, refl, refl) };
 }

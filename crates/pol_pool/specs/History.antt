@@ -1,14 +1,12 @@
 -- The history of a queue of hints: its turns, in the order in which they took effect.
-use Rattle.std.specs.Prelude.{◌≡◌, ◌<◌, ℕ, nat_le, List, [], ◌∷◌, ◌++◌, length, drop, if◌then◌else◌}
+use Rattle.std.specs.Prelude.{◌≡◌, ℕ, nat_le, List, [], ◌∷◌, ◌++◌, length, drop, if◌then◌else◌}
 use Rattle.pol_pool.specs.declared.turn.Turn.{Turn}
-use Rattle.pol_pool.specs.declared.turn.Turn.TheVariants.{Put, Full, Taken, Empty}
+use Rattle.pol_pool.specs.declared.turn.Turn.TheVariants.{Put, Taken}
 
 -- the hints that wait after a turn, where these waited before it, the oldest first
 abbrev pub waiting_after : List ℕ → Turn → List ℕ
 waiting_after hints (Put slot) = hints ++ slot ∷ []
-waiting_after hints Full = hints
 waiting_after hints (Taken slot) = drop 1 hints
-waiting_after hints Empty = hints
 
 abbrev pub waiting_from : List ℕ → List Turn → List ℕ
 waiting_from hints [] = hints
@@ -18,35 +16,29 @@ waiting_from hints (turn ∷ turns) = waiting_from (waiting_after hints turn) tu
 abbrev pub waiting : List Turn → List ℕ
 waiting history = waiting_from [] history
 
--- where these hints wait, a queue of this room answers so
-abbrev pub MayCome : ℕ → List ℕ → Turn → Type 0
-MayCome room hints (Put slot) = length hints < room
-MayCome room hints Full = length hints ≡ room
-MayCome room hints (Taken slot) = hints ≡ slot ∷ drop 1 hints
-MayCome room hints Empty = hints ≡ []
+-- where these hints wait, a queue may make this turn: what it gives is the oldest of them
+abbrev pub MayCome : List ℕ → Turn → Type 0
+MayCome hints (Put slot) = Unit {0}
+MayCome hints (Taken slot) = hints ≡ slot ∷ drop 1 hints
 
-abbrev pub MayComeFrom : ℕ → List ℕ → List Turn → Type 0
-MayComeFrom room hints [] = Unit {0}
-MayComeFrom room hints (turn ∷ turns) = MayCome room hints turn × MayComeFrom room (waiting_after hints turn) turns
+abbrev pub MayComeFrom : List ℕ → List Turn → Type 0
+MayComeFrom hints [] = Unit {0}
+MayComeFrom hints (turn ∷ turns) = MayCome hints turn × MayComeFrom (waiting_after hints turn) turns
 
--- each turn is what a queue of this room answers there
-abbrev pub IsHistory : ℕ → List Turn → Type 0
-IsHistory room history = MayComeFrom room [] history
+-- each turn is one that a queue may make there
+abbrev pub IsHistory : List Turn → Type 0
+IsHistory history = MayComeFrom [] history
 
 -- the hints that were put; those that were taken
 abbrev pub hints_put : List Turn → List ℕ
 hints_put [] = []
 hints_put (Put slot ∷ turns) = slot ∷ hints_put turns
-hints_put (Full ∷ turns) = hints_put turns
 hints_put (Taken slot ∷ turns) = hints_put turns
-hints_put (Empty ∷ turns) = hints_put turns
 
 abbrev pub hints_taken : List Turn → List ℕ
 hints_taken [] = []
 hints_taken (Put slot ∷ turns) = hints_taken turns
-hints_taken (Full ∷ turns) = hints_taken turns
 hints_taken (Taken slot ∷ turns) = slot ∷ hints_taken turns
-hints_taken (Empty ∷ turns) = hints_taken turns
 
 -- what either of two passes has seen
 abbrev pub longer : List Turn → List Turn → List Turn

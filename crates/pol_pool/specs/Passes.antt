@@ -4,7 +4,7 @@ use mathlib.Core.List.{IsPrefix}
 use Rattle.atomic_table.specs.Seated.{TableId}
 use Rattle.pol_pool.specs.declared.standing.Share.{Share}
 use Rattle.pol_pool.specs.declared.turn.Turn.{Turn}
-use Rattle.pol_pool.specs.History.{IsHistory}
+use Rattle.pol_pool.specs.History.{IsHistory, waiting}
 use Rattle.pol_pool.specs.Shares.{IsAll, IsPart}
 
 -- a queue of hints: what tells it from every other one, and how many hints it has room for
@@ -15,7 +15,7 @@ pub record Queue : Type 0 where
 -- a pass: of which queue it is one, the history that it has seen, how many turns of the history are its own, and the share
 -- that it has in the queue
 pub record Pass : Type 0 where
-  pub queue : Queue
+  pub queue : TableId
   pub seen : List Turn
   pub own : ℕ
   pub share : Share
@@ -24,11 +24,11 @@ pub record Pass : Type 0 where
 abbrev pub IsOnly : Pass → Type 0
 IsOnly p = IsAll p.share
 
--- the pass is one of this queue, and has a share in it; what it has seen is a history of such a queue
+-- the pass is one of this queue, and has a share in it; what it has seen is a history of a queue
 pub record IsHintPassOf (hints : Queue) (p : Pass) : Type 0 where
-  pub queue : p.queue ≡ hints
+  pub queue : p.queue ≡ hints.name
   pub part : IsPart p.share
-  pub legal : IsHistory hints.room p.seen
+  pub legal : IsHistory p.seen
 
 -- the pass made one turn more: the last of what it has then seen, behind all that it had seen before, and one more of its
 -- own. Where it is the only pass, nothing came between
@@ -38,3 +38,12 @@ pub record Adds (turn : Turn) (before after : Pass) : Type 0 where
   pub last : after.seen ≡ so_far ++ turn ∷ []
   pub own : after.own ≡ before.own + 1
   pub only : IsOnly before → so_far ≡ before.seen
+
+-- a refused call found this so of the hints that waited, at one moment. What had come until then begins with what the pass
+-- has seen; where it is the only pass, it is no more than that. What others did, a refused call tells no pass
+pub record Found (So : List ℕ → Type 0) (p : Pass) : Type 0 where
+  pub history : List Turn
+  pub past : IsPrefix p.seen history
+  pub legal : IsHistory history
+  pub so : So (waiting history)
+  pub only : IsOnly p → history ≡ p.seen

@@ -1,15 +1,14 @@
 //! Workers and what they are told to look at: a queue of hints that threads share, and the loop of a worker.
 //!
-//! `Hints` is the queue. Its calls have one history, in which each is one turn and answers as a queue does there; a
-//! `HintPass` has seen a beginning of it (`specs/History`, `specs/Passes`). `work` takes hints and hands each to a job, between
-//! the two calls of a gate.
+//! `Hints` is the queue, under a rule: it has one history, in which each hint that is put and each that is taken is one turn,
+//! and a `HintPass` has seen a beginning of it (`specs/History`, `specs/Passes`). `work` takes hints and hands each to a job,
+//! between the two calls of a gate.
 #![tactic(auto)]
 
 mod calls;
 mod hints;
 mod job;
 pub mod laws;
-mod list;
 mod pass;
 mod rule;
 mod standing;

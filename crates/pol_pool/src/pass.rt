@@ -1,24 +1,24 @@
 //! What one thread has seen of a queue of hints.
-use crate::rule::Waiting;
 use crate::standing::Standing;
-use atomic_table::Seat;
+use crossbeam_queue::Pass;
 use std::marker::Model;
 
 /// What one thread has seen of a queue of hints, how many of its turns are its own, and its share in it. It takes no
 /// memory, and it is a pass of one queue alone.
 #[derive(Drop)]
 pub struct HintPass {
-    pub(crate) seat: Seat<Waiting, Standing>,
+    pub(crate) pass: Pass<u32, Standing>,
 }
 
 impl Model for HintPass {
+    ghost use Rattle.crossbeam_queue.specs.Passes.{view as known_by};
     ghost use Rattle.pol_pool.specs.Passes.{Pass};
 
     ghost Value = { Pass };
 
-    ghost use Rattle.pol_pool.specs.Inside.{IsIdle, pass_of};
+    ghost use Rattle.pol_pool.specs.Inside.{IsAtRest, pass_of};
 
-    ghost view = { λ p. pass_of p.seat.table_id p.seat.me.0 };
+    ghost view = { λ p. pass_of p.pass.table_id (known_by p.pass) };
 
-    ghost invariant = { λ p. IsIdle p.seat.me };
+    ghost invariant = { λ p. IsAtRest p.pass.me.1 (known_by p.pass) };
 }

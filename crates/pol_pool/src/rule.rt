@@ -1,15 +1,11 @@
 //! The rule of the queue, and what each kind of step tells.
 use crate::standing::Standing;
-use atomic_table::{Join, Play, Split, TableRule};
-use circular_buffer::HeapCircularBuffer;
+use crossbeam_queue::protocol::{Join, Lesson, Outcome, Protocol, Split};
 
-/// The hints that wait, the oldest first.
-pub(crate) type Waiting = HeapCircularBuffer<u32>;
-
-/// There is one history, which is that of a queue. The list has the hints that wait at its end, or is out with one pass.
+/// There is one history, the queue holds the hints that wait at its end, and each pass has seen a beginning of it.
 pub(crate) struct InOrder;
 
-impl TableRule<Waiting, Standing, u32> for InOrder {
+impl Protocol<u32, Standing> for InOrder {
     ghost use Rattle.pol_pool.specs.Queue.{IsQueue, newly_made};
 
     ghost holds = { IsQueue };
@@ -39,56 +35,41 @@ impl Join<Standing> for Together {
     ghost spent = { spent };
 }
 
-/// The list goes out with the pass, unless another has it.
-pub(crate) struct Fetches;
-
-impl Play<Waiting, Standing> for Fetches {
-    ghost use Rattle.pol_pool.specs.Queue.{TellsFetched};
-
-    ghost then = { TellsFetched };
-}
-
-/// The list comes back with a hint more at its end.
+/// A hint is put; what a queue without room held.
 pub(crate) struct Puts;
 
-impl Play<Waiting, Standing> for Puts {
+impl Outcome<u32, Standing> for Puts {
     ghost use Rattle.pol_pool.specs.Queue.{TellsPut};
 
     ghost then = { TellsPut };
 }
 
-/// The list comes back, and has no room.
-pub(crate) struct FindsFull;
+impl Lesson<u32, Standing> for Puts {
+    ghost use Rattle.pol_pool.specs.Queue.{Holds};
 
-impl Play<Waiting, Standing> for FindsFull {
-    ghost use Rattle.pol_pool.specs.Queue.{TellsFull};
-
-    ghost then = { TellsFull };
+    ghost fact = { Holds };
 }
 
-/// The list comes back without its oldest hint.
+/// A hint is taken; what a queue without a hint held.
 pub(crate) struct Takes;
 
-impl Play<Waiting, Standing> for Takes {
+impl Outcome<u32, Standing> for Takes {
     ghost use Rattle.pol_pool.specs.Queue.{TellsTaken};
 
     ghost then = { TellsTaken };
 }
 
-/// The list comes back, and has no hint.
-pub(crate) struct FindsEmpty;
+impl Lesson<u32, Standing> for Takes {
+    ghost use Rattle.pol_pool.specs.Queue.{Holds};
 
-impl Play<Waiting, Standing> for FindsEmpty {
-    ghost use Rattle.pol_pool.specs.Queue.{TellsEmpty};
-
-    ghost then = { TellsEmpty };
+    ghost fact = { Holds };
 }
 
 /// No share is more than the whole, and what both of two joined passes had seen begins what either had.
-pub(crate) struct Looks;
+pub(crate) struct Sound;
 
-impl Play<Waiting, Standing> for Looks {
-    ghost use Rattle.pol_pool.specs.Queue.{TellsJoined};
+impl Lesson<u32, Standing> for Sound {
+    ghost use Rattle.pol_pool.specs.Queue.{IsSound};
 
-    ghost then = { TellsJoined };
+    ghost fact = { λ v items. IsSound v };
 }

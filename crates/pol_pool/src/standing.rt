@@ -12,8 +12,6 @@ pub struct Share {
 
 /// What a pass has seen of its queue, and what it has in it. No value of it is made.
 pub(crate) struct Standing {
-    /// How many hints the queue has room for.
-    pub room: u32,
     /// The history that the pass has seen, the oldest turn first.
     pub seen: LinkedList<Turn>,
     /// After a join, what both of the joined passes had seen. It is empty again after a split and after a turn.
@@ -22,6 +20,4 @@ pub(crate) struct Standing {
     pub own: u32,
     /// The passes of a queue have no more than the whole together, so one that has it all is the only one.
     pub share: Share,
-    /// Whether the list of waiting hints is out with the pass. It is so within a call alone.
-    pub holds: bool,
 }

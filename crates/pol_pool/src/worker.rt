@@ -1,8 +1,8 @@
 //! The loop of a worker.
 ghost use Rattle.std.specs.Prelude.{◌≡◌, [], OnOk};
 ghost use mathlib.Core.List.{IsPrefix};
-ghost use Rattle.pol_pool.specs.History.{waiting};
-ghost use Rattle.pol_pool.specs.Passes.{IsHintPassOf};
+ghost use Rattle.pol_pool.specs.History.{hints_put};
+ghost use Rattle.pol_pool.specs.Passes.{Found, IsHintPassOf, IsOnly};
 
 use crate::calls::{Calls, Over};
 use crate::hints::Hints;
@@ -12,8 +12,8 @@ use std::alloc::{AllocError as Memory, Global};
 use std::sync::Wait;
 use std::thread;
 
-/// Takes hints until there are no more. Each gets the next call number, from 1, and is then worked on between `enter` and
-/// `leave` of that number.
+/// Takes hints until there are no more, and puts none. Each gets the next call number, from 1, and is then worked on between
+/// `enter` and `leave` of that number.
 ///
 /// It ends once the end was told and a later take found no hint. At want of memory the hints that it took stay taken, the
 /// numbers that it gave stay given, and what the jobs did stands.
@@ -27,11 +27,12 @@ pub fn work<J: Job, G: Gate, R: Wait>(
     calls: &Calls,
     over: &Over,
 ) -> Result<(), Memory>
-    requires pass { pass.old.queue ≡ hints.now }
+    requires pass { pass.old.queue ≡ hints.now.name }
     ensures pass { IsHintPassOf hints.now pass.new }
     ensures seen { IsPrefix pass.old.seen pass.new.seen }
     ensures share { pass.new.share ≡ pass.old.share }
-    ensures empty { OnOk result (waiting pass.new.seen ≡ []) }
+    ensures puts_none { IsOnly pass.old → hints_put pass.new.seen ≡ hints_put pass.old.seen }
+    ensures empty { OnOk result (Found (λ hints. hints ≡ []) pass.new) }
 {
     for _ in rt.forever() {
         let is_over = over.is_set();

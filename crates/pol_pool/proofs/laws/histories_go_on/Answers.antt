@@ -1,7 +1,7 @@
-use Rattle.std.proofs.Common.{[], subst, sym}
-use Rattle.pol_pool.specs.History.{IsHistory}
+use Rattle.std.proofs.Common.{ap, sym, ◌∙◌}
+use Rattle.pol_pool.specs.History.{hints_put, hints_taken}
 use Rattle.pol_pool.proofs.Beginnings.{first_longer, longer_begins, second_longer}
-use Rattle.pol_pool.proofs.Histories.{begun}
+use Rattle.pol_pool.proofs.Histories.{begun, put-append, taken-append}
 use Rattle.pol_pool.proofs.laws.histories_go_on.Goals as goal
 
 pub returns-clause-first : goal.returns-clause-first
@@ -14,4 +14,10 @@ pub returns-clause-whole : goal.returns-clause-whole
 returns-clause-whole c = longer_begins
 
 pub returns-clause-begun : goal.returns-clause-begun
-returns-clause-begun c room v whole begins it = begun room [] v begins.0 (subst (IsHistory room) (sym begins.1) it)
+returns-clause-begun c = begun
+
+pub returns-clause-put : goal.returns-clause-put
+returns-clause-put c v whole begins = (hints_put begins.0, sym (put-append v begins.0) ∙ ap hints_put begins.1)
+
+pub returns-clause-taken : goal.returns-clause-taken
+returns-clause-taken c v whole begins = (hints_taken begins.0, sym (taken-append v begins.0) ∙ ap hints_taken begins.1)

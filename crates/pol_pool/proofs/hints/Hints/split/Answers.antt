@@ -1,10 +1,5 @@
-use Rattle.std.proofs.Common.{arith}
-use Rattle.pol_pool.proofs.Owed.{has_seat}
 use Rattle.pol_pool.proofs.Steps.{forks}
 use Rattle.pol_pool.proofs.hints.Hints.split.Goals as goal
 
-pub split_seat-seat-requires : goal.split_seat-seat-requires
-split_seat-seat-requires g c =
-    let seat = has_seat _ _ _ _ _ c.pass.view_is c.self.view_is c.requires.pass in
-    let idle = c.pass.invariant in
-    let word = c.self.invariant in (seat.0, omega (arith, word), forks _ 0 _ _ idle.holds idle.part)
+pub another-other-requires-clause-rule : goal.another-other-requires-clause-rule
+another-other-requires-clause-rule g c = forks _ _ c.pass.invariant.part
