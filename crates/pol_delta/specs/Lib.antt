@@ -1,0 +1,4 @@
+pub mod Work
+pub mod Applies
+pub mod Givers
+pub mod Lists

@@ -1,0 +1,99 @@
+//! What an endpoint's policy map is made of, with the map.
+ghost use Rattle.std.specs.Prelude.{◌≡◌, IfOk, IfSome, OnErr, OnOk, length};
+ghost use Rattle.std.specs.Arc.{arc_value};
+ghost use Rattle.pol_distill.specs.Distilled.{distilled};
+ghost use Rattle.pol_distill.specs.Sorted.{HaveSets};
+ghost use Rattle.pol_edits.specs.Changes.{IsDifference, table_of, whole};
+ghost use Rattle.pol_delta.specs.Work.{IsWorkOf, map_of};
+ghost use Rattle.pol_delta.specs.Applies.{MovesTell, NamesFilters, PlacesDiffer};
+
+use crate::changes::Changes;
+use crate::copies::{entries_of, rows_copy};
+use crate::difference::difference;
+use pol_data::Memory;
+use pol_distill::distill;
+use pol_edits::ChangeList;
+use pol_l4::Filters;
+use pol_mapkey::{Kind, MapKey};
+use pol_sets::Sets;
+use std::alloc::Global;
+use std::marker::Model;
+use std::sync::Arc;
+
+/// An endpoint's filters and the sets of their peers, with the policy map that is made of them. A contract sees the
+/// filters and the sets.
+#[derive(Drop)]
+pub struct Work {
+    alloc: Global,
+    filters: Arc<Filters>,
+    sets: Sets,
+    entries: Vec<(MapKey, Kind)>,
+}
+
+impl Model for Work {
+    ghost use Rattle.std.specs.Prelude.{◌≡◌};
+    ghost use Rattle.std.specs.Arc.{arc_value};
+    ghost use Rattle.pol_distill.specs.Distilled.{distilled};
+    ghost use Rattle.pol_delta.specs.Work.{WorkOf};
+
+    ghost Value = { WorkOf };
+
+    ghost view = { λ w. record { filters = arc_value w.filters; rows = w.sets } };
+
+    ghost invariant = { λ w. w.entries.items ≡ distilled (arc_value w.filters) w.sets };
+}
+
+impl Work {
+    /// The work of these filters, where each peer selects what its row says (profile). The one error is want of memory.
+    pub fn from_scratch(alloc: Global, filters: Arc<Filters>, sets: Sets) -> Result<Work, Memory>
+        requires sets { HaveSets sets (arc_value filters) }
+        ensures work { IfOk result (IsWorkOf (arc_value filters) sets) }
+        ensures map { IfOk result (λ work. map_of work ≡ distilled (arc_value filters) sets) }
+    {
+        let table = distill(alloc, &filters, &sets)?;
+        let entries = entries_of(alloc, &table)?;
+        Ok(Work {
+            alloc,
+            filters,
+            sets,
+            entries,
+        })
+    }
+
+    /// Takes the work to other filters and sets, and gives exactly the keys at which its map changed: `Set` with the kind
+    /// that a key has now, `Clear` where it has none any more. A filter with the place and the stamp of one that was there
+    /// is that one, and stays. Moves tell how the sets of the peers of filters that stay changed; without them the sets
+    /// are compared. The one error is want of memory, and then the work is as before.
+    pub fn apply(&mut self, changes: &Changes) -> Result<ChangeList, Memory>
+        requires sets { HaveSets changes.now.sets (arc_value changes.now.filters) }
+        requires before { PlacesDiffer self.old.filters }
+        requires after { PlacesDiffer (arc_value changes.now.filters) }
+        requires named { NamesFilters self.old.filters (arc_value changes.now.filters) }
+        requires moves { IfSome changes.now.moves (MovesTell self.old (arc_value changes.now.filters) changes.now.sets) }
+        ensures work { OnOk result (IsWorkOf (arc_value changes.now.filters) changes.now.sets self.new) }
+        ensures map { OnOk result (map_of self.new ≡ distilled (arc_value changes.now.filters) changes.now.sets) }
+        ensures list { IfOk result (λ list. IsDifference list (table_of (map_of self.old)) (table_of (map_of self.new))) }
+        ensures err { OnErr result (self.new ≡ self.old) }
+    {
+        let sets = rows_copy(self.alloc, changes.sets.as_slice())?;
+        let filters = Arc::try_clone(&changes.filters)?;
+        let next = Work::from_scratch(self.alloc, filters, sets)?;
+        let list = difference(self.alloc, &self.entries, &next.entries)?;
+        *self = next;
+        Ok(list)
+    }
+
+    /// `Set` of each entry of the map, in key order. The one error is want of memory.
+    pub fn whole(&self, alloc: Global) -> Result<ChangeList, Memory>
+        ensures whole { IfOk result (λ list. list ≡ whole (map_of self.now)) }
+    {
+        ChangeList::whole(alloc, &self.entries)
+    }
+
+    /// How many entries the map has.
+    pub fn count(&self) -> u64
+        ensures count { result ≡ length (map_of self.now) }
+    {
+        self.entries.len() as u64
+    }
+}
