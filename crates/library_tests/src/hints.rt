@@ -10,27 +10,39 @@ use std::test::Fail;
 use std::thread;
 use std::thread::Threads;
 
-// What the only pass of a queue with room for one is answered: a hint is put, the next finds no room, the first is taken, and
-// then there is none.
-fn full_and_empty<R: Wait>(
+// What the only pass of a queue is answered: a hint that is put is taken, and then there is none.
+fn one_hint<R: Wait>(
     rt: &R,
     alloc: Global,
     slot: u32,
-    next: u32,
-) -> Result<(bool, bool, Option<u32>, Option<u32>), Memory>
-    ensures { IfOk result (λ r. r ≡ (true, true, Some slot, None)) }
+) -> Result<(bool, Option<u32>, Option<u32>), Memory>
+    ensures { IfOk result (λ r. r ≡ (true, Some slot, None)) }
 {
     let (hints, mut pass) = Hints::new(alloc, 1)?;
     let put = hints.put(rt, &mut pass, slot).is_ok();
-    let full = hints.put(rt, &mut pass, next).is_err();
     let first = hints.take(rt, &mut pass);
     let second = hints.take(rt, &mut pass);
-    Ok((put, full, first, second))
+    Ok((put, first, second))
+}
+
+#[test]
+fn one_hint_comes_back(rt: HostRuntime) -> Result<(), Fail> {
+    assert!(rt; one_hint(&rt, rt.alloc(), 5)? == (true, Some(5), None));
+    Ok(())
 }
 
 #[test]
 fn a_queue_fills_and_empties(rt: HostRuntime) -> Result<(), Fail> {
-    assert!(rt; full_and_empty(&rt, rt.alloc(), 5, 6)? == (true, true, Some(5), None));
+    let (hints, mut pass) = Hints::new(rt.alloc(), 1)?;
+    assert!(rt; hints.put(&rt, &mut pass, 5).is_ok());
+    assert!(rt; hints.put(&rt, &mut pass, 6) == Err(HintsFull));
+    assert!(rt; hints.take(&rt, &mut pass) == Some(5));
+    assert!(rt; hints.take(&rt, &mut pass).is_none());
+    Ok(())
+}
+
+#[test]
+fn joined_passes_take_in_order(rt: HostRuntime) -> Result<(), Fail> {
     let (hints, mut pass) = Hints::new(rt.alloc(), 2)?;
     let mut other = hints.split(&rt, &mut pass)?;
     assert!(rt; hints.put(&rt, &mut pass, 5).is_ok() && hints.put(&rt, &mut pass, 6).is_ok());
@@ -78,18 +90,35 @@ impl Gate for Digits {
 #[test]
 fn a_worker_numbers_its_calls(rt: HostRuntime) -> Result<(), Fail> {
     let (hints, mut pass) = Hints::new(rt.alloc(), 4)?;
-    for slot in [7, 8, 9, 6] {
-        assert!(rt; hints.put(&rt, &mut pass, slot).is_ok());
-    }
+    assert!(rt; hints.put(&rt, &mut pass, 7).is_ok() && hints.put(&rt, &mut pass, 8).is_ok());
+    assert!(rt; hints.put(&rt, &mut pass, 9).is_ok() && hints.put(&rt, &mut pass, 6).is_ok());
     let digits = Digits {
         written: AtomicU32::new(0),
     };
     let (calls, over) = (Calls::new(), Over::new());
     over.set();
-    let done = work(&rt, rt.alloc(), &hints, &mut pass, &digits, &digits, &calls, &over);
+    let done = work(
+        &rt,
+        rt.alloc(),
+        &hints,
+        &mut pass,
+        &digits,
+        &digits,
+        &calls,
+        &over,
+    );
     assert!(rt; done.is_err() && digits.written.load(Ordering::SeqCst) == 171_282_393);
     digits.written.store(0, Ordering::SeqCst);
-    let done = work(&rt, rt.alloc(), &hints, &mut pass, &digits, &digits, &calls, &over);
+    let done = work(
+        &rt,
+        rt.alloc(),
+        &hints,
+        &mut pass,
+        &digits,
+        &digits,
+        &calls,
+        &over,
+    );
     assert!(rt; done.is_ok() && digits.written.load(Ordering::SeqCst) == 464);
     Ok(())
 }
