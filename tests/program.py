@@ -19,8 +19,6 @@ NAME = "policyd"
 CRATE = TOP / "crates" / NAME
 PROGRAM = CRATE / "out" / NAME
 NOTE = CRATE / "out" / f"{NAME}.note"
-# What an unproved build writes at most.
-TRIED_MOST = 1 << 20
 
 
 def crates():

@@ -1,7 +1,8 @@
-"""Plays cases of policyd by a build without proof: `rt try --cases` builds it once and plays each case.
+"""Plays cases of policyd by a build without proof: by the one that is kept, or else `rt try --cases` builds one for all.
 
-Such a build tells no standard error, and gives no answers over a mebibyte: cases that want more are left out, and
-named. A case has a name, and gives its script, the program's words, the answers and the status, which may be None.
+`rt try` tells no standard error, and gives no answers over a mebibyte, and the kept build takes long for as many: cases
+that want more are left out, and named. A case has a name, and gives its script, the program's words, the answers and
+the status, which may be None.
 """
 import pathlib
 import re
@@ -10,6 +11,10 @@ import tempfile
 
 import compare
 import program
+import unproved
+
+# What `rt try` gives of answers at most.
+ANSWERS_MOST = 1 << 20
 
 
 def lay(case, folder, name):
@@ -21,12 +26,20 @@ def lay(case, folder, name):
 
 def play(cases):
     """Yields the name of each case that was played, and what is wrong with it, in lines."""
-    small = [it for it in cases if len(it.out()) <= program.TRIED_MOST]
+    small = [it for it in cases if len(it.out()) <= ANSWERS_MOST]
     for it in cases:
         if it not in small:
             print(f"left out, since a build without proof can't play it: {it.name}")
-    if not small:
-        return
+    if not unproved.is_kept():
+        unproved.build()
+    if unproved.is_kept():
+        yield from ((it.name, it.play([str(unproved.KEPT)])) for it in small)
+    elif small:
+        yield from play_at_once(small)
+
+
+def play_at_once(small):
+    """Builds the program for all cases, and plays them."""
     with tempfile.TemporaryDirectory() as folder:
         for number, it in enumerate(small):
             lay(it, pathlib.Path(folder), f"case{number}")
