@@ -1,0 +1,84 @@
+"""Which labels make a pod's identity: the filter of Cilium's documentation, 'Limiting Identity-Relevant Labels'.
+
+A pattern is `[SOURCE:][!]EXPRESSION`. It matches a label whose source is SOURCE, where one is written, and whose key
+begins with what the expression matches. A label counts where the longest match of a pattern without `!` is longer than
+the shortest match of one with `!`; and, where the list adds no pattern without `!` to the default ones, also where none
+with `!` matches.
+"""
+import re
+
+from .reading import Bad
+
+# The patterns that Cilium begins with.
+DEFAULT = r"""
+    reserved:.*
+    io\.kubernetes\.pod\.namespace
+    io\.cilium\.k8s\.namespace\.labels
+    app\.kubernetes\.io
+    io\.cilium\.k8s\.policy\.cluster
+    io\.cilium\.k8s\.policy\.serviceaccount
+    !io\.kubernetes
+    !kubernetes\.io
+    !statefulset\.kubernetes\.io/pod-name
+    !apps\.kubernetes\.io/pod-index
+    !batch\.kubernetes\.io/job-completion-index
+    !batch\.kubernetes\.io/controller-uid
+    !.*beta\.kubernetes\.io
+    !k8s\.io
+    !pod-template-generation
+    !pod-template-hash
+    !controller-revision-hash
+    !annotation.*
+    !controller-uid
+    !etcd_node
+""".split()
+
+
+class Pattern:
+    """One pattern of a filter."""
+
+    def __init__(self, text):
+        source, colon, rest = text.partition(":")
+        self.source, rest = (source, rest) if colon else ("", text)
+        self.is_out = rest.startswith("!")
+        if not rest.lstrip("!") or source.startswith("!") and colon:
+            raise Bad(f"--labels: {text!r} is no pattern: it is [SOURCE:][!]EXPRESSION")
+        try:
+            self.expression = re.compile(rest[self.is_out :])
+        except re.error as error:
+            raise Bad(f"--labels: {text!r} is no pattern: {error}")
+
+    def length(self, source, key):
+        """How much of the key it matches, and -1 where it matches nothing."""
+        found = self.expression.match(key) if self.source in ("", source) else None
+        return found.end() if found else -1
+
+
+class Filter:
+    """The default patterns with those of a list; without a filter every label counts."""
+
+    def __init__(self, listed="", is_off=False):
+        self.is_off = is_off
+        more = [Pattern(it) for it in listed.split()]
+        self.patterns = [*(Pattern(it) for it in DEFAULT), *more]
+        self.is_closed = any(not it.is_out for it in more)
+
+    def counts(self, key, source="k8s"):
+        if self.is_off:
+            return True
+        taken = max((it.length(source, key) for it in self.patterns if not it.is_out), default=-1)
+        lengths = [it.length(source, key) for it in self.patterns if it.is_out]
+        out = min((it for it in lengths if it > 0), default=0)
+        return (not self.is_closed and not out) or taken > out
+
+
+def add_words(parser):
+    """The words of a command that say which labels count."""
+    parser.add_argument("--cluster-name", metavar="NAME", default="default", help="the cluster's name in the pods' labels (default: default)")
+    some = parser.add_mutually_exclusive_group()
+    some.add_argument("--labels", metavar="LIST", default="", help="more patterns for the label filter, as Cilium's option `labels` has them, with blanks between them")
+    some.add_argument("--all-labels", action="store_true", help="no label filter: every label counts")
+
+
+def choice(words):
+    return Filter(words.labels, words.all_labels)

@@ -1,0 +1,91 @@
+"""Policies as kubectl prints them: what policyd is given of one, and which labels its rules select."""
+from .reading import line_of, name_of
+from .unread import SECTIONS, why_unread
+
+NAMESPACED, CLUSTER_WIDE = POLICY_KINDS = ("CiliumNetworkPolicy", "CiliumClusterwideNetworkPolicy")
+NAMESPACE_KEY = "io.kubernetes.pod.namespace"
+
+
+class Policy:
+    """A policy, and its document as policyd is given it: without `status`, and with no other metadata than its names."""
+
+    def __init__(self, place, value):
+        metadata, name = name_of(place, value)
+        kept = {it: metadata[it] for it in ("name", "namespace") if metadata.get(it) is not None}
+        self.place, self.document = place, {**value, "metadata": kept}
+        self.document.pop("status", None)
+        self.kind = value["kind"]
+        self.namespace = "" if self.kind == CLUSTER_WIDE else str(kept.get("namespace", "default"))
+        self.key = (self.kind, self.namespace, name)
+        self.name = name if self.kind == CLUSTER_WIDE else f"{self.namespace}/{name}"
+        self.line = line_of(place, {"op": "apply", "policy": self.document})
+
+    def why_unread(self):
+        """What policyd doesn't read in it, with its place, or None."""
+        return why_unread(self.document)
+
+    def rules(self):
+        """Its rules that are objects."""
+        listed = self.document.get("specs")
+        found = [self.document.get("spec"), *(listed if isinstance(listed, list) else [])]
+        return [it for it in found if isinstance(it, dict)]
+
+    def selects(self, labels):
+        """Whether some rule selects the labels, as far as its subject is read; one that isn't counts as selecting."""
+        return any(is_selected(it, self.namespace, labels) for it in self.rules())
+
+    def entries(self):
+        """The entries of its rules, each with its direction."""
+        for rule in self.rules():
+            for section in SECTIONS:
+                for entry in rule.get(section) or []:
+                    if isinstance(entry, dict):
+                        yield section.removesuffix("Deny"), entry
+
+    def directions(self):
+        """The directions in which it has a section that isn't empty, so that it may enforce them."""
+        return {section.removesuffix("Deny") for rule in self.rules() for section in SECTIONS if rule.get(section)}
+
+    def deletion(self):
+        kind, namespace, name = self.key
+        return line_of("", {"op": "delete", "kind": kind, **({"namespace": namespace} if namespace else {}), "name": name})
+
+    def names_cluster(self):
+        """Whether it speaks of the entity `cluster`."""
+        return any("cluster" in (it.get(name) or []) for _, it in self.entries() for name in ("fromEntities", "toEntities"))
+
+
+def is_selected(rule, namespace, labels):
+    if rule.get("nodeSelector") is not None and rule.get("endpointSelector") is None:
+        return False
+    try:
+        asked = list(requirements(rule["endpointSelector"], namespace))
+        return all(holds(it, labels) for it in asked)
+    except (AttributeError, KeyError, TypeError, ValueError):
+        return True
+
+
+def requirements(selector, namespace):
+    """What a subject asks of labels: source, key, operator and values. A namespaced one is bound to its namespace."""
+    asked = [(*source_and_key(key), "In", [value]) for key, value in (selector.get("matchLabels") or {}).items()]
+    for it in selector.get("matchExpressions") or []:
+        asked.append((*source_and_key(it["key"]), it["operator"], it.get("values") or []))
+    if namespace and not any(it[:2] == ("reserved", "init") for it in asked):
+        count = len(selector.get("matchLabels") or {})
+        of_namespace = lambda it: it[1] == NAMESPACE_KEY and it[0] in ("k8s", "any")
+        asked = [it for at, it in enumerate(asked) if at >= count or not of_namespace(it)]
+        asked.append(("k8s", NAMESPACE_KEY, "In", [namespace]))
+    return asked
+
+
+def source_and_key(key):
+    source, colon, rest = key.partition(":")
+    return (source, rest) if colon else ("any", key)
+
+
+def holds(asked, labels):
+    source, key, operator, values = asked
+    heads = [f"{it}:{key}=" for it in ([source] if source != "any" else ["k8s", "reserved"])]
+    found = [it[len(head) :] for it in labels for head in heads if it.startswith(head)]
+    is_in = any(it in values for it in found)
+    return {"In": is_in, "NotIn": not is_in, "Exists": bool(found), "DoesNotExist": not found}[operator]

@@ -1,0 +1,104 @@
+"""Query lines: their form, and what stands in the place of pods and addresses."""
+import json
+
+from .reading import IPV4, Bad, line_of, text_of
+from .script import numbers_of
+
+OPERATIONS, DIRECTIONS, PROTOCOLS = ("verdict", "trace"), ("ingress", "egress"), ("TCP", "UDP", "SCTP")
+REMOTES = ("pod", "identity", "address")
+MEMBERS = {"op", "endpoint", "direction", *REMOTES, "protocol", "port", "session"}
+
+
+class Queries:
+    """What turns the query lines of a file into those of policyd."""
+
+    def __init__(self, cluster, pods, node):
+        self.cluster, self.node, self.numbers = cluster, node, numbers_of(cluster, pods)
+        self.endpoints = {it.name: it for it in pods}
+        # policyd knows the addresses of endpoints alone, and would take those of other pods for the world's
+        own = {it.address for it in pods}
+        self.others = {it.address: it.name for it in cluster.live if it.address not in own}
+
+    def lines(self, name):
+        """The query lines of a file, each with the name of its endpoint."""
+        for number, text in enumerate(text_of(name).split("\n"), 1):
+            if text.strip():
+                place = f"{name}, line {number}"
+                value = self.query(place, text)
+                yield value["endpoint"], line_of(place, value)
+
+    def query(self, place, text):
+        try:
+            value = json.loads(text)
+        except (ValueError, RecursionError) as error:
+            raise Bad(f"{place}: no JSON: {error}")
+        if not isinstance(value, dict) or value.get("op") not in OPERATIONS:
+            raise Bad(f"{place}: it is no verdict or trace line")
+        value = {key: it for key, it in value.items() if it is not None}
+        checked(place, value)
+        endpoint = self.endpoint(place, value["endpoint"])
+        found = {}
+        for key, it in value.items():
+            if key in ("pod", "address"):
+                key, it = self.remote(place, endpoint, it) if key == "pod" else self.address(place, endpoint, it)
+            found[key] = it
+        return found
+
+    def endpoint(self, place, name):
+        if name in self.endpoints:
+            return self.endpoints[name]
+        pod = self.cluster.pods.get(name)
+        if pod is None:
+            raise Bad(f"{place}: no pod of the input is named {name!r}")
+        if not pod.labels:
+            raise Bad(f"{place}: the pod {name} is left out: {pod.reason()}")
+        raise Bad(f"{place}: {name} is on {pod.node or 'no node'}, and the endpoints are the pods of {self.node}")
+
+    def remote(self, place, endpoint, name):
+        """The identity of a pod, as the endpoint sees it."""
+        pod = self.cluster.pods.get(name)
+        if pod is None:
+            raise Bad(f"{place}: no pod of the input is named {name!r}")
+        if pod.is_host:
+            return "identity", self.cluster.node_number(pod.node, endpoint.node)
+        if not pod.labels:
+            raise Bad(f"{place}: the pod {name} is left out: {pod.reason()}")
+        return "identity", self.numbers[pod.labels]
+
+    def address(self, place, endpoint, address):
+        """What an address is: a node's is the node's identity, and that of a pod or a Service isn't the world's."""
+        if address in self.others:
+            pod = self.others[address]
+            raise Bad(f'{place}: {address} is the address of {pod}, which is no endpoint here: write "pod":"{pod}" in its place')
+        if address in self.cluster.services:
+            service = self.cluster.services[address]
+            raise Bad(f"{place}: {address} is the ClusterIP of the Service {service}, which is a pod's address before policies are asked: name the pod")
+        if address in self.cluster.nodes:
+            return "identity", self.cluster.node_number(self.cluster.nodes[address], endpoint.node)
+        return "address", address
+
+
+def checked(place, value):
+    """The form of a query."""
+    unknown = sorted({*value} - MEMBERS)
+    if unknown:
+        raise Bad(f"{place}: a query has no member {unknown[0]!r}")
+    if len([it for it in REMOTES if it in value]) != 1:
+        raise Bad(f"{place}: it takes exactly one of pod, identity and address")
+    for name, fits, what in (
+        ("endpoint", lambda it: isinstance(it, str), "a pod's name"),
+        ("direction", lambda it: it in DIRECTIONS, "ingress or egress"),
+        ("pod", lambda it: isinstance(it, str), "a pod's name"),
+        ("identity", lambda it: is_number(it, 0, 4_294_967_295), "a number from 0 to 4294967295"),
+        ("address", lambda it: isinstance(it, str) and IPV4.fullmatch(it), "an IPv4 address"),
+        ("protocol", lambda it: isinstance(it, str) and it.upper() in PROTOCOLS, "TCP, UDP or SCTP"),
+        ("port", lambda it: is_number(it, 0, 65_535), "a number from 0 to 65535"),
+        ("session", lambda it: is_number(it, 1, 8), "a number from 1 to 8"),
+    ):
+        is_needed = name not in (*REMOTES, "session")
+        if (is_needed or name in value) and not fits(value.get(name)):
+            raise Bad(f"{place}: {name} is {what}" + ("" if name in value else ", and is missing"))
+
+
+def is_number(value, least, most):
+    return isinstance(value, int) and not isinstance(value, bool) and least <= value <= most

@@ -1,0 +1,132 @@
+"""What kubectl prints, as objects with their places, and what is wrong with it."""
+import json
+import re
+
+KEY, VALUE = re.compile(r"[!-<>-~]+"), re.compile(r"[!-~]*")
+BYTE = r"(0|[1-9]\d?|1\d\d|2[0-4]\d|25[0-5])"
+IPV4 = re.compile(rf"{BYTE}(\.{BYTE}){{3}}")
+YAML = re.compile(r"\s*(---\s+|#.*\n\s*)*[A-Za-z][A-Za-z0-9]*:(\s|$)")
+AS_JSON = "kubectl create --dry-run=client -o json -f FILE"
+
+
+class Bad(Exception):
+    """What is wrong with the input, and where."""
+
+
+def line_of(place, value):
+    try:
+        return json.dumps(value, separators=(",", ":"), allow_nan=False)
+    except ValueError:
+        raise Bad(f"{place}: a number is too large")
+
+
+def text_of(name):
+    """The text of a file."""
+    try:
+        with open(name, "rb") as file:
+            return decoded(name, file.read())
+    except OSError as error:
+        raise Bad(f"{name}: {error.strerror}")
+
+
+def decoded(name, data):
+    try:
+        return data.decode("utf-8-sig")
+    except UnicodeDecodeError as error:
+        raise Bad(f"{name} isn't UTF-8, at byte {error.start}")
+
+
+def no_constant(name):
+    raise ValueError(f"{name} is no number")
+
+
+def documents(text, whole="standard input", part="document"):
+    """The JSON values that stand one after another in the text, each with its place."""
+    decoder, at, number = json.JSONDecoder(parse_constant=no_constant), 0, 0
+    space = re.compile(r"\s*")
+    if YAML.match(text):
+        raise Bad(f"{whole} is YAML, which Python's standard library doesn't read: `{AS_JSON}` prints it as JSON, and so does kubectl get with -o json")
+    while True:
+        at = space.match(text, at).end()
+        if at == len(text):
+            break
+        number += 1
+        try:
+            value, at = decoder.raw_decode(text, at)
+        except ValueError as error:
+            at = f", at line {error.lineno}, column {error.colno} of the input" if isinstance(error, json.JSONDecodeError) else ""
+            raise Bad(f"{part} {number}: no JSON: {getattr(error, 'msg', error)}{at}")
+        except RecursionError:
+            raise Bad(f"{part} {number}: it is nested too deeply")
+        yield f"{part} {number}", value
+    if not number:
+        raise Bad(f"{whole} is empty: it takes what kubectl get .. -o json prints")
+
+
+def objects(text, whole="standard input", part="document"):
+    """The objects of all documents with their places: a list's items, and what stands alone."""
+    for place, value in documents(text, whole, part):
+        kind = kind_of(place, value)
+        items = value.get("items")
+        if kind != "List" and not (kind.endswith("List") and "items" in value):
+            yield place, value
+            continue
+        if not isinstance(items, list):
+            raise Bad(f"{place}: {kind}: items is no list")
+        for number, item in enumerate(items, 1):
+            # (the items of a list of one kind, as the API server gives it, don't name their kind)
+            if kind != "List" and isinstance(item, dict):
+                item = {"apiVersion": value["apiVersion"], "kind": kind[: -len("List")], **item}
+            kind_of(f"{place}, item {number}", item)
+            yield f"{place}, item {number}", item
+
+
+def kind_of(place, value):
+    if not isinstance(value, dict):
+        raise Bad(f"{place}: it is no object")
+    for name in ("apiVersion", "kind"):
+        if not isinstance(value.get(name), str):
+            raise Bad(f"{place}: {name} is missing, or no text")
+    return value["kind"]
+
+
+def member(place, value, name, shape, otherwise):
+    """A member of an object, and `otherwise` where it is absent or null."""
+    found = value.get(name)
+    if found is None:
+        return otherwise
+    if not isinstance(found, shape) or (shape is not bool and isinstance(found, bool)):
+        words = {dict: "object", str: "text", list: "list", bool: "boolean"}
+        raise Bad(f"{place}: {name} is no {words[shape]}")
+    return found
+
+
+def name_of(place, value):
+    """An object's metadata and name."""
+    metadata = member(place, value, "metadata", dict, {})
+    name = member(f"{place}: metadata", metadata, "name", str, "")
+    if not name:
+        raise Bad(f"{place}: {value['kind']} without metadata.name")
+    return metadata, name
+
+
+def labels_of(place, metadata):
+    labels = member(f"{place}: metadata", metadata, "labels", dict, {})
+    for key, value in labels.items():
+        if not isinstance(value, str) or not KEY.fullmatch(key) or not VALUE.fullmatch(value):
+            raise Bad(f"{place}: the label {key!r} with the value {value!r} is none of Kubernetes")
+    return labels
+
+
+def addresses_of(place, value, many, one):
+    """The IPv4 addresses among the objects `{"ip": ..}`, or texts, of a list, and then the one that stands alone."""
+    texts = []
+    for number, it in enumerate(member(place, value, many, list, [])):
+        if isinstance(it, str) and many == "clusterIPs":
+            texts.append(it)
+        elif not isinstance(it, dict):
+            raise Bad(f"{place}: {many}[{number}] is no object")
+        else:
+            texts.append(member(f"{place}: {many}[{number}]", it, "ip", str, ""))
+    texts.append(member(place, value, one, str, ""))
+    return [it for it in dict.fromkeys(texts) if IPV4.fullmatch(it)]

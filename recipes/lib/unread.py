@@ -1,0 +1,194 @@
+"""Which policies policyd doesn't read, and where: the tables of docs/RULES.md, 'Policy documents', walked once more.
+
+policyd alone decides. This says beforehand, and with the path, what it will refuse: `tests/recipes_checks.py` compares
+it with the answers of every case.
+"""
+import ipaddress
+import re
+
+ANY, TEXT, NAME, NUMBER = "any", "text", "name", "number"
+SHAPES = {
+    "policy": {"apiVersion": TEXT, "kind": TEXT, "metadata": "metadata", "spec": "rule", "specs": ["rule"], "status": ANY},
+    "metadata": {"name": NAME, "namespace": NAME},
+    "rule": {
+        "endpointSelector": "selector",
+        "ingress": ["from"],
+        "ingressDeny": ["from"],
+        "egress": ["to"],
+        "egressDeny": ["to"],
+        "description": TEXT,
+        "labels": [ANY],
+    },
+    "selector": {"matchLabels": "texts", "matchExpressions": ["expression"]},
+    "expression": {"key": TEXT, "operator": TEXT, "values": [TEXT]},
+    "from": {"fromEndpoints": ["selector"], "fromCIDR": ["cidr"], "fromEntities": [TEXT], "fromCIDRSet": ["set"], "toPorts": ["item"]},
+    "to": {"toEndpoints": ["selector"], "toCIDR": ["cidr"], "toEntities": [TEXT], "toCIDRSet": ["set"], "toPorts": ["item"]},
+    "set": {"cidr": "cidr", "except": ["cidr"]},
+    "item": {"ports": ["port"]},
+    "port": {"port": "port text", "protocol": "protocol", "endPort": NUMBER},
+}
+NEEDED = {"expression": ("key", "operator"), "set": ("cidr",), "port": ("port",)}
+LEFT_OUT = {
+    "rule": "nodeSelector enableDefaultDeny",
+    "from": "fromRequires fromNodes fromGroups icmps authentication",
+    "to": "toRequires toNodes toGroups toFQDNs toServices icmps authentication",
+    "set": "cidrGroupRef cidrGroupSelector",
+    "item": "rules terminatingTLS originatingTLS listener serverNames",
+}
+SECTIONS = ("ingress", "ingressDeny", "egress", "egressDeny")
+ENTITIES = "all world host remote-node kube-apiserver ingress init health unmanaged cluster".split()
+PROTOCOLS = ("", "TCP", "UDP", "SCTP", "ANY")
+
+
+class Unread(Exception):
+    """What isn't read, and its path."""
+
+    def __init__(self, what, path):
+        self.what, self.path = what, path
+
+
+def why_unread(document):
+    """The first thing that policyd refuses in a policy's document, and its path; None where it reads all."""
+    try:
+        name = document["metadata"].get("name")
+        if not isinstance(name, str) or not name:
+            raise Unread("no-name", "metadata.name")
+        if document.get("spec") is None and document.get("specs") in (None, []):
+            raise Unread("no-spec", "spec")
+        walk(document, "policy", "")
+        judge(document)
+    except Unread as found:
+        return found.what, found.path
+    return None
+
+
+# What the document's members are.
+
+
+def below(path, name):
+    """The path of a member; a byte that isn't printed is a question mark, as in policyd's answers."""
+    name = "".join(chr(it) if 0x21 <= it <= 0x7E else "?" for it in name.encode(errors="surrogatepass"))
+    return f"{path}.{name}" if path else name
+
+
+def walk(value, shape, path):
+    """Visits a value before what it holds: the members of an object by their bytes, and items in order."""
+    if isinstance(shape, list):
+        if not isinstance(value, list):
+            raise Unread("wrong-shape", path)
+        for at, item in enumerate(value):
+            if item is None and shape[0] != ANY:
+                raise Unread("wrong-shape", f"{path}[{at}]")
+            walk(item, shape[0], f"{path}[{at}]")
+    elif shape in SHAPES or shape == "texts":
+        if not isinstance(value, dict):
+            raise Unread("wrong-shape", path)
+        visit(value, shape, path)
+    else:
+        leaf(value, shape, path)
+
+
+def visit(value, shape, path):
+    for name in LEFT_OUT["set"].split() if shape == "set" else []:
+        if value.get(name) is not None:
+            raise Unread(name, path)
+    for name in NEEDED.get(shape, ()):
+        if value.get(name) is None:
+            raise Unread("wrong-shape", below(path, name))
+    for name in sorted(value, key=lambda it: it.encode(errors="surrogatepass")):
+        if value[name] is None:
+            continue
+        known = TEXT if shape == "texts" else SHAPES[shape].get(name)
+        if name in LEFT_OUT.get(shape, "").split():
+            raise Unread(name, path)
+        if known is not None:
+            walk(value[name], known, below(path, name))
+        elif shape != "metadata":
+            raise Unread("unknown-member", below(path, name))
+
+
+def leaf(value, shape, path):
+    if shape == ANY:
+        return
+    if shape == NUMBER:
+        fits = isinstance(value, int) and not isinstance(value, bool) and 0 <= value < 1 << 64
+    else:
+        fits = isinstance(value, str) and (shape != NAME or re.fullmatch(r"[a-z0-9.-]{1,253}", value))
+    if not fits:
+        raise Unread("wrong-shape", path)
+    if shape == "port text" and re.search("[A-Za-z]", value):
+        raise Unread("named-port", path)
+    if shape == "protocol" and value.upper() in ("ICMP", "ICMPV6"):
+        raise Unread("icmp", path)
+    if shape == "cidr" and ":" in value:
+        raise Unread("ipv6", path)
+
+
+# What its rules say.
+
+
+def judge(document):
+    rules = [("spec", document["spec"])] if document.get("spec") is not None else []
+    rules += [(f"specs[{at}]", it) for at, it in enumerate(document.get("specs") or [])]
+    for path, rule in rules:
+        if rule.get("endpointSelector") is None:
+            raise Unread("no-selector", path)
+        judge_selector(rule["endpointSelector"], below(path, "endpointSelector"))
+        for section in SECTIONS:
+            for at, entry in enumerate(rule.get(section) or []):
+                judge_entry(entry, f"{path}.{section}[{at}]")
+
+
+def judge_selector(selector, path):
+    asked = [(key, "In", [value]) for key, value in (selector.get("matchLabels") or {}).items() if value is not None]
+    asked += [(it["key"], it["operator"], it.get("values") or []) for it in selector.get("matchExpressions") or []]
+    for key, operator, values in asked:
+        source, colon, rest = key.partition(":")
+        fits = {"In": bool(values), "NotIn": bool(values), "Exists": not values, "DoesNotExist": not values}
+        if not (rest if colon else key) or (colon and not source) or not fits.get(operator):
+            raise Unread("bad-selector", path)
+
+
+def peers(entry, kind):
+    return entry.get(f"from{kind}") or entry.get(f"to{kind}") or []
+
+
+def judge_entry(entry, path):
+    """The faults of an entry, by their numbers."""
+    sets, listed = peers(entry, "CIDRSet"), peers(entry, "CIDR")
+    kinds = [it for it in (peers(entry, "Endpoints"), listed, sets, peers(entry, "Entities")) if it]
+    if len(kinds) > 1:
+        raise Unread("combining", path)
+    for it in peers(entry, "Endpoints"):
+        judge_selector(it, path)
+    texts = [*listed, *(text for it in sets for text in [it["cidr"], *(it.get("except") or [])])]
+    if any(prefix(it) is None for it in texts):
+        raise Unread("bad-cidr", path)
+    if not all(prefix(text).subnet_of(prefix(it["cidr"])) for it in sets for text in it.get("except") or []):
+        raise Unread("except-outside", path)
+    if any(it not in ENTITIES for it in peers(entry, "Entities")):
+        raise Unread("unknown-entity", path)
+    judge_ports([it.get("ports") or [] for it in entry.get("toPorts") or []], path)
+
+
+def judge_ports(items, path):
+    ports = [port for item in items for port in item]
+    if any(not re.fullmatch("[0-9]{1,5}", it["port"]) or int(it["port"]) > 65535 or (it.get("endPort") or 0) > 65535 for it in ports):
+        raise Unread("bad-port", path)
+    if any((it.get("protocol") or "").upper() not in PROTOCOLS for it in ports):
+        raise Unread("bad-protocol", path)
+    if any(len(it) > 40 for it in items):
+        raise Unread("too-many-ports", path)
+    if any(not it for it in items):
+        raise Unread("empty-ports", path)
+
+
+def prefix(text):
+    """The prefix of a CIDR text, without its host bits, or None."""
+    octet = r"(?:0|[1-9]\d{0,2})"
+    if not re.fullmatch(rf"{octet}(\.{octet}){{3}}(/(0|[12]?[0-9]|3[0-2]))?", text, re.ASCII):
+        return None
+    try:
+        return ipaddress.ip_network(text, strict=False)
+    except ValueError:
+        return None

@@ -1,0 +1,223 @@
+"""Checks of the recipes over small clusters that are made here: what is said of queries, labels and policies.
+
+What each must say is worked out from docs/RULES.md, and from Cilium's documentation for the labels.
+"""
+import json
+import subprocess
+import sys
+import tempfile
+
+import compare
+
+RECIPES = compare.TOP / "recipes"
+sys.path.insert(0, str(RECIPES))
+from lib.unread import why_unread  # noqa: E402
+
+
+def pod(namespace, name, node, address, labels, **spec):
+    status = {"phase": "Running", "hostIP": f"192.168.0.{node[1:]}", "podIP": address}
+    metadata = {"name": name, "namespace": namespace, "labels": labels}
+    return {"apiVersion": "v1", "kind": "Pod", "metadata": metadata, "spec": {"nodeName": node, **spec}, "status": status}
+
+
+def policy(name, spec, namespace="shop", **more):
+    metadata = {"name": name, "namespace": namespace}
+    return {"apiVersion": "cilium.io/v2", "kind": "CiliumNetworkPolicy", "metadata": metadata, "spec": spec, **more}
+
+
+NAMESPACE = {"apiVersion": "v1", "kind": "Namespace", "metadata": {"name": "shop", "labels": {"team": "front"}}}
+SERVICE = {"apiVersion": "v1", "kind": "Service", "metadata": {"name": "dns", "namespace": "shop"}, "spec": {"clusterIP": "10.96.0.10"}}
+PODS = [
+    pod("shop", "web", "n1", "10.0.0.1", {"app": "web"}),
+    pod("shop", "cart", "n2", "10.0.0.2", {"app": "cart"}),
+    pod("shop", "agent", "n1", "192.168.0.1", {}, hostNetwork=True),
+    pod("shop", "agent2", "n2", "192.168.0.2", {}, hostNetwork=True),
+]
+
+
+def call(recipe, words, given=()):
+    """The status and the two outputs of a recipe that is given objects."""
+    text = given if isinstance(given, str) else json.dumps({"apiVersion": "v1", "kind": "List", "items": list(given)})
+    ended = subprocess.run([str(RECIPES / recipe), *words], cwd=compare.TOP, input=text, stdout=subprocess.PIPE, stderr=subprocess.PIPE, text=True)
+    return ended.returncode, ended.stdout, ended.stderr
+
+
+def asked(query, *words):
+    """What from-kubectl makes of one query of shop/web, on its node; a member that is None is left out."""
+    whole = {"op": "verdict", "endpoint": "shop/web", "direction": "ingress", "protocol": "TCP", "port": 80, **query}
+    with tempfile.NamedTemporaryFile("w", suffix=".jsonl") as file:
+        file.write(json.dumps({key: value for key, value in whole.items() if value is not None}) + "\n")
+        file.flush()
+        status, out, err = call("from-kubectl", ["--node", "n1", "--ask", file.name, *words], [NAMESPACE, SERVICE, *PODS])
+        return status, out, err.replace(file.name, "FILE")
+
+
+def told(wrong, name, got, wanted):
+    if got != wanted:
+        wrong.append(f"{name}: {got!r}, and not {wanted!r}")
+
+
+def faults_of_queries(wrong):
+    for query, what in (
+        ({}, "it takes exactly one of pod, identity and address"),
+        ({"pod": "shop/cart", "identity": 2}, "it takes exactly one of pod, identity and address"),
+        ({"address": "1.2.3.4", "identity": 2}, "it takes exactly one of pod, identity and address"),
+        ({"endpoint": "shop/none", "identity": 2}, "no pod of the input is named 'shop/none'"),
+        ({"endpoint": "shop/cart", "identity": 2}, "shop/cart is on n2, and the endpoints are the pods of n1"),
+        ({"endpoint": "shop/agent", "identity": 2}, "the pod shop/agent is left out: pods on the host's network, which share the identity of their node"),
+        ({"endpoint": None, "identity": 2}, "endpoint is a pod's name, and is missing"),
+        ({"direction": "in", "identity": 2}, "direction is ingress or egress"),
+        ({"direction": None, "identity": 2}, "direction is ingress or egress, and is missing"),
+        ({"identity": "2"}, "identity is a number from 0 to 4294967295"),
+        ({"identity": 4294967296}, "identity is a number from 0 to 4294967295"),
+        ({"address": "1.2.3"}, "address is an IPv4 address"),
+        ({"protocol": "ICMP", "identity": 2}, "protocol is TCP, UDP or SCTP"),
+        ({"port": 65536, "identity": 2}, "port is a number from 0 to 65535"),
+        ({"port": None, "identity": 2}, "port is a number from 0 to 65535, and is missing"),
+        ({"session": 9, "identity": 2}, "session is a number from 1 to 8"),
+        ({"ports": 80, "identity": 2}, "a query has no member 'ports'"),
+        ({"pod": "shop/none"}, "no pod of the input is named 'shop/none'"),
+        ({"address": "10.0.0.2"}, '10.0.0.2 is the address of shop/cart, which is no endpoint here: write "pod":"shop/cart" in its place'),
+        ({"address": "10.96.0.10"}, "10.96.0.10 is the ClusterIP of the Service shop/dns, which is a pod's address before policies are asked: name the pod"),
+    ):
+        told(wrong, f"at {query}", asked(query), (1, "", f"from-kubectl: FILE, line 1: {what}\n"))
+
+
+def other_sides_of_queries(wrong):
+    for query, becomes in (
+        ({"pod": "shop/cart"}, '"identity":257'),
+        ({"pod": "shop/agent"}, '"identity":1'),
+        ({"pod": "shop/agent2"}, '"identity":6'),
+        ({"address": "192.168.0.1"}, '"identity":1'),
+        ({"address": "192.168.0.2"}, '"identity":6'),
+        ({"address": "10.0.0.1"}, '"address":"10.0.0.1"'),
+        ({"address": "203.0.113.9"}, '"address":"203.0.113.9"'),
+        ({"identity": 7, "pod": None}, '"identity":7'),
+    ):
+        status, out, _ = asked(query)
+        told(wrong, f"the status at {query}", status, 0)
+        told(wrong, f"the query at {query}", f",{becomes}}}" in out.splitlines()[-1], True)
+
+
+OWN = {
+    "app": "web",
+    "app.kubernetes.io/name": "web",
+    "topology.kubernetes.io/zone": "z",
+    "kubernetes.io/arch": "amd64",
+    "io.kubernetes.x": "1",
+    "k8s.io/x": "1",
+    "node.beta.kubernetes.io/x": "1",
+    "pod-template-hash": "7f",
+    "controller-revision-hash": "3",
+    "pod-template-generation": "3",
+    "statefulset.kubernetes.io/pod-name": "web-0",
+    "apps.kubernetes.io/pod-index": "0",
+    "batch.kubernetes.io/job-completion-index": "0",
+    "controller-uid": "u",
+    "annotation.x": "1",
+}
+DERIVED = ["io.cilium.k8s.namespace.labels.kubernetes.io/metadata.name=shop", "io.cilium.k8s.policy.cluster=default", "io.kubernetes.pod.namespace=shop"]
+
+
+def labels_that_count(wrong):
+    namespace = {"apiVersion": "v1", "kind": "Namespace", "metadata": {"name": "shop", "labels": {"kubernetes.io/metadata.name": "shop"}}}
+    kept = ["app=web", "app.kubernetes.io/name=web", "topology.kubernetes.io/zone=z"]
+    for words, wanted in (
+        ([], [*kept, *DERIVED]),
+        (["--all-labels"], [*(f"{key}={value}" for key, value in OWN.items()), *DERIVED]),
+        # one pattern without ! leaves the default ones of that kind and it; `app` matches what begins so
+        (["--labels", "k8s:app$"], ["app=web", "app.kubernetes.io/name=web", *DERIVED]),
+        (["--labels", "app"], ["app=web", "app.kubernetes.io/name=web", *DERIVED]),
+        # one with ! takes away what begins so; of two that match, the longer wins
+        (["--labels", "!topology"], [*kept[:2], *DERIVED]),
+        (["--labels", "!app"], [*kept[1:], *DERIVED]),
+        (["--labels", "any:app !topology"], ["app.kubernetes.io/name=web", *DERIVED]),
+        (["--labels", "pod-template-hash$ pod-template-hash"], ["app.kubernetes.io/name=web", *DERIVED]),
+        (["--cluster-name", "east"], [*kept, DERIVED[0], "io.cilium.k8s.policy.cluster=east", DERIVED[2]]),
+    ):
+        _, out, _ = call("from-kubectl", words, [namespace, pod("shop", "web", "n1", "10.0.0.1", OWN)])
+        told(wrong, f"the labels with {words}", json.loads(out.splitlines()[0])["labels"], [f"k8s:{it}" for it in sorted(wanted, key=lambda it: it.split("=")[0])])
+    for words in (["--labels", "!"], ["--labels", "a("], ["--labels", "!k8s:app"]):
+        told(wrong, f"the status with {words}", call("from-kubectl", words, PODS)[0::2][0], 1)
+
+
+DNS = policy("dns", {"endpointSelector": {"matchLabels": {"app": "web"}}, "egress": [{"toFQDNs": [{"matchName": "a.example"}]}]})
+FINE = policy("fine", {"endpointSelector": {}, "ingress": [{}]})
+L7 = policy("l7", {"endpointSelector": {}, "ingress": [{}, {"toPorts": [{"ports": [{"port": "80"}], "rules": {"http": []}}]}]})
+
+
+def policies_that_are_not_in_force(wrong):
+    """They are told with the member and its place, and with whom they select."""
+    summary = "from-kubectl: 2 of 3 policies aren't in force: shop/dns: toFQDNs at spec.egress[0]; shop/l7: rules at spec.ingress[1].toPorts[0]"
+    given = [NAMESPACE, *PODS, DNS, FINE, L7]
+    status, out, err = call("from-kubectl", [], given)
+    told(wrong, "the status", status, 0)
+    told(wrong, "the policies in the script", out.count('"op":"apply"'), 3)
+    told(wrong, "what is said at last", err.splitlines()[-3:], [summary, "from-kubectl: the verdicts of shop/web lack shop/dns, which selects it", "from-kubectl: the verdicts of shop/web, shop/cart lack shop/l7, which selects them"])
+    with tempfile.NamedTemporaryFile("w") as file:
+        file.write('{"op":"verdict","endpoint":"shop/cart","direction":"ingress","identity":2,"protocol":"TCP","port":80}\n' * 2)
+        file.flush()
+        _, _, err = call("from-kubectl", ["--ask", file.name], given)
+        # two endpoints, three policies and the sync stand before them
+        told(wrong, "the answers", err.splitlines()[-1], "from-kubectl: the verdicts of shop/web, shop/cart lack shop/l7, which selects them; answers 7, 8 too")
+    status, out, err = call("from-kubectl", ["--strict"], given)
+    told(wrong, "with --strict", (status, out, err.splitlines()[0]), (1, "", summary))
+    told(wrong, "the status of --strict where all are read", call("from-kubectl", ["--strict"], [NAMESPACE, *PODS, FINE])[0], 0)
+    _, _, err = call("from-kubectl", [], [NAMESPACE, *PODS, DNS])
+    told(wrong, "of one", err.splitlines()[-2], "from-kubectl: 1 of 1 policies isn't in force: shop/dns: toFQDNs at spec.egress[0]")
+
+
+def entity_of_another_cluster(wrong):
+    given = [NAMESPACE, *PODS, policy("in", {"endpointSelector": {}, "ingress": [{"fromEntities": ["cluster"]}]})]
+    note = "policyd's entity `cluster` means pods of the cluster `default`, so it selects no pod here; it is in shop/in"
+    told(wrong, "with another name", note in call("from-kubectl", ["--cluster-name", "east"], given)[2], True)
+    told(wrong, "with the name", note in call("from-kubectl", [], given)[2], False)
+
+
+def unread_as_the_cases_say(wrong):
+    """What is said beforehand of a policy is what the cases of the program answer, which were worked out by hand."""
+    count = 0
+    for case in compare.cases("case", "cases"):
+        if case.words() or (case.folder / "in.py").is_file():
+            continue
+        for line, answer in zip(case.given().decode(errors="replace").split("\n"), case.out().decode(errors="replace").splitlines()):
+            document, wanted = applied(line), fault_of(answer)
+            # (Python reads the number -0 as 0, which policyd doesn't take for a whole number)
+            if isinstance(document, dict) and wanted is not None and '"endPort":-0' not in line:
+                count += 1
+                why = why_unread(document) or ("ok", "")
+                if why[0] != wanted[0] or wanted[1] not in ("", why[1]):
+                    wrong.append(f"{case.name}: {line[:300]}: {why}, and not {answer}")
+    told(wrong, "whether enough was compared", count > 150, True)
+
+
+def fault_of(answer):
+    """What a policy's answer says of its document: a name, and the path where it has one; None where it says nothing."""
+    words = answer.split(" ", 3)
+    if words[0] == "ok":
+        return "ok", ""
+    if words[0] != "refused" or not 12 <= int(words[1]) <= 25:
+        return None
+    if words[1] == "14":
+        return words[3], ""
+    return words[2], words[3] if words[1] in ("13", "25") else ""
+
+
+def applied(line):
+    try:
+        value = json.loads(line)
+    except ValueError:
+        return None
+    return value.get("policy") if isinstance(value, dict) and value.get("op") == "apply" else None
+
+
+def run(check):
+    wrong = []
+    check(wrong)
+    return wrong
+
+
+def checks():
+    names = (faults_of_queries, other_sides_of_queries, labels_that_count, policies_that_are_not_in_force, entity_of_another_cluster)
+    names += (unread_as_the_cases_say,)
+    return [(f"recipes {it.__name__.replace('_', ' ')}", lambda it=it: run(it)) for it in names]
