@@ -1,7 +1,7 @@
 """Checks what the documents claim, where that is cheap.
 
-Blocks of the language `console` show commands, each behind `$ `, with what they print: `commands` gives them as
-cases. Such a command ends in `./play WORDS`, which may stand behind a pipe, or it doesn't run the program.
+Blocks of the language `console` show commands, each behind `$ `, with what they print: `commands` gives those that run
+the program as cases. Such a command ends in `./play WORDS`, which may stand behind a pipe, or is `recipes/what-if`.
 """
 import re
 import subprocess
@@ -11,7 +11,7 @@ import layers
 import program
 
 TOP = compare.TOP
-PLAY = "./play "
+PLAY, WHAT_IF = "./play ", "recipes/what-if "
 # What a crate's README has.
 SECTIONS = ("What it is for", "Its calls", "What it gives to the layer above", "Where to begin reading")
 
@@ -38,6 +38,7 @@ class Command:
         before, self.piped, last = text.rpartition("| ")
         self.before, self.is_play = before, last.startswith(PLAY)
         self.last = last.split()[1:] if self.is_play else []
+        self.runs = self.is_play or text.startswith(WHAT_IF)
 
     def given(self):
         """The script that ./play is given."""
@@ -89,7 +90,7 @@ def shown(page):
 
 def commands():
     """What documents show of the program, as cases."""
-    return [Table(TOP / "README.md"), *(it for page in pages() for it in shown(page) if it.is_play)]
+    return [Table(TOP / "README.md"), *(it for page in pages() for it in shown(page) if it.runs)]
 
 
 # Links.
@@ -224,5 +225,5 @@ def checks():
         yield f"links {name_of(page)}", lambda page=page: lost_links(page) + lost_paths(page)
     for page in pages():
         for it in shown(page):
-            if not it.is_play:
+            if not it.runs:
                 yield it.name, lambda it=it: it.play(None)

@@ -3,6 +3,7 @@
 What each must say is worked out from docs/RULES.md, and from Cilium's documentation for the labels.
 """
 import json
+import pathlib
 import subprocess
 import sys
 import tempfile
@@ -211,6 +212,42 @@ def applied(line):
     return value.get("policy") if isinstance(value, dict) and value.get("op") == "apply" else None
 
 
+def faults_of_changes(wrong):
+    """What what-if says of a bad change, before it runs anything."""
+    with tempfile.TemporaryDirectory() as name:
+        folder = pathlib.Path(name)
+
+        def written(name, value):
+            folder.joinpath(name).write_text(value if isinstance(value, str) else json.dumps(value))
+            return str(folder / name)
+
+        state = written("state.json", {"apiVersion": "v1", "kind": "List", "items": [NAMESPACE, *PODS, FINE, L7]})
+        fine = written("fine.json", FINE)
+        for words, what in (
+            ([], "nothing to change: --add FILE or --remove KIND/NAMESPACE/NAME"),
+            (["--add", written("dns.json", DNS)], f"{folder}/dns.json: document 1: shop/dns isn't read: toFQDNs at spec.egress[0]. Nothing can be said of it"),
+            (["--add", written("pod.json", PODS[0])], f"{folder}/pod.json: document 1: a Pod of v1, and --add takes CiliumNetworkPolicy and CiliumClusterwideNetworkPolicy of cilium.io/v2"),
+            (
+                ["--add", written("a.yaml", "apiVersion: cilium.io/v2\nkind: CiliumNetworkPolicy\n")],
+                f"{folder}/a.yaml is YAML, which Python's standard library doesn't read: `kubectl create --dry-run=client -o json -f FILE` prints it as JSON, and so does kubectl get with -o json",
+            ),
+            (["--add", written("none", "")], f"{folder}/none is empty: it takes what kubectl get .. -o json prints"),
+            (["--add", f"{folder}/lost"], f"{folder}/lost: No such file or directory"),
+            (["--remove", "cnp/shop/lost"], "--remove cnp/shop/lost: the state has no such policy; of its kind it has shop/fine, shop/l7"),
+            (["--remove", "ccnp/lost"], "--remove ccnp/lost: the state has no such policy; of its kind it has none"),
+            (["--remove", "pod/shop/web"], "--remove pod/shop/web: it is CiliumNetworkPolicy/NAMESPACE/NAME or CiliumClusterwideNetworkPolicy/NAME; cnp and ccnp do for the kinds"),
+            (["--add", fine, "--node", "n9"], "--node n9: no pod of the state is on it; there are n1, n2"),
+            (["--add", fine, "--strict"], "1 of 2 policies isn't in force: shop/l7: rules at spec.ingress[1].toPorts[0]"),
+        ):
+            status, out, err = call("what-if", ["--state", state, *words])
+            told(wrong, f"with {words}", (status, out, err.splitlines()[0]), (1, "", f"what-if: {what}"))
+        told(wrong, "the status without a state", call("what-if", ["--add", fine])[0], 1)
+        # the same policy once more is no change, so that nothing is asked
+        status, out, err = call("what-if", ["--state", state, "--add", fine])
+        told(wrong, "where nothing changes", (status, out, err.splitlines()[-1]), (0, "", "what-if: no connection changes"))
+        told(wrong, "what isn't in force", "1 of 2 policies isn't in force: shop/l7" in err, True)
+
+
 def run(check):
     wrong = []
     check(wrong)
@@ -219,5 +256,5 @@ def run(check):
 
 def checks():
     names = (faults_of_queries, other_sides_of_queries, labels_that_count, policies_that_are_not_in_force, entity_of_another_cluster)
-    names += (unread_as_the_cases_say,)
+    names += (unread_as_the_cases_say, faults_of_changes)
     return [(f"recipes {it.__name__.replace('_', ' ')}", lambda it=it: run(it)) for it in names]

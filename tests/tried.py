@@ -10,6 +10,7 @@ import subprocess
 import tempfile
 
 import compare
+import documents
 import program
 import unproved
 
@@ -35,7 +36,13 @@ def play(cases):
     if unproved.is_kept():
         yield from ((it.name, it.play([str(unproved.KEPT)])) for it in small)
     elif small:
-        yield from play_at_once(small)
+        yield from play_at_once([it for it in small if not plays_itself(it)])
+        print("left out, since no build without proof is kept: what plays the program itself")
+
+
+def plays_itself(case):
+    """Whether a case is a command that calls ./play more than once, and so no script."""
+    return isinstance(case, documents.Command) and not case.is_play or case.name.startswith("what-if ")
 
 
 def play_at_once(small):

@@ -1,0 +1,54 @@
+"""A change of policies: what is applied and what is removed, and what was in force before."""
+from .policies import CLUSTER_WIDE, NAMESPACED, POLICY_KINDS, Policy
+from .reading import Bad, objects, text_of
+
+SHORT = {"cnp": NAMESPACED, "ccnp": CLUSTER_WIDE}
+
+
+class Change:
+    """The policies before, those that come and those that go."""
+
+    def __init__(self, cluster, added, removed):
+        self.before = {it.key: it for it in cluster.policies}
+        self.new = {}
+        for name in added:
+            for policy in policies_of(name):
+                self.new[policy.key] = policy
+        self.gone = [self.removed(it) for it in removed]
+        self.lines = [*(it.deletion() for it in self.gone), *(it.line for it in self.new.values())]
+
+    def removed(self, text):
+        kind, *names = text.split("/")
+        kind = {**SHORT, **{it.lower(): it for it in POLICY_KINDS}}.get(kind.lower())
+        key = (kind, *(["", *names] if kind == CLUSTER_WIDE else names))
+        if kind is None or len(key) != 3:
+            raise Bad(f"--remove {text}: it is {NAMESPACED}/NAMESPACE/NAME or {CLUSTER_WIDE}/NAME; cnp and ccnp do for the kinds")
+        if key not in self.before:
+            names = sorted(it.name for it in self.before.values() if it.kind == kind)
+            raise Bad(f"--remove {text}: the state has no such policy; of its kind it has {', '.join(names) or 'none'}")
+        return self.before[key]
+
+    def versions(self):
+        """Each policy that is there before or after, as often as it has another document."""
+        return [*self.before.values(), *(it for it in self.new.values() if not self.is_as_before(it))]
+
+    def is_as_before(self, policy):
+        old = self.before.get(policy.key)
+        return old is not None and old.line == policy.line
+
+    def changed(self):
+        """The versions that are in force before or after alone."""
+        new = [it for it in self.new.values() if not self.is_as_before(it)]
+        return [*self.gone, *(self.before[it.key] for it in new if it.key in self.before), *new]
+
+
+def policies_of(name):
+    """The policies of a file, each of which policyd has to read."""
+    for place, value in objects(text_of(name), name, f"{name}: document"):
+        if value["apiVersion"] != "cilium.io/v2" or value["kind"] not in POLICY_KINDS:
+            raise Bad(f"{place}: a {value['kind']} of {value['apiVersion']}, and --add takes {NAMESPACED} and {CLUSTER_WIDE} of cilium.io/v2")
+        policy = Policy(place, value)
+        why = policy.why_unread()
+        if why:
+            raise Bad(f"{place}: {policy.name} isn't read: {why[0]} at {why[1]}. Nothing can be said of it")
+        yield policy

@@ -1,0 +1,123 @@
+"""Which connections a change of policies opens and shuts.
+
+A connection from pod to pod has two halves, what its source may send and what its target may receive, and passes where
+both allow it; one with a node or an address outside the cluster has one half. A half can change only where a policy that
+comes or goes selects its endpoint in that direction: all other rules are in force before and after. So the halves of
+those endpoints are asked first, at each stretch of ports, and where one changes, the other half.
+"""
+from . import ports
+
+OPPOSITE = {"ingress": "egress", "egress": "ingress"}
+
+
+class Connections:
+    """The halves that may change, and what was answered."""
+
+    def __init__(self, sides, change, asker):
+        self.sides, self.change, self.asker = sides, change, asker
+        self.versions, self.answers, self.refused = change.versions(), {}, {}
+        self.selecting, self.touched, self.kept = {}, set(), {}
+
+    def find(self, say):
+        """Asks all that has to be asked, and gives the rows of connections that change and of halves that do so alone."""
+        if not self.change.changed():
+            return []
+        say(f"asking which of {len(self.sides.sets)} sets of labels each of {len(self.versions)} policies selects ..")
+        self.probe()
+        before = [it.line for it in self.change.before.values()]
+        asked = {it for half in self.touched for it in self.questions(half)}
+        say(f"asking about {len(asked)} packets, before and after ..")
+        self.answers.update(self.asker.both(before, self.change.lines, asked) if asked else {})
+        others = {it for it in map(self.other, filter(self.changes, asked)) if it and it not in self.answers}
+        if others:
+            say(f"asking about the other halves of {len(others)} ..")
+            self.answers.update(self.asker.both(before, self.change.lines, others))
+        return self.rows(filter(self.changes, asked))
+
+    def probe(self):
+        found, refused = self.asker.enforced_by(self.versions)
+        changed = self.change.changed()
+        for policy, halves in zip(self.versions, found):
+            for half in halves:
+                self.selecting.setdefault(half, []).append(policy)
+            if policy in changed:
+                self.touched |= halves
+        self.refused = {self.versions[number]: why for number, why in refused.items()}
+
+    def selected_by(self, half):
+        """A half's direction, and the policies that have entries of it; many halves have the same."""
+        return half[1], tuple(self.selecting.get(half, []))
+
+    def once(self, make, *which):
+        """What is made of halves, made once for all that have the same policies."""
+        if (make, which) not in self.kept:
+            entries = [entry for direction, policies in which for it in policies for way, entry in it.entries() if way == direction]
+            self.kept[make, which] = make(entries)
+        return self.kept[make, which]
+
+    def stretches(self, half, peer):
+        """The stretches of ports of a half, and of the half of the pods at its other side."""
+        other = [self.selected_by((peer, OPPOSITE[half[1]]))] if peer is not None else []
+        return self.once(ports.stretches, self.selected_by(half), *other)
+
+    def outer(self, half):
+        """What isn't a pod at the other side of a half."""
+        return self.once(self.sides.outer, self.selected_by(half))
+
+    def questions(self, half):
+        """What is asked of a half: each other side, protocol and stretch of ports."""
+        at, direction = half
+        peers = [(self.asker.remote(it), it) for it in range(len(self.sides.sets))]
+        outer, _ = self.outer(half)
+        for remote, peer in [*peers, *((it, None) for it in outer.values())]:
+            for protocol, starts in self.stretches(half, peer).items():
+                if not isinstance(starts, str):
+                    yield from ((at, direction, remote, protocol, port) for port in starts)
+
+    def changes(self, asked):
+        before, after = self.answers[asked]
+        return before.is_allowed != after.is_allowed
+
+    def peer(self, asked):
+        """The set of labels at the other side, or None."""
+        name, value = asked[2]
+        at = value - self.asker.remote(0)[1] if name == "identity" else -1
+        return at if 0 <= at < len(self.sides.sets) else None
+
+    def other(self, asked):
+        """The question of the other half, or None where there is none."""
+        peer = self.peer(asked)
+        return None if peer is None else (peer, OPPOSITE[asked[1]], self.asker.remote(asked[0]), *asked[3:])
+
+    def rows(self, asked):
+        """For each changed packet, its two ends, its stretch of ports and its halves: pairs of before and after."""
+        seen = set()
+        for it in asked:
+            other = self.other(it)
+            halves = {it[1]: self.answers[it], **({other[1]: self.answers[other]} if other else {})}
+            ends = (it[0], self.peer(it)) if it[1] == "egress" else (self.peer(it), it[0])
+            key = (ends, it[2] if other is None else None, it[1] if other is None else None, *it[3:])
+            if key not in seen:
+                seen.add(key)
+                yield Row(self, it, ends, halves)
+
+
+class Row:
+    """A changed packet."""
+
+    def __init__(self, found, asked, ends, halves):
+        _, self.direction, self.remote, self.protocol, port = asked
+        self.ends, self.halves = ends, halves
+        half, peer = (asked[0], self.direction), found.peer(asked)
+        stretches = found.stretches(half, peer)
+        self.stretch = (port, ports.ends(stretches[self.protocol])[port])
+        self.protocols = tuple(it for it in ports.PROTOCOLS if stretches[it] == self.protocol or it == self.protocol)
+        self.is_allowed = [all(it[at].is_allowed for it in halves.values()) for at in (0, 1)]
+
+    def changes(self):
+        return self.is_allowed[0] != self.is_allowed[1]
+
+    def word(self, at):
+        """The verdict on the connection: allowed, or that of the half that doesn't allow it."""
+        words = [it[at].word for it in self.halves.values() if not it[at].is_allowed]
+        return min(words, key=lambda it: it != "denied-by-rule", default="allowed")

@@ -1,0 +1,60 @@
+"""At which ports verdicts can differ.
+
+An entry covers whole ranges of ports of a protocol. So from one port where some range begins, or where one has just
+ended, to the next such port every packet between the same two ends has the same verdict: the first port of each such
+stretch stands for all of it, and asking there is exact for every port.
+"""
+PROTOCOLS = ("TCP", "UDP", "SCTP")
+LAST = 65_535
+
+
+def ranges(entry):
+    """The ranges of an entry's ports, by protocol; an entry without ports has none."""
+    found = {it: [] for it in PROTOCOLS}
+    for item in entry.get("toPorts") or []:
+        for port in item.get("ports") or []:
+            low = int(port["port"])
+            high = max(low, port.get("endPort") or 0)
+            named = (port.get("protocol") or "ANY").upper()
+            for protocol in PROTOCOLS if named == "ANY" else (named,):
+                found[protocol].append((low, high) if low else (0, LAST))
+    return found
+
+
+def stretches(entries):
+    """By protocol, where its stretches begin. A protocol that each entry treats like an earlier one is that one's name."""
+    all_ranges = [ranges(it) for it in entries]
+    found, seen = {}, {}
+    for protocol in PROTOCOLS:
+        mine = tuple(tuple(it[protocol]) for it in all_ranges)
+        first = seen.setdefault(mine, protocol)
+        if first != protocol:
+            found[protocol] = first
+            continue
+        cuts = {0}
+        for low, high in (it for of_entry in mine for it in of_entry):
+            cuts |= {low, high + 1}
+        found[protocol] = sorted(it for it in cuts if it <= LAST)
+    return found
+
+
+def ends(starts):
+    """The stretches that begin at these ports, each with its last port."""
+    return dict(zip(starts, [it - 1 for it in starts[1:]] + [LAST]))
+
+
+def merged(stretches):
+    """Stretches, with those that touch made one."""
+    found = []
+    for low, high in sorted(stretches):
+        if found and found[-1][1] + 1 == low:
+            found[-1] = (found[-1][0], high)
+        else:
+            found.append((low, high))
+    return tuple(found)
+
+
+def written(stretches):
+    if stretches == ((0, LAST),):
+        return "every port"
+    return ", ".join(f"{low}" if low == high else f"{low}-{high}" for low, high in stretches)

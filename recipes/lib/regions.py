@@ -1,0 +1,67 @@
+"""Addresses outside the cluster: the world, and the prefixes that policies name.
+
+A region is a prefix without the prefixes in it that are named too, and the world is the region of 0.0.0.0/0. Entries
+name whole prefixes, so all addresses of a region have the same verdicts, and one that is no pod's and no node's stands
+for it.
+"""
+import ipaddress
+
+from .unread import prefix
+
+WORLD = ipaddress.ip_network("0.0.0.0/0")
+
+
+def named(entries):
+    """The prefixes that entries name, and the world."""
+    found = {WORLD}
+    for entry in entries:
+        for kind in ("from", "to"):
+            found |= {prefix(it) for it in entry.get(f"{kind}CIDR") or []}
+            for it in entry.get(f"{kind}CIDRSet") or []:
+                found |= {prefix(text) for text in [it["cidr"], *(it.get("except") or [])]}
+    return found
+
+
+def inside(whole, prefixes):
+    """The widest of the prefixes that lie in another one."""
+    lying = [it for it in prefixes if it != whole and it.subnet_of(whole)]
+    return [it for it in lying if not any(it != other and it.subnet_of(other) for other in lying)]
+
+
+def representative(whole, prefixes, taken):
+    """The first address of a region that isn't taken, or None."""
+    at, last = int(whole.network_address), int(whole.broadcast_address)
+    holes = [(int(it.network_address), int(it.broadcast_address)) for it in inside(whole, prefixes)]
+    holes = sorted([*holes, *((int(it), int(it)) for it in map(ipaddress.ip_address, taken))])
+    for low, high in holes:
+        if low > at:
+            break
+        at = max(at, high + 1)
+    return str(ipaddress.ip_address(at)) if at <= last else None
+
+
+def joined(regions, prefixes):
+    """Regions as pairs of a prefix and its exceptions: a region in which another of them lies takes that one in."""
+    found = []
+    for whole in sorted(regions):
+        above = [it for it in prefixes if it != whole and whole.subnet_of(it)]
+        nearest = max(above, key=lambda it: it.prefixlen, default=None)
+        if nearest not in regions:
+            found.append((whole, sorted(missing(whole, regions, prefixes))))
+    return found
+
+
+def missing(whole, regions, prefixes):
+    """The prefixes inside a region that aren't among the regions, and through which it isn't left."""
+    for it in inside(whole, prefixes):
+        if it in regions:
+            yield from missing(it, regions, prefixes)
+        else:
+            yield it
+
+
+def written(pairs):
+    for whole, but in pairs:
+        name = "world" if whole == WORLD else str(whole)
+        more = f" and {len(but) - 3} more" if len(but) > 3 else ""
+        yield name + (f" but for {', '.join(map(str, but[:3]))}{more}" if but else "")

@@ -1,0 +1,68 @@
+"""The two ends of connections: pods of one set of labels, reserved identities, and addresses outside the cluster."""
+from . import regions
+from .cluster import HOST, REMOTE_NODE
+
+ENTITIES = {HOST: "host", REMOTE_NODE: "remote-node", 7: "kube-apiserver", 8: "ingress", 4: "health", 5: "init", 3: "unmanaged"}
+
+
+class Group:
+    """Pods that have one set of labels, so that each verdict on one is that on all of them.
+
+    Where a node is named, those that are on it and those that aren't are two groups.
+    """
+
+    def __init__(self, at, pods, is_local):
+        self.at, self.pods, self.is_local = at, pods, is_local
+
+
+class Sides:
+    """The pods of a cluster by their labels, and by whether they are on the node."""
+
+    def __init__(self, cluster, node):
+        by_labels, self.cluster, self.node = {}, cluster, node
+        for pod in cluster.live:
+            by_labels.setdefault(pod.labels, []).append(pod)
+        self.sets = [pods[0] for pods in by_labels.values()]
+        self.taken = sorted({*(it.address for it in cluster.live), *cluster.nodes, *cluster.services})
+        self.groups = []
+        for at, pods in enumerate(by_labels.values()):
+            for is_local in (True, False):
+                of_these = [it for it in pods if (node is None or it.node == node) == is_local]
+                if of_these:
+                    self.groups.append(Group(at, of_these, is_local))
+        self.workloads, self.namespaces = {}, {}
+        for group in self.groups:
+            for pod in group.pods:
+                self.workloads.setdefault((pod.namespace, pod.workload), set()).add(pod.name)
+                self.namespaces.setdefault(pod.namespace, set()).add(pod.name)
+
+    def outer(self, entries):
+        """What isn't a pod, as far as the entries tell it apart: each with how a query names it."""
+        prefixes = regions.named(entries)
+        found = {("entity", number): ("identity", number) for number in ENTITIES}
+        for it in prefixes:
+            address = regions.representative(it, prefixes, self.taken)
+            if address is not None:
+                found["region", it] = ("address", address)
+        return found, prefixes
+
+    def names(self, pods, other=()):
+        """The pods of a side, written: all of a namespace, all replicas of a workload, or by name.
+
+        A pod's own connection to itself never meets a policy: where `other` is that pod alone, it counts as listed.
+        """
+        listed, found = {*(it.name for it in pods)}, []
+        alone = {it.name for it in other} if len(other) == 1 else set()
+        for namespace, names in sorted(self.namespaces.items()):
+            mine = sorted(listed & names)
+            workloads = {it.workload for it in self.cluster.live if it.namespace == namespace}
+            if mine and len(workloads) > 2 and names <= listed | alone:
+                found.append(f"{namespace}/* ({'all' if names <= listed else 'its other'} {len(mine)} pods)")
+                continue
+            for name in mine:
+                whole = self.workloads[namespace, self.cluster.pods[name].workload]
+                if len(whole) > 1 and whole <= listed:
+                    name = f"{namespace}/{self.cluster.pods[name].workload} ({len(whole)} pods)"
+                if name not in found:
+                    found.append(name)
+        return found
