@@ -3,7 +3,8 @@
 A connection from pod to pod has two halves, what its source may send and what its target may receive, and passes where
 both allow it; one with a node or an address outside the cluster has one half. A half can change only where a policy that
 comes or goes selects its endpoint in that direction: all other rules are in force before and after. So the halves of
-those endpoints are asked first, at each stretch of ports, and where one changes, the other half.
+those endpoints are asked first, at each stretch of ports, and where one changes, the other half. Halves of one direction
+whose endpoints the same rules select have the same verdicts, so one of them is asked for all.
 """
 from . import ports
 
@@ -16,7 +17,7 @@ class Connections:
     def __init__(self, sides, change, asker):
         self.sides, self.change, self.asker = sides, change, asker
         self.versions, self.answers, self.refused = change.versions(), {}, {}
-        self.selecting, self.touched, self.kept = {}, set(), {}
+        self.selecting, self.touched, self.first, self.kept = {}, set(), {}, {}
 
     def find(self, say):
         """Asks all that has to be asked, and gives the rows of connections that change and of halves that do so alone."""
@@ -25,31 +26,49 @@ class Connections:
         say(f"asking which of {len(self.sides.sets)} sets of labels each of {len(self.versions)} policies selects ..")
         self.probe()
         before = [it.line for it in self.change.before.values()]
-        asked = {it for half in self.touched for it in self.questions(half)}
-        say(f"asking about {len(asked)} packets, before and after ..")
-        self.answers.update(self.asker.both(before, self.change.lines, asked) if asked else {})
-        others = {it for it in map(self.other, filter(self.changes, asked)) if it and it not in self.answers}
+        asked = [it for half in sorted(self.touched) for it in self.questions(half)]
+        say(f"asking about {len(set(map(self.stand_in, asked)))} packets, before and after ..")
+        self.ask(before, asked)
+        changed = [it for it in asked if self.changes(it)]
+        others = [it for it in map(self.other, changed) if it and self.stand_in(it) not in self.answers]
         if others:
-            say(f"asking about the other halves of {len(others)} ..")
-            self.answers.update(self.asker.both(before, self.change.lines, others))
-        return self.rows(filter(self.changes, asked))
+            say(f"asking about the other halves of {len(set(map(self.stand_in, others)))} ..")
+            self.ask(before, others)
+        return self.rows(changed)
+
+    def ask(self, before, asked):
+        asked = set(map(self.stand_in, asked)) - {*self.answers}
+        self.answers.update(self.asker.both(before, self.change.lines, asked) if asked else {})
 
     def probe(self):
-        found, refused = self.asker.enforced_by(self.versions)
+        """Which rules select whom: each policy is applied by itself, and each rule of one that has several."""
+        parts = [part for policy in self.versions for part in policy.parts()]
+        asked = [*parts, *(it for it in self.versions if it not in parts)]
+        found, refused = self.asker.enforced_by(asked)
+        self.refused = {asked[number].whole: why for number, why in refused.items()}
         changed = self.change.changed()
-        for policy, halves in zip(self.versions, found):
-            for half in halves:
-                self.selecting.setdefault(half, []).append(policy)
-            if policy in changed:
-                self.touched |= halves
-        self.refused = {self.versions[number]: why for number, why in refused.items()}
+        for part, halves in zip(parts, found):
+            for half in halves if part.whole not in self.refused else ():
+                self.selecting.setdefault(half, []).append(part)
+                if part.whole in changed:
+                    self.touched.add(half)
+        alike = {}
+        for half in [(at, direction) for at in range(len(self.sides.sets)) for direction in OPPOSITE]:
+            self.first[half] = alike.setdefault(self.selected_by(half), half)[0]
+
+    def stand_in(self, asked):
+        """The question that is asked in the place of this one: of the first endpoint that the same rules select."""
+        return (self.first[asked[:2]], *asked[1:])
+
+    def answer(self, asked):
+        return self.answers[self.stand_in(asked)]
 
     def selected_by(self, half):
-        """A half's direction, and the policies that have entries of it; many halves have the same."""
+        """A half's direction, and the rules that select its endpoint and have a section of that direction."""
         return half[1], tuple(self.selecting.get(half, []))
 
     def once(self, make, *which):
-        """What is made of halves, made once for all that have the same policies."""
+        """What is made of the entries of halves, made once for all halves of the same rules."""
         if (make, which) not in self.kept:
             entries = [entry for direction, policies in which for it in policies for way, entry in it.entries() if way == direction]
             self.kept[make, which] = make(entries)
@@ -70,12 +89,11 @@ class Connections:
         peers = [(self.asker.remote(it), it) for it in range(len(self.sides.sets))]
         outer, _ = self.outer(half)
         for remote, peer in [*peers, *((it, None) for it in outer.values())]:
-            for protocol, starts in self.stretches(half, peer).items():
-                if not isinstance(starts, str):
-                    yield from ((at, direction, remote, protocol, port) for port in starts)
+            for protocol, (stretches, _) in self.stretches(half, peer).items():
+                yield from ((at, direction, remote, protocol, port) for port in stretches)
 
     def changes(self, asked):
-        before, after = self.answers[asked]
+        before, after = self.answer(asked)
         return before.is_allowed != after.is_allowed
 
     def peer(self, asked):
@@ -94,7 +112,7 @@ class Connections:
         seen = set()
         for it in asked:
             other = self.other(it)
-            halves = {it[1]: self.answers[it], **({other[1]: self.answers[other]} if other else {})}
+            halves = {it[1]: self.answer(it), **({other[1]: self.answer(other)} if other else {})}
             ends = (it[0], self.peer(it)) if it[1] == "egress" else (self.peer(it), it[0])
             key = (ends, it[2] if other is None else None, it[1] if other is None else None, *it[3:])
             if key not in seen:
@@ -109,9 +127,8 @@ class Row:
         _, self.direction, self.remote, self.protocol, port = asked
         self.ends, self.halves = ends, halves
         half, peer = (asked[0], self.direction), found.peer(asked)
-        stretches = found.stretches(half, peer)
-        self.stretch = (port, ports.ends(stretches[self.protocol])[port])
-        self.protocols = tuple(it for it in ports.PROTOCOLS if stretches[it] == self.protocol or it == self.protocol)
+        stretches, self.protocols = found.stretches(half, peer)[self.protocol]
+        self.stretch = (port, stretches[port])
         self.is_allowed = [all(it[at].is_allowed for it in halves.values()) for at in (0, 1)]
 
     def changes(self):

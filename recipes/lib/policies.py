@@ -19,6 +19,7 @@ class Policy:
         self.key = (self.kind, self.namespace, name)
         self.name = name if self.kind == CLUSTER_WIDE else f"{self.namespace}/{name}"
         self.line = line_of(place, {"op": "apply", "policy": self.document})
+        self.whole = self
 
     def why_unread(self):
         """What policyd doesn't read in it, with its place, or None."""
@@ -29,6 +30,15 @@ class Policy:
         listed = self.document.get("specs")
         found = [self.document.get("spec"), *(listed if isinstance(listed, list) else [])]
         return [it for it in found if isinstance(it, dict)]
+
+    def parts(self):
+        """Its rules, each by itself as a policy of the same names."""
+        rules, found = self.rules(), []
+        for rule in rules if len(rules) > 1 else []:
+            part = Policy(self.place, {**{key: it for key, it in self.document.items() if key != "specs"}, "spec": rule})
+            part.whole = self
+            found.append(part)
+        return found or [self]
 
     def selects(self, labels):
         """Whether some rule selects the labels, as far as its subject is read; one that isn't counts as selecting."""

@@ -22,25 +22,16 @@ def ranges(entry):
 
 
 def stretches(entries):
-    """By protocol, where its stretches begin. A protocol that each entry treats like an earlier one is that one's name."""
-    all_ranges = [ranges(it) for it in entries]
-    found, seen = {}, {}
+    """The stretches of ports, each with its last port, of each protocol that the entries tell from those before it, and
+    which protocols they treat like it."""
+    all_ranges, alike = [ranges(it) for it in entries], {}
     for protocol in PROTOCOLS:
-        mine = tuple(tuple(it[protocol]) for it in all_ranges)
-        first = seen.setdefault(mine, protocol)
-        if first != protocol:
-            found[protocol] = first
-            continue
-        cuts = {0}
-        for low, high in (it for of_entry in mine for it in of_entry):
-            cuts |= {low, high + 1}
-        found[protocol] = sorted(it for it in cuts if it <= LAST)
+        alike.setdefault(tuple(tuple(it[protocol]) for it in all_ranges), []).append(protocol)
+    found = {}
+    for of_entries, protocols in alike.items():
+        cuts = sorted({0, *(cut for of_entry in of_entries for low, high in of_entry for cut in (low, high + 1) if cut <= LAST)})
+        found[protocols[0]] = dict(zip(cuts, [it - 1 for it in cuts[1:]] + [LAST])), tuple(protocols)
     return found
-
-
-def ends(starts):
-    """The stretches that begin at these ports, each with its last port."""
-    return dict(zip(starts, [it - 1 for it in starts[1:]] + [LAST]))
 
 
 def merged(stretches):

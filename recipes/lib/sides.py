@@ -30,8 +30,9 @@ class Sides:
                 of_these = [it for it in pods if (node is None or it.node == node) == is_local]
                 if of_these:
                     self.groups.append(Group(at, of_these, is_local))
-        self.workloads, self.namespaces = {}, {}
+        self.workloads, self.namespaces, self.of_set = {}, {}, {}
         for group in self.groups:
+            self.of_set.setdefault(group.at, []).append(group)
             for pod in group.pods:
                 self.workloads.setdefault((pod.namespace, pod.workload), set()).add(pod.name)
                 self.namespaces.setdefault(pod.namespace, set()).add(pod.name)

@@ -47,7 +47,7 @@ def alike(stretches):
 def pairs(found, row, node):
     """The two ends of a row: groups of pods, or what isn't a pod. Where a node is named, one is on it."""
     sides = found.sides
-    ends = [[it for it in sides.groups if it.at == at] if at is not None else [outside(found, row)] for at in row.ends]
+    ends = [sides.of_set[at] if at is not None else [outside(found, row)] for at in row.ends]
     for source in ends[0]:
         for target in ends[1]:
             if node is None or any(getattr(it, "is_local", False) for it in (source, target)):
@@ -111,7 +111,8 @@ def unlisted(found, row, direction, before):
     if before.allows:
         return f"no entry allows it without {places(before.allows)}"
     at = row.ends[0] if direction == "egress" else row.ends[1]
-    new = [it.name for it in found.change.new.values() if it in found.selecting.get((at, direction), [])]
+    selecting = [it.whole for it in found.selecting.get((at, direction), [])]
+    new = [it.name for it in found.change.new.values() if it in selecting]
     return f"no entry allows it; enforced by {', '.join(new)}"
 
 
