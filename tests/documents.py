@@ -90,7 +90,7 @@ def shown(page):
 
 def commands():
     """What documents show of the program, as cases."""
-    return [Table(TOP / "README.md"), *(it for page in pages() for it in shown(page) if it.runs)]
+    return [Table(TOP / "examples" / "README.md"), *(it for page in pages() for it in shown(page) if it.runs)]
 
 
 # Links.
@@ -127,7 +127,7 @@ def lost_paths(page):
     return [f"there is no {it}" for it in named if not (TOP / it).exists() and "/out" not in it and "NAME" not in it]
 
 
-# The table of the README, whose rows are lines of a script and their answers.
+# The table of the examples, whose rows are lines of a script and their answers.
 
 
 class Table:
@@ -155,11 +155,15 @@ class Table:
 
 
 def example():
-    """The README's table is the script that it names, and it counts the program's crates right."""
-    page, count = TOP / "README.md", len(program.parts())
-    wrong = compare.difference("the lines of README.md", (TOP / "examples" / "star-wars.jsonl").read_bytes(), Table(page).given())
-    is_counted = f"of the {count} crates that the program is made of" in page.read_text()
-    return wrong if is_counted else [*wrong, f"it doesn't say 'of the {count} crates that the program is made of'"]
+    """The table of the examples is the script that it names."""
+    page = TOP / "examples" / "README.md"
+    return compare.difference(f"the lines of {name_of(page)}", (TOP / "examples" / "star-wars.jsonl").read_bytes(), Table(page).given())
+
+
+def counted():
+    """The program's crates are counted right."""
+    said = f"of the {len(program.parts())} crates that the program is made of"
+    return [] if said in (TOP / "CONTRIBUTING.md").read_text() else [f"it doesn't say '{said}'"]
 
 
 # Crates.
@@ -219,7 +223,8 @@ def checks():
     yield "diagram docs/ARCHITECTURE.md", diagram
     for name in program.crates():
         yield f"readme crates/{name}", lambda name=name: introduced(name)
-    yield "example README.md", example
+    yield "example examples/README.md", example
+    yield "count CONTRIBUTING.md", counted
     yield "proved docs/PROVED.md", proved
     for page in pages():
         yield f"links {name_of(page)}", lambda page=page: lost_links(page) + lost_paths(page)
