@@ -43,13 +43,17 @@ def call(recipe, words, given=()):
     return ended.returncode, ended.stdout, ended.stderr
 
 
-def asked(query, *words):
+def asked(query):
     """What from-kubectl makes of one query of shop/web, on its node; a member that is None is left out."""
+    return call_with_query(query, [NAMESPACE, SERVICE, *PODS])
+
+
+def call_with_query(query, given):
     whole = {"op": "verdict", "endpoint": "shop/web", "direction": "ingress", "protocol": "TCP", "port": 80, **query}
     with tempfile.NamedTemporaryFile("w", suffix=".jsonl") as file:
         file.write(json.dumps({key: value for key, value in whole.items() if value is not None}) + "\n")
         file.flush()
-        status, out, err = call("from-kubectl", ["--node", "n1", "--ask", file.name, *words], [NAMESPACE, SERVICE, *PODS])
+        status, out, err = call("from-kubectl", ["--node", "n1", "--ask", file.name], given)
         return status, out, err.replace(file.name, "FILE")
 
 
@@ -98,6 +102,10 @@ def other_sides_of_queries(wrong):
         status, out, _ = asked(query)
         told(wrong, f"the status at {query}", status, 0)
         told(wrong, f"the query at {query}", f",{becomes}}}" in out.splitlines()[-1], True)
+    without = call_with_query({"address": "203.0.113.9"}, [NAMESPACE, *PODS])
+    told(wrong, "what is said without Services", without[2].splitlines()[-1], "from-kubectl: note: no Service is in the input, so that the ClusterIP of one would be taken for the world's")
+    told(wrong, "what is said of no address", "no Service" in call_with_query({"identity": 2}, [NAMESPACE, *PODS])[2], False)
+    told(wrong, "what is said with Services", "no Service" in asked({"address": "203.0.113.9"})[2], False)
 
 
 OWN = {
@@ -223,6 +231,7 @@ def faults_of_changes(wrong):
 
         state = written("state.json", {"apiVersion": "v1", "kind": "List", "items": [NAMESPACE, *PODS, FINE, L7]})
         fine = written("fine.json", FINE)
+        twice = written("twice.json", {"apiVersion": "v1", "kind": "List", "items": [pod("shop", it, "n1", "10.0.0.1", {}) for it in "ab"]})
         for words, what in (
             ([], "nothing to change: --add FILE or --remove KIND/NAMESPACE/NAME"),
             (["--add", written("dns.json", DNS)], f"{folder}/dns.json: document 1: shop/dns isn't read: toFQDNs at spec.egress[0]. Nothing can be said of it"),
@@ -236,6 +245,7 @@ def faults_of_changes(wrong):
             (["--remove", "cnp/shop/lost"], "--remove cnp/shop/lost: the state has no such policy; of its kind it has shop/fine, shop/l7"),
             (["--remove", "ccnp/lost"], "--remove ccnp/lost: the state has no such policy; of its kind it has none"),
             (["--remove", "pod/shop/web"], "--remove pod/shop/web: it is CiliumNetworkPolicy/NAMESPACE/NAME or CiliumClusterwideNetworkPolicy/NAME; cnp and ccnp do for the kinds"),
+            (["--add", fine, "--state", twice], f"{twice}: document 1, item 2: Pod shop/b: its address 10.0.0.1 is that of shop/a too"),
             (["--add", fine, "--node", "n9"], "--node n9: no pod of the state is on it; there are n1, n2"),
             (["--add", fine, "--strict"], "1 of 2 policies isn't in force: shop/l7: rules at spec.ingress[1].toPorts[0]"),
         ):

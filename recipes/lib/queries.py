@@ -18,6 +18,7 @@ class Queries:
         # policyd knows the addresses of endpoints alone, and would take those of other pods for the world's
         own = {it.address for it in pods}
         self.others = {it.address: it.name for it in cluster.live if it.address not in own}
+        self.own, self.notes = own, []
 
     def lines(self, name):
         """The query lines of a file, each with the name of its endpoint."""
@@ -75,6 +76,8 @@ class Queries:
             raise Bad(f"{place}: {address} is the ClusterIP of the Service {service}, which is a pod's address before policies are asked: name the pod")
         if address in self.cluster.nodes:
             return "identity", self.cluster.node_number(self.cluster.nodes[address], endpoint.node)
+        if address not in self.own and not self.cluster.has_services:
+            self.notes = ["note: no Service is in the input, so that the ClusterIP of one would be taken for the world's"]
         return "address", address
 
 

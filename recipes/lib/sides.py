@@ -1,6 +1,7 @@
 """The two ends of connections: pods of one set of labels, reserved identities, and addresses outside the cluster."""
 from . import regions
 from .cluster import HOST, REMOTE_NODE
+from .reading import Bad
 
 ENTITIES = {HOST: "host", REMOTE_NODE: "remote-node", 7: "kube-apiserver", 8: "ingress", 4: "health", 5: "init", 3: "unmanaged"}
 
@@ -20,7 +21,11 @@ class Sides:
 
     def __init__(self, cluster, node):
         by_labels, self.cluster, self.node = {}, cluster, node
+        addresses = {}
         for pod in cluster.live:
+            other = addresses.setdefault(pod.address, pod)
+            if other is not pod:
+                raise Bad(f"{pod.place}: its address {pod.address} is that of {other.name} too")
             by_labels.setdefault(pod.labels, []).append(pod)
         self.sets = [pods[0] for pods in by_labels.values()]
         self.taken = sorted({*(it.address for it in cluster.live), *cluster.nodes, *cluster.services})
