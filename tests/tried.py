@@ -16,6 +16,8 @@ import unproved
 
 # What `rt try` gives of answers at most.
 ANSWERS_MOST = 1 << 20
+# How long a case may take: such a build is some hundred times slower than a proved one.
+SECONDS = 5 * compare.SECONDS
 
 
 def lay(case, folder, name):
@@ -33,11 +35,16 @@ def play(cases):
             print(f"left out, since a build without proof can't play it: {it.name}")
     if not unproved.is_kept():
         unproved.build()
+    compare.SECONDS = SECONDS
     if unproved.is_kept():
         yield from ((it.name, it.play([str(unproved.KEPT)])) for it in small)
-    elif small:
-        yield from play_at_once([it for it in small if not plays_itself(it)])
-        print("left out, since no build without proof is kept: what plays the program itself")
+        return
+    at_once = [it for it in small if not plays_itself(it)]
+    for it in small:
+        if it not in at_once:
+            print(f"left out, since no build without proof is kept: {it.name}")
+    if at_once:
+        yield from play_at_once(at_once)
 
 
 def plays_itself(case):
@@ -50,7 +57,7 @@ def play_at_once(small):
     with tempfile.TemporaryDirectory() as folder:
         for number, it in enumerate(small):
             lay(it, pathlib.Path(folder), f"case{number}")
-        words = ["rt", "try", "--seconds", str(2 * compare.SECONDS), "--cases", folder]
+        words = ["rt", "try", "--seconds", str(SECONDS), "--cases", folder]
         ended = subprocess.run(words, cwd=program.CRATE, stdin=subprocess.DEVNULL, stdout=subprocess.PIPE, stderr=subprocess.PIPE)
     told, before = {}, []
     for line in ended.stderr.decode(errors="replace").splitlines():
