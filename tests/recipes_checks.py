@@ -12,6 +12,9 @@ import compare
 
 RECIPES = compare.TOP / "recipes"
 sys.path.insert(0, str(RECIPES))
+from lib.cluster import Cluster  # noqa: E402
+from lib.labels import Filter  # noqa: E402
+from lib.sides import Sides  # noqa: E402
 from lib.unread import why_unread  # noqa: E402
 
 
@@ -220,6 +223,29 @@ def applied(line):
     return value.get("policy") if isinstance(value, dict) and value.get("op") == "apply" else None
 
 
+def names_of_pods(wrong):
+    """How the pods of an end are written: ten of one namespace, of which the last two are replicas."""
+    owner = {"apiVersion": "apps/v1", "kind": "ReplicaSet", "name": "web-7f", "controller": True}
+    items = [pod("a", f"p{it}", "n1", f"10.0.0.{it}", {"app": f"app{it}"}) for it in range(1, 9)]
+    for name, address in (("web-7f-x", "10.0.0.9"), ("web-7f-y", "10.0.0.10")):
+        replica = pod("a", name, "n1", address, {"app": "web", "pod-template-hash": "7f"})
+        replica["metadata"]["ownerReferences"] = [owner]
+        items.append(replica)
+    sides = Sides(Cluster(json.dumps({"apiVersion": "v1", "kind": "List", "items": items}), Filter()), None)
+    pods = sides.cluster.live
+    for listed, other, wanted in (
+        (pods, (), ["a/* (all 10 pods)"]),
+        (pods[1:], (), ["a/* (9 pods, all but a/p1)"]),
+        (pods[1:], pods[:1], ["a/* (its other 9 pods)"]),
+        (pods[2:], pods[:1], ["a/* (8 pods, all others but a/p2)"]),
+        (pods[:3], (), ["a/p1", "a/p2", "a/p3"]),
+        (pods[7:], (), ["a/p8", "a/web (2 pods)"]),
+        (pods[7:9], (), ["a/p8", "a/web-7f-x"]),
+        ((), (), []),
+    ):
+        told(wrong, f"{[it.name for it in listed]}", sides.names(listed, other), wanted)
+
+
 def faults_of_changes(wrong):
     """What what-if says of a bad change, before it runs anything."""
     with tempfile.TemporaryDirectory() as name:
@@ -266,5 +292,5 @@ def run(check):
 
 def checks():
     names = (faults_of_queries, other_sides_of_queries, labels_that_count, policies_that_are_not_in_force, entity_of_another_cluster)
-    names += (unread_as_the_cases_say, faults_of_changes)
+    names += (unread_as_the_cases_say, names_of_pods, faults_of_changes)
     return [(f"recipes {it.__name__.replace('_', ' ')}", lambda it=it: run(it)) for it in names]

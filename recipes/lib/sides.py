@@ -53,7 +53,7 @@ class Sides:
         return found, prefixes
 
     def names(self, pods, other=()):
-        """The pods of a side, written: all of a namespace, all replicas of a workload, or by name.
+        """The pods of a side, written: all of a namespace or all but few, all replicas of a workload, or by name.
 
         A pod's own connection to itself never meets a policy: where `other` is that pod alone, it counts as listed.
         """
@@ -62,8 +62,9 @@ class Sides:
         for namespace, names in sorted(self.namespaces.items()):
             mine = sorted(listed & names)
             workloads = {it.workload for it in self.cluster.live if it.namespace == namespace}
-            if mine and len(workloads) > 2 and names <= listed | alone:
-                found.append(f"{namespace}/* ({'all' if names <= listed else 'its other'} {len(mine)} pods)")
+            missing = sorted(names - listed - alone)
+            if len(workloads) > 2 and len(mine) > 3 * len(missing) and len(missing) < 4:
+                found.append(f"{namespace}/* ({how_many(len(mine), missing, names - listed != {*missing})})")
                 continue
             for name in mine:
                 whole = self.workloads[namespace, self.cluster.pods[name].workload]
@@ -72,3 +73,9 @@ class Sides:
                 if name not in found:
                     found.append(name)
         return found
+
+
+def how_many(count, missing, is_of_others):
+    if missing:
+        return f"{count} pods, all {'others ' if is_of_others else ''}but {', '.join(missing)}"
+    return f"{'its other' if is_of_others else 'all'} {count} pods"
