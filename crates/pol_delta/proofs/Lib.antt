@@ -1,3 +1,4 @@
 pub mod Finding
 pub mod Differing
 pub mod SameRows
+pub mod Given

@@ -1,4 +1,5 @@
 pub mod Work
 pub mod Applies
 pub mod Givers
+pub mod Giving
 pub mod Lists

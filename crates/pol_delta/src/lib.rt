@@ -7,6 +7,8 @@
 mod changes;
 mod copies;
 mod difference;
+mod givers;
+mod giving;
 mod work;
 
 pub use changes::{Changes, Givers};

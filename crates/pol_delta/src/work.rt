@@ -5,16 +5,19 @@ ghost use Rattle.pol_distill.specs.Distilled.{distilled};
 ghost use Rattle.pol_distill.specs.Sorted.{HaveSets};
 ghost use Rattle.pol_edits.specs.Changes.{IsDifference, table_of, whole};
 ghost use Rattle.pol_delta.specs.Work.{IsWorkOf, map_of};
+ghost use Rattle.pol_delta.specs.Givers.{allows_of, denies_of};
 ghost use Rattle.pol_delta.specs.Applies.{MovesTell, NamesFilters, PlacesDiffer};
 
-use crate::changes::Changes;
+use crate::changes::{Changes, Givers};
 use crate::copies::{entries_of, rows_copy};
 use crate::difference::difference;
+use crate::givers::{allows_in, denies_in};
 use pol_data::Memory;
 use pol_distill::distill;
 use pol_edits::ChangeList;
 use pol_l4::Filters;
 use pol_mapkey::{Kind, MapKey};
+use pol_ports::Direction;
 use pol_sets::Sets;
 use std::alloc::Global;
 use std::marker::Model;
@@ -95,5 +98,49 @@ impl Work {
         ensures count { result ≡ length (map_of self.now) }
     {
         self.entries.len() as u64
+    }
+
+    /// How many filters that allow, and how many that deny, give the key, each counted once: none where nothing is
+    /// enforced. What isn't enforced, and the local host, are allowed by no filter. It takes no memory.
+    pub fn givers(&self, key: &MapKey) -> Givers
+        ensures allows { result.allows ≡ allows_of self.now key.now }
+        ensures denies { result.denies ≡ denies_of self.now key.now }
+    {
+        Givers {
+            allows: self.allows(key),
+            denies: self.denies(key),
+        }
+    }
+
+    #[tactic(auto, using(crate::proofs::Given::givers_are))]
+    fn allows(&self, key: &MapKey) -> u64
+        ensures { result ≡ allows_of self.now key.now }
+    {
+        if self.filters.never {
+            return 0;
+        }
+        let rows = self.sets.as_slice();
+        allows_in(
+            self.filters.ingress.as_slice(),
+            Direction::Ingress,
+            key,
+            rows,
+        ) + allows_in(self.filters.egress.as_slice(), Direction::Egress, key, rows)
+    }
+
+    #[tactic(auto, using(crate::proofs::Given::givers_are))]
+    fn denies(&self, key: &MapKey) -> u64
+        ensures { result ≡ denies_of self.now key.now }
+    {
+        if self.filters.never {
+            return 0;
+        }
+        let rows = self.sets.as_slice();
+        denies_in(
+            self.filters.ingress.as_slice(),
+            Direction::Ingress,
+            key,
+            rows,
+        ) + denies_in(self.filters.egress.as_slice(), Direction::Egress, key, rows)
     }
 }
