@@ -10,6 +10,6 @@ pub record IsCounted (cells : List Cell) (log : List HistoryEvent) : Type 0 wher
 abbrev pub word_of : Book → Named
 word_of book = record { tracked = true; key = 0; book = book }
 
--- the event was added to all that had been seen, or the history was longer
+-- the event was added to all that had been seen, where the word was as seen; else nothing is told
 abbrev pub Adds : Step HistoryEvent → View HistoryEvent ℕ → ℕ → View HistoryEvent ℕ → Type 0
 Adds step before found after = MatchBool (found == step.old) (after.0 ≡ before.0 ++ step.ask ∷ []) (Unit {0})

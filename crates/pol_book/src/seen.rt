@@ -139,7 +139,8 @@ impl<N: NodeName> Seen<N> {
         }
     }
 
-    /// Adds an event to all that was seen. There is none where the history is longer already, and then nothing was added.
+    /// Adds an event to all that was seen. No clause says when there is none; the body
+    /// answers so where the history is longer already.
     fn add<X>(&self, book: &Book<N>, asked: &X) -> Option<Seen<N>>
     where
         Add: Plain<X, HistoryEvent, u64>,

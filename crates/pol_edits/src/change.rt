@@ -4,7 +4,7 @@ use pol_mapkey::{Kind, MapKey};
 /// What happens to one key of a policy map.
 #[derive(Clone, Copy, PartialEq, Eq, Debug)]
 pub enum Change {
-    /// The key is there with this kind afterwards: it is new, or had another kind.
+    /// The key is there with this kind afterwards.
     Set(MapKey, Kind),
     /// The key isn't there any more.
     Clear(MapKey),

@@ -26,7 +26,7 @@ pub enum LookError {
         /// How many requests had been committed.
         revision: u64,
     },
-    /// The board could not be entered.
+    /// The board could not be entered, or what it shows of the endpoint was cut off by want of memory.
     #[error("no guard")]
     NoGuard,
 }

@@ -64,8 +64,8 @@ impl<N: NodeName> Face<N> {
         }
     }
 
-    /// What a look-up finds, with at most 36 steps. It takes no memory. It is `NoGuard` only where a change of the endpoint's
-    /// map was cut off by want of memory, and such a face is never published.
+    /// What a look-up finds, with at most 36 steps. It takes no memory. No clause says when it is `NoGuard`: the body answers
+    /// it where a change of the endpoint's map was cut off by want of memory.
     pub fn look<L: Ledger>(&self, query: &Query, steps: &mut Steps<L>) -> Result<Verdict, LookError>
         ensures answer { IsLookOf result (look_in (content_of N.options self.now) query.now) }
         ensures forward { steps.old ≤ steps.new }

@@ -153,8 +153,9 @@ pub fn beginnings_have_fewer()
 
 // ---- what calls may answer
 
-/// What a call may answer, it may answer to a caller who had seen less before it and has seen more after it, so calls
-/// that are made of others answer what those may ('profile').
+/// What a commit and a trace may answer, and a regeneration that published, found the map too large or found the endpoint
+/// gone, they may answer to a caller who had seen less before and has seen more after, so calls that are made of others
+/// answer what those may ('profile').
 pub fn answers_stay()
     ensures accepted { (options : Options) (pass : ℕ) (shorter old new longer : List OneEvent) (request : Request) (done : Committed)
         → IsPrefix shorter old → IsPrefix new longer → IsAccepted options pass old new request done → IsAccepted options pass shorter longer request done }

@@ -1,5 +1,5 @@
-//! Small outputs that a legal history places, so that the premises of the law of runs are possible. They are
-//! three of those of `pol_run` that no lines answered in input order give.
+//! Small outputs that a legal history places, so that the premises of the law of runs are possible. Three are
+//! of those of `pol_run` that no lines answered in input order give.
 ghost use Rattle.std.specs.Prelude.{◌≡◌};
 ghost use Rattle.pol_history.specs.Legal.{IsLegal};
 ghost use Rattle.pol_placed.specs.Cut.{answers_to, script_of};

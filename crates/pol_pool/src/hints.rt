@@ -90,7 +90,8 @@ impl Hints {
     }
 
     /// Puts a hint behind those that wait. `HintsFull` comes only where as many hints waited as there is room, at one moment
-    /// of the call; the pass is then as before. It may wait for a thread that has stalled in a put or a take.
+    /// of the call; the pass is then as before. Of a pass beside others no clause holds this to the queue's own history. It
+    /// may wait for a thread that has stalled in a put or a take.
     pub fn put<R: Wait>(&self, rt: &R, pass: &mut HintPass, slot: u32) -> Result<(), HintsFull>
         requires pass { pass.old.queue ≡ self.now.name }
         ensures pass { IsHintPassOf self.now pass.new }
@@ -106,7 +107,8 @@ impl Hints {
     }
 
     /// Takes the oldest hint. None comes only where no hint waited, at one moment of the call; the pass is then as before.
-    /// It may wait for a thread that has stalled in a put or a take.
+    /// Of a pass beside others no clause holds this to the queue's own history. It may wait for a thread that has stalled in
+    /// a put or a take.
     pub fn take<R: Wait>(&self, rt: &R, pass: &mut HintPass) -> Option<u32>
         requires pass { pass.old.queue ≡ self.now.name }
         ensures pass { IsHintPassOf self.now pass.new }
