@@ -1,0 +1,5 @@
+pub mod Selecting
+pub mod Formed
+pub mod Taking
+pub mod Porting
+pub mod Kept
