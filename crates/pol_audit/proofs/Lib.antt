@@ -1,0 +1,11 @@
+pub mod Walk
+pub mod Orders
+pub mod Pieces
+pub mod Steady
+pub mod Segments
+pub mod Results
+pub mod Filled
+pub mod Groups
+pub mod Whole
+pub mod Parts
+pub mod Audited

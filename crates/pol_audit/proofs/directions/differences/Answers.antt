@@ -1,0 +1,11 @@
+use Rattle.pol_audit.proofs.Whole.{whole_of}
+use Rattle.pol_audit.proofs.directions.differences.Goals as goal
+
+pub returns : goal.returns
+returns g c =
+    let grown = c.in_ok-push_directions.ensures in
+    record {
+      difference =
+          whole_of c.args.left.now c.args.right.now c.as_slice.result.now c.as_slice-2.result.now c.new-out.result.items grown.0 c.push_directions.new.out.items c.from_vec.result
+          c.as_slice.ensures.entries c.as_slice-2.ensures.entries c.new-out.ensures.items c.from_vec.ensures grown.1 grown.2;
+    }

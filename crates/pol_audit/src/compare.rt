@@ -1,0 +1,49 @@
+//! Whether two tables are alike.
+ghost use Rattle.std.specs.Prelude.{◌≡◌, ◌≤◌, IfOk, length};
+ghost use Rattle.pol_audit.specs.Audit.{IsAudit, least_packet};
+
+use crate::difference::{Difference, Numbers};
+use crate::directions::differences;
+use crate::entries::Entries;
+use crate::packet::{Audit, Packet};
+use pol_data::{Memory, Steps};
+use std::alloc::Global;
+use std::sync::ledger::Ledger;
+
+/// The least packet of a range.
+fn least_packet(range: &Difference) -> Packet
+    ensures { result ≡ least_packet range.now }
+{
+    let id = match range.numbers {
+        Numbers::EveryOther => 0,
+        Numbers::One(number) => number,
+    };
+    Packet {
+        dir: range.dir,
+        id,
+        proto: range.proto,
+        port: range.first,
+        left: range.left,
+        right: range.right,
+    }
+}
+
+/// Whether two tables give one word for every direction, number of 32 bits, protocol and port, or else the least packet on
+/// which they differ, with its two words: it is the first of the first range of `differences`. The one error is want of
+/// memory (profile).
+pub fn audit<L: Ledger>(
+    alloc: Global,
+    left: &Entries,
+    right: &Entries,
+    steps: &mut Steps<L>,
+) -> Result<Audit, Memory>
+    requires left_few { length left.now ≤ 1000000 }
+    requires right_few { length right.now ≤ 1000000 }
+    ensures audit { IfOk result (λ audit. IsAudit left.now right.now audit) }
+{
+    let list = differences(alloc, left, right, steps)?;
+    match list.as_slice().first() {
+        None => Ok(Audit::Same),
+        Some(range) => Ok(Audit::Differs(least_packet(range))),
+    }
+}

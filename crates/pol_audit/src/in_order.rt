@@ -1,0 +1,34 @@
+//! Numbers in order, each once.
+ghost use Rattle.std.specs.Prelude.{◌↔◌, ◌<◌, ℕ};
+ghost use Rattle.std.specs.List.{Contains};
+ghost use Rattle.std.specs.List.Sorted.{IsStrictlySortedBy};
+ghost use Rattle.std.specs.Ordering.{nat_cmp};
+
+/// The numbers in order, each once. It takes no memory.
+pub(crate) fn ids_in_order(numbers: Vec<u32>) -> Vec<u32>
+    ensures ascend { IsStrictlySortedBy nat_cmp result.items }
+    ensures members { (n : ℕ) → Contains result.items n ↔ Contains numbers.items n }
+{
+    let mut numbers = numbers;
+    numbers.sort_unstable();
+    numbers.dedup();
+    numbers
+}
+
+/// The ports in order, each once. It takes no memory.
+pub(crate) fn ports_in_order(ports: Vec<u16>) -> Vec<u16>
+    ensures ascend { IsStrictlySortedBy nat_cmp result.items }
+    ensures members { (n : ℕ) → Contains result.items n ↔ Contains ports.items n }
+{
+    let mut ports = ports;
+    ports.sort_unstable();
+    ports.dedup();
+    ports
+}
+
+/// Ports are numbers of 16 bits.
+pub(crate) fn are_ports(ports: &[u16])
+    ensures { (n : ℕ) → Contains ports.now n → n < 65536 }
+{
+    let _ = ports;
+}

@@ -1,0 +1,24 @@
+//! The auditor of policy maps: whether two tables of entries say the same of every packet, the least packet on which they
+//! differ, and the whole difference as ranges of packets.
+//!
+//! Tables are compared by what they say, not entry by entry: an entry that another one outweighs makes no difference. What
+//! a table says is profile (how the keys of two identities are weighed).
+#![tactic(auto)]
+
+mod compare;
+mod cuts;
+mod difference;
+mod directions;
+mod entries;
+mod in_order;
+mod numbers;
+mod packet;
+mod ranges;
+mod segment;
+mod tries;
+
+pub use compare::audit;
+pub use difference::{Difference, Differences, Numbers};
+pub use directions::differences;
+pub use entries::Entries;
+pub use packet::{Audit, Packet};
