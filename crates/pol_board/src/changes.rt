@@ -1,0 +1,71 @@
+//! The changes of events.
+ghost use Rattle.std.specs.Prelude.{◌≡◌, ℕ, List, IfOk};
+ghost use Rattle.std.specs.Arc.{arc_value};
+ghost use Rattle.pol_model.specs.declared.options.Options.{Options};
+ghost use Rattle.pol_mapkey.specs.Entries.{Entry as OneEntry};
+ghost use Rattle.pol_history.specs.declared.event.HistoryEvent.{HistoryEvent as OneEvent};
+ghost use Rattle.pol_history.specs.declared.event.HistoryEvent.TheVariants as event;
+ghost use Rattle.pol_history.specs.Machine.{endpoint_id};
+ghost use Rattle.pol_face.specs.Changes.{IsMadeOf, Tells};
+
+use pol_data::Memory;
+use pol_edits::ChangeList;
+use pol_face::Change;
+use pol_model::Request;
+use pol_taken::Taken;
+use std::alloc::Global;
+
+/// What a commit changes.
+pub(crate) fn commit_change(alloc: Global, request: &Request) -> Result<Change, Memory>
+    ensures { IfOk result (λ change. (options : Options) (history : List OneEvent) (pass number : ℕ) → Tells options history change (event.Commit pass number request.now)) }
+{
+    Ok(match request {
+        Request::AddEndpoint {
+            name,
+            labels: _,
+            address: _,
+        } => Change::Added {
+            name: name.copy(alloc)?,
+        },
+        Request::RemoveEndpoint { name } => Change::Removed {
+            name: name.copy(alloc)?,
+        },
+        Request::AddIdentity { name: _, labels: _ } => Change::Nothing,
+        Request::RemoveIdentity { name: _ } => Change::Nothing,
+        Request::Apply(_) => Change::Nothing,
+        Request::Remove(_) => Change::Nothing,
+        Request::SetMode(_) => Change::Nothing,
+    })
+}
+
+/// What a publication changes.
+pub(crate) fn published_change(
+    alloc: Global,
+    taken: &Taken,
+    changes: &ChangeList,
+) -> Result<Change, Memory>
+    ensures { IfOk result (λ change. (options : Options) (history : List OneEvent) (table : List OneEntry)
+        → IsMadeOf options history taken.now.endpoint.name taken.now.revision changes.now (arc_value taken.now.addresses) table
+        → Tells options history change (event.Publish (endpoint_id taken.now.endpoint) taken.now.revision table)) }
+{
+    let addresses = taken.addresses.clone()?;
+    Ok(Change::Published {
+        name: taken.endpoint.name.copy(alloc)?,
+        added: taken.endpoint.added,
+        revision: taken.revision,
+        changes: changes.copy(alloc)?,
+        addresses,
+    })
+}
+
+/// What a report that a map is too large changes.
+pub(crate) fn blocked_change(alloc: Global, taken: &Taken) -> Result<Change, Memory>
+    ensures { IfOk result (λ change. (options : Options) (history : List OneEvent) (count : ℕ)
+        → Tells options history change (event.Blocked (endpoint_id taken.now.endpoint) taken.now.revision count)) }
+{
+    Ok(Change::Blocked {
+        name: taken.endpoint.name.copy(alloc)?,
+        added: taken.endpoint.added,
+        revision: taken.revision,
+    })
+}
