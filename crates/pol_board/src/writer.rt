@@ -176,8 +176,8 @@ impl<N: NodeName, R: Wait + Drop> BoardWriter<N, R> {
         pass.shown(&self.seen);
     }
 
-    /// Adds the pass's next commit and shows it to the pass. The one error is want of memory: then nothing is added, nobody
-    /// ever sees the event, and the writer may be spent.
+    /// Adds the pass's next commit and shows it to the pass. The one error is want of memory: then nothing is added, and the
+    /// writer may be spent.
     pub fn commit<W: Wait>(
         &mut self,
         rt: &W,
@@ -214,7 +214,7 @@ impl<N: NodeName, R: Wait + Drop> BoardWriter<N, R> {
     }
 
     /// Adds that the endpoint's canonical map at the taken revision was published, and shows that to the pass. The one error is
-    /// want of memory: then nothing is added, nobody ever sees the event, and the writer may be spent.
+    /// want of memory: then nothing is added, and the writer may be spent.
     pub fn publish<W: Wait>(
         &mut self,
         rt: &W,
@@ -253,7 +253,7 @@ impl<N: NodeName, R: Wait + Drop> BoardWriter<N, R> {
     }
 
     /// Adds that the endpoint's map at the taken revision is too large, and shows that to the pass. The one error is want of
-    /// memory: then nothing is added, nobody ever sees the event, and the writer may be spent.
+    /// memory: then nothing is added, and the writer may be spent.
     pub fn block<W: Wait>(
         &mut self,
         rt: &W,
