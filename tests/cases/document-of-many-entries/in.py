@@ -1,4 +1,4 @@
-"""A policy of 10,000 entries, entry i for the ports 6 i + 1 to 6 i + 3, and verdicts at both ends and in a gap."""
+"""A policy of 8,000 entries, entry i for the ports 6 i + 1 to 6 i + 3, and verdicts at both ends and in a gap."""
 import json
 
 
@@ -15,10 +15,10 @@ def verdict(port):
 
 
 line({"op": "endpoint", "name": "web", "labels": ["k8s:io.kubernetes.pod.namespace=default"], "address": "10.0.0.1"})
-spec = {"endpointSelector": {}, "ingress": [entry(i) for i in range(10_000)]}
+spec = {"endpointSelector": {}, "ingress": [entry(i) for i in range(8_000)]}
 line({"op": "apply", "policy": {"apiVersion": "cilium.io/v2", "kind": "CiliumNetworkPolicy", "metadata": {"name": "p"}, "spec": spec}})
 line({"op": "sync"})
-for port in (1, 3, 4, 59995, 59997, 59998):
+for port in (1, 3, 4, 47995, 47997, 47998):
     verdict(port)
 spec["ingress"].append({"toPorts": [{"ports": [{"port": "66000"}]}]})
 line({"op": "apply", "policy": {"apiVersion": "cilium.io/v2", "kind": "CiliumNetworkPolicy", "metadata": {"name": "p"}, "spec": spec}})
