@@ -1,27 +1,15 @@
 """Checks of the judge of outputs: it takes what is a run, and refuses what isn't, of small outputs and of the cases."""
 import compare
-from judge import small
+from judge import script_options, small
 from judge.runs import wrong_with
 
 # The statuses at which the output is the answers to a script.
 ANSWERED = (0, 1)
-# How many entries a policy map may have: policyd keeps no maps yet, so none is too large.
-LIMIT = None
-
-
-def options(words):
-    """The mode and whether the local host is always let in, by the words; None where no script is read."""
-    found = {"--enable-policy": "default", "--allow-localhost": "always"}
-    for name, value in zip(words[::2], words[1::2]):
-        found[name] = value
-    if "--generate" in found:
-        return None
-    return found["--enable-policy"], found["--allow-localhost"] == "always"
 
 
 def of_case(case):
     """What is wrong with the answers of a case, in lines."""
-    wrong = wrong_with(case.given(), case.out(), case.status(), *options(case.words()), LIMIT)
+    wrong = wrong_with(case.given(), case.out(), case.status(), *script_options(case.words()), compare.LIMIT)
     return [wrong] if wrong else []
 
 
@@ -47,5 +35,5 @@ def checks():
             yield f"judge: {'' if is_run else 'no run: '}{name}", lambda given=given, rest=(limit, is_run): of_small(*given, *rest)
     yield "judge: no run: another status", of_status
     for case in compare.cases("case", "cases"):
-        if case.status() in ANSWERED and options(case.words()):
+        if case.status() in ANSWERED and not case.runs() and script_options(case.words()):
             yield f"judge: {case.name}", lambda case=case: of_case(case)

@@ -12,6 +12,7 @@ import subprocess
 import sys
 
 sys.dont_write_bytecode = True
+from compare import LIMIT  # noqa: E402
 from judge.runs import wrong_with  # noqa: E402
 
 LINES = 600
@@ -116,7 +117,7 @@ def main(words):
     first, last = int((words[1:] or ["1"])[0]), int((words[2:] or words[1:] or ["3"])[0])
     failed = 0
     for seed in range(first, last + 1):
-        wrong = play(words[:1], seed, None)
+        wrong = play(words[:1], seed, LIMIT)
         failed += bool(wrong)
         print(f"seed {seed}: {'; '.join(wrong) or 'a run'}", flush=True)
     return 1 if failed else 0

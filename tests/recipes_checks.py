@@ -192,7 +192,7 @@ def unread_as_the_cases_say(wrong):
     for case in compare.cases("case", "cases"):
         if case.words() or (case.folder / "in.py").is_file():
             continue
-        for line, answer in zip(case.given().decode(errors="replace").split("\n"), case.out().decode(errors="replace").splitlines()):
+        for line, answer in zip(case.given().decode(errors="replace").split("\n"), (case.out() or b"").decode(errors="replace").splitlines()):
             document, wanted = applied(line), fault_of(answer)
             # (Python reads the number -0 as 0, which policyd doesn't take for a whole number)
             if isinstance(document, dict) and wanted is not None and '"endPort":-0' not in line:

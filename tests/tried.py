@@ -29,7 +29,7 @@ def lay(case, folder, name):
 
 def play(cases):
     """Yields the name of each case that was played, and what is wrong with it, in lines."""
-    small = [it for it in cases if len(it.out()) <= ANSWERS_MOST]
+    small = [it for it in cases if len(it.out() or b"") <= ANSWERS_MOST]
     for it in cases:
         if it not in small:
             print(f"left out, since a build without proof can't play it: {it.name}")
@@ -48,8 +48,8 @@ def play(cases):
 
 
 def plays_itself(case):
-    """Whether a case is a command that calls ./play more than once, and so no script."""
-    return isinstance(case, documents.Command) and not case.is_play or case.name.startswith("what-if ")
+    """Whether a case is a command that calls ./play more than once, or is played several times, and so no script."""
+    return isinstance(case, documents.Command) and not case.is_play or case.name.startswith("what-if ") or case.out() is None
 
 
 def play_at_once(small):
