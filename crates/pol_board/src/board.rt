@@ -26,7 +26,7 @@ impl Board {
         map_max: u32,
         places: u32,
     ) -> Result<(BoardWriter<N, R>, Vec<Pass<N>>), BoardError>
-        requires book { book.reached.book ≡ N.book }
+        requires book { book ≡ N.book }
         requires options { N.options ≡ record { mode = mode; localhost = localhost; map_max = Some map_max } }
         requires places { (0 < places) × (places ≤ 300) }
         requires limit { map_max ≤ 65536 }

@@ -13,7 +13,7 @@ mod writer;
 pub use board::Board;
 pub use error::BoardError;
 pub use pass::Pass;
-pub use pol_book::{NewBook, NodeName, Seen};
+pub use pol_book::{NewBook, NodeName, Seen, SeenHistory};
 pub use pol_face::{LookError, Verdict};
 pub use pol_history::LastReport;
 pub use writer::BoardWriter;

@@ -6,7 +6,7 @@ use crate::name::NodeName;
 use crate::seen::Seen;
 use logbook::{Gain, Play, Rule, Seen as Reached, Start, Word};
 use pol_history::HistoryEvent;
-use std::marker::PhantomData;
+use std::marker::{Model, PhantomData};
 
 /// The rule of the book: its word is the number of events.
 pub(crate) struct Law;
@@ -47,12 +47,22 @@ impl Play<HistoryEvent, u64> for Add {
     ghost then = { Adds };
 }
 
-/// A new book with an empty history, before it has a name.
+/// A new book with an empty history, before it has a name. Contracts see it as the book that a name is to tell.
 pub struct NewBook {
     head: Word<HistoryEvent, u64, Law>,
     reached: Reached<HistoryEvent, u64, Law>,
-    pub ghost empty: { reached.log ≡ [] },
-    pub ghost is_head: { head ≡ word_of reached.book },
+}
+
+impl Model for NewBook {
+    ghost use Rattle.std.specs.Prelude.{◌≡◌, []};
+    ghost use Rattle.logbook.specs.Pages.{Book as LogBook};
+    ghost use Rattle.pol_book.specs.Rules.{word_of};
+
+    ghost Value = { LogBook };
+
+    ghost view = { λ b. b.reached.book };
+
+    ghost invariant = { λ b. (b.reached.log ≡ []) × (b.head ≡ word_of b.reached.book) };
 }
 
 impl NewBook {
@@ -67,7 +77,7 @@ impl NewBook {
 
     /// The book under the name of its node, and the token that has seen no event.
     pub fn named<N: NodeName>(self) -> (Book<N>, Seen<N>)
-        requires book { self.reached.book ≡ N.book }
+        requires book { self ≡ N.book }
         ensures { result.1 ≡ [] }
     {
         let NewBook { head, reached } = self;

@@ -10,9 +10,11 @@
 #![tactic(auto)]
 
 mod book;
+mod history;
 mod name;
 mod seen;
 
 pub use book::{Book, NewBook};
+pub use history::SeenHistory;
 pub use name::NodeName;
 pub use seen::Seen;
