@@ -190,7 +190,7 @@ impl<N: NodeName, R: Wait + Drop> BoardWriter<N, R> {
         requires done { done.now ≡ committed_of (after (state_now N.options self.old.seen) request.now) request.now }
         ensures grows { OnOk result (PassGrowsWhole N.options pass.old pass.new (request.now ∷ [])) }
         ensures added { OnOk result (self.new.seen ≡ self.old.seen ++ event.Commit pass.old.number (length (commits_by pass.old.number self.old.seen)) request.now ∷ []) }
-        ensures shown { OnOk result (pass.new.has.history ≡ self.new.seen) }
+        ensures shown { pass.new.has.history ≡ self.new.seen }
         ensures err { OnErr result (self.new.seen ≡ self.old.seen) }
         ensures err_grows { OnErr result (PassGrowsWhole N.options pass.old pass.new []) }
     {
@@ -229,7 +229,7 @@ impl<N: NodeName, R: Wait + Drop> BoardWriter<N, R> {
         requires leads { Leads changes.now (table_shown N.options self.old.seen taken.now.endpoint.name) (table_at N.options self.old.seen (endpoint_id taken.now.endpoint) taken.now.revision) }
         ensures grows { PassGrowsWhole N.options pass.old pass.new [] }
         ensures added { OnOk result (self.new.seen ≡ self.old.seen ++ event.Publish (endpoint_id taken.now.endpoint) taken.now.revision (table_at N.options self.old.seen (endpoint_id taken.now.endpoint) taken.now.revision) ∷ []) }
-        ensures shown { OnOk result (pass.new.has.history ≡ self.new.seen) }
+        ensures shown { pass.new.has.history ≡ self.new.seen }
         ensures err { OnErr result (self.new.seen ≡ self.old.seen) }
     {
         until_fits(rt, &self.seen, &self.counts, pass);
@@ -267,7 +267,7 @@ impl<N: NodeName, R: Wait + Drop> BoardWriter<N, R> {
         requires may { BlockedMayFollow N.options self.old.seen (endpoint_id taken.now.endpoint) taken.now.revision count }
         ensures grows { PassGrowsWhole N.options pass.old pass.new [] }
         ensures added { OnOk result (self.new.seen ≡ self.old.seen ++ event.Blocked (endpoint_id taken.now.endpoint) taken.now.revision count ∷ []) }
-        ensures shown { OnOk result (pass.new.has.history ≡ self.new.seen) }
+        ensures shown { pass.new.has.history ≡ self.new.seen }
         ensures err { OnErr result (self.new.seen ≡ self.old.seen) }
     {
         until_fits(rt, &self.seen, &self.counts, pass);
