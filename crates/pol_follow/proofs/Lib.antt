@@ -1,0 +1,6 @@
+pub mod Places
+pub mod Stamps
+pub mod Listing
+pub mod Telling
+pub mod Applying
+pub mod Keeping
