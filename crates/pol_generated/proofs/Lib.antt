@@ -14,3 +14,8 @@ pub mod FewRows
 pub mod Settled
 pub mod Faultless
 pub mod Counted
+pub mod ScriptStates
+pub mod SmallMaps
+pub mod InTurn
+pub mod OneRun
+pub mod ScriptRun

@@ -15,7 +15,7 @@ use Rattle.pol_generated.proofs.SyncLine.{sync_reads}
 use Rattle.pol_generated.proofs.VerdictLine.{verdict_reads}
 
 -- a draw is below its bound
-below : (others x bound : ℕ) → 0 < bound → drawn others x bound < bound
+pub below : (others x bound : ℕ) → 0 < bound → drawn others x bound < bound
 below others x bound some = mod-lt (next (after others x) / 2 ^ 33) {m = bound} some
 
 endpoint_line : (x i : ℕ) → i < 32 → Reads (text.endpoint_line i x) (asked.endpoint_command i x ∷ [])

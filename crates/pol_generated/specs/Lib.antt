@@ -1,2 +1,4 @@
 pub mod Asked
+pub mod Maps
+pub mod OneRun
 pub mod Requests

@@ -10,6 +10,8 @@ ghost use Rattle.pol_run.specs.Serial.{serial_answers};
 ghost use Rattle.pol_script.specs.Lines.{lines_of};
 ghost use Rattle.pol_script.specs.Reading.{reading_of};
 ghost use Rattle.pol_generated.specs.Asked.{asked};
+ghost use Rattle.pol_generated.specs.Maps.{MapsAreSmall};
+ghost use Rattle.pol_generated.specs.OneRun.{HasOneRun};
 ghost use Rattle.pol_generated.specs.Requests.{is_committed, requests_asked, requests_read};
 
 /// Each line of a generated script is read as what it is to ask, for every number, and there are no other
@@ -41,4 +43,16 @@ pub fn no_generated_line_is_refused()
 /// state alone, as the summary counts them ('profile').
 pub fn commits_are_counted()
     ensures { (options : Options) (n : ℕ) → count_by is_committed (serial_answers options (readings_of (generated n))) ≡ 32 + n }
+{}
+
+/// No policy map of a generated script has more than 1,923 entries, at any number of its commits, for every number and
+/// whatever the options ('profile').
+pub fn maps_are_small()
+    ensures { (options : Options) (n : ℕ) → MapsAreSmall options n }
+{}
+
+/// A generated script has one run: where maps have no limit, or one of 1,923 entries at least, the answers of each run are
+/// those in input order ('profile').
+pub fn generated_scripts_have_one_run()
+    ensures { HasOneRun }
 {}
