@@ -19,3 +19,5 @@ pub mod SmallMaps
 pub mod InTurn
 pub mod OneRun
 pub mod ScriptRun
+pub mod AnsweredAt
+pub mod SerialRun

@@ -16,11 +16,12 @@ use Rattle.pol_model.specs.declared.options.Options.{Options}
 use Rattle.pol_model.specs.declared.request.Request.{Request}
 use Rattle.pol_model.specs.declared.row.Endpoint.{Endpoint}
 use Rattle.pol_run.specs.ByIndex.{IsOf}
-use Rattle.pol_run.specs.InShort.{IsRunInShort}
+use Rattle.pol_run.specs.History.{history_of}
 use Rattle.pol_run.specs.Run.{IsRun, readings_of}
 use Rattle.pol_run.specs.Serial.{serial_answers}
 use Rattle.pol_run.specs.Spots.{Line, Reading, spots_of}
 use Rattle.pol_run.proofs.InShort.{run_in_short}
+use Rattle.pol_run.proofs.ShortNumbers.{short_history}
 use Rattle.pol_script.specs.Lines.{lines_of}
 use Rattle.pol_script.specs.Reading.{reading_of}
 use Rattle.pol_script.specs.declared.command.Command.{Command}
@@ -40,7 +41,7 @@ use Rattle.pol_generated.proofs.SmallMaps.{small_map}
 -- ---- which commands there are
 
 -- a request of the script, a query or a synchronisation, of session 1
-abbrev IsScriptCommand : Command → Type 0
+abbrev pub IsScriptCommand : Command → Type 0
 IsScriptCommand (command.Commit session request) = (session ≡ 1) × IsScriptRequest request
 IsScriptCommand (command.Look session query) = session ≡ 1
 IsScriptCommand (command.Trace session query) = ⊥
@@ -142,7 +143,7 @@ maps_small options n revision endpoint =
     small_behind options (start options) (requests_asked n) revision endpoint (keeps-start options) (script_start options) (requests_commit options n)
     (script_requests (asked.asked n) (asked_piece n).each)
 
-fits_script : (options : Options) (s : State) (commands : List Command) → Keeps s → IsScriptState s → Plays s commands
+pub fits_script : (options : Options) (s : State) (commands : List Command) → Keeps s → IsScriptState s → Plays s commands
     → AllByRecursion IsScriptCommand commands → FitsIn options most_entries s commands
 fits_script options s [] keeps is plays all = tt
 fits_script options s (command.Commit session request ∷ others) keeps is plays all =
@@ -170,25 +171,25 @@ all_own (first ∷ others) (a ∷ answers) all zero reading told there =
     subst (λ (r : Reading). IsOf 1 r) same (of_one first all.0)
 all_own (first ∷ others) (a ∷ answers) all (suc i) reading told there = all_own others answers all.1 i reading told there
 
--- the answers to the commands, and their history
-pub script_goes_on : (options : Options) (n : ℕ) (answers : List Answer) → HasRoom most_entries options → length answers ≡ length (asked.asked n)
-    → (short : IsRunInShort options (zip (map Ok (asked.asked n)) answers))
-    → GoesOn options (start options) 1 (asked.asked n) answers short.history
-script_goes_on options n answers room long short =
+-- its run goes as its commands do: the answers are those in input order, and the history is of its requests
+pub rounds_go_on : (options : Options) (n : ℕ) (answers : List Answer) → HasRoom most_entries options → IsRunOfRounds options n answers
+    → GoesOn options (start options) 1 (asked.asked n) answers (history_of (spots_of (zip (map Ok (asked.asked n)) answers)))
+rounds_go_on options n answers room run =
     let piece = asked_piece n in
+    let read : readings_of (generated n) ≡ map Ok (asked.asked n) = lines_are_read n in
     let lines = zip (map Ok (asked.asked n)) answers in
-    goes_on options lines short (λ i reading told line. all_own (asked.asked n) answers piece.each i reading told line.there) most_entries room
+    let long : length answers ≡ length (asked.asked n) =
+    run.one_each ∙ sym (length-map (lines_of (generated n)) reading_of) ∙ ap {B = ℕ} length read ∙ length-map (asked.asked n) Ok in
+    let same : zip (readings_of (generated n)) answers ≡ lines = ap (λ (readings : List Reading). zip readings answers) read in
+    let right : IsRun options (spots_of lines) = subst (λ (xs : List Line). IsRun options (spots_of xs)) same run.run in
+    let short = run_in_short options lines right in
+    subst (λ (requests : List Request). GoesOn options (start options) 1 (asked.asked n) answers requests) (short_history options lines short)
+    (goes_on options lines short (λ i reading told line. all_own (asked.asked n) answers piece.each i reading told line.there) most_entries room
     (asked.asked n) answers 0 0 1 (start options) false long refl (none_counted lines) refl refl tt (asked_plays options n) (piece.stands false)
-    (fits_script options (start options) (asked.asked n) (keeps-start options) (script_start options) (asked_plays options n) piece.each)
+    (fits_script options (start options) (asked.asked n) (keeps-start options) (script_start options) (asked_plays options n) piece.each))
 
 pub one_run : (options : Options) (n : ℕ) (answers : List Answer) → HasRoom most_entries options → IsRunOfRounds options n answers
     → answers ≡ serial_answers options (readings_of (generated n))
 one_run options n answers room run =
-    let read : readings_of (generated n) ≡ map Ok (asked.asked n) = lines_are_read n in
-    let lines = zip (readings_of (generated n)) answers in
-    let long : length answers ≡ length (asked.asked n) =
-    run.one_each ∙ sym (length-map (lines_of (generated n)) reading_of) ∙ ap {B = ℕ} length read ∙ length-map (asked.asked n) Ok in
-    let same : lines ≡ zip (map Ok (asked.asked n)) answers = ap (λ (readings : List Reading). zip readings answers) read in
-    let right : IsRun options (spots_of (zip (map Ok (asked.asked n)) answers)) = subst (λ (xs : List Line). IsRun options (spots_of xs)) same run.run in
-    let goes = script_goes_on options n answers room long (run_in_short options (zip (map Ok (asked.asked n)) answers) right) in
-    goes.answers_are ∙ ap (λ (readings : List Reading). serial_answers options readings) (sym read)
+    let goes = rounds_go_on options n answers room run in
+    goes.answers_are ∙ ap (λ (readings : List Reading). serial_answers options readings) (sym (lines_are_read n))

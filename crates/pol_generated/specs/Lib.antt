@@ -1,4 +1,5 @@
 pub mod Asked
+pub mod HistoryOfRounds
 pub mod Maps
 pub mod OneRun
 pub mod Requests

@@ -15,8 +15,13 @@ pub record IsRunOfRounds (options : Options) (n : ℕ) (answers : List Answer) :
   pub one_each : length answers ≡ length (lines_of (generated n))
   pub run : IsRun options (spots_of (zip (readings_of (generated n)) answers))
 
--- Where maps have room, each run has the answers in input order, each from the state after the commits of the lines
--- before it, with the newest verdicts and without a row.
+-- Where maps have room, the answers in input order are a run: each from the state after the commits of the lines before it,
+-- verdicts at the newest revision, and no `synced` line with a row.
+abbrev pub SerialAnswersAreARun : Type 0
+SerialAnswersAreARun = (options : Options) (n : ℕ) → HasRoom most_entries options
+    → IsRunOfRounds options n (serial_answers options (readings_of (generated n)))
+
+-- And there is no other.
 abbrev pub HasOneRun : Type 0
 HasOneRun = (options : Options) (n : ℕ) (answers : List Answer) → HasRoom most_entries options → IsRunOfRounds options n answers
     → answers ≡ serial_answers options (readings_of (generated n))

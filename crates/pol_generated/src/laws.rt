@@ -1,17 +1,19 @@
 //! Laws of generated scripts, over the definitions alone.
 //! Each function does nothing: its contract is the law.
-ghost use Rattle.std.specs.Prelude.{◌≡◌, ℕ, ◌+◌, length, map, Ok};
+ghost use Rattle.std.specs.Prelude.{◌≡◌, ℕ, ◌+◌, List, Option, length, map, Ok};
 ghost use Rattle.std.specs.List.{count_by};
 ghost use Rattle.pol_facts.specs.WithoutFaults.{WithoutFaults};
 ghost use Rattle.pol_gen.specs.Generated.{generated};
 ghost use Rattle.pol_model.specs.declared.options.Options.{Options};
 ghost use Rattle.pol_run.specs.Run.{readings_of, status_of};
 ghost use Rattle.pol_run.specs.Serial.{serial_answers};
+ghost use Rattle.pol_run.specs.Spots.{Reading};
 ghost use Rattle.pol_script.specs.Lines.{lines_of};
 ghost use Rattle.pol_script.specs.Reading.{reading_of};
 ghost use Rattle.pol_generated.specs.Asked.{asked};
+ghost use Rattle.pol_generated.specs.HistoryOfRounds.{HistoriesHoldRounds};
 ghost use Rattle.pol_generated.specs.Maps.{MapsAreSmall};
-ghost use Rattle.pol_generated.specs.OneRun.{HasOneRun};
+ghost use Rattle.pol_generated.specs.OneRun.{HasOneRun, SerialAnswersAreARun};
 ghost use Rattle.pol_generated.specs.Requests.{is_committed, requests_asked, requests_read};
 
 /// Each line of a generated script is read as what it is to ask, for every number, and there are no other
@@ -51,8 +53,22 @@ pub fn maps_are_small()
     ensures { (options : Options) (n : ℕ) → MapsAreSmall options n }
 {}
 
-/// A generated script has one run: where maps have no limit, or one of 1,923 entries at least, the answers of each run are
-/// those in input order ('profile').
+/// A generated script has one run: where maps have no limit, or one of 1,923 entries at least, the answers in input order are
+/// a run, and each run has these answers, so each has the same commits, words and counts ('profile').
 pub fn generated_scripts_have_one_run()
-    ensures { HasOneRun }
+    ensures run { SerialAnswersAreARun }
+    ensures one { HasOneRun }
+{}
+
+/// Answers in input order don't depend on the limit of maps, whatever the lines: so the summary of a generated script doesn't
+/// ('profile').
+pub fn no_limit_changes_answers()
+    ensures { (options : Options) (limit : Option ℕ) (readings : List Reading)
+        → serial_answers (record options { map_max = limit }) readings ≡ serial_answers options readings }
+{}
+
+/// So whatever history places such a run, its commits are the requests of the script, in order, and for each verdict the map
+/// of its endpoint was published at the number of commits before the line ('profile').
+pub fn histories_hold_generated_scripts()
+    ensures { HistoriesHoldRounds }
 {}
