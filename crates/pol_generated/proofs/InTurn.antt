@@ -3,6 +3,7 @@
 use Rattle.std.proofs.Common.{◌≡◌, ℕ, suc, ◌+◌, ◌-◌, ◌<◌, ◌≤◌, true, false, List, [], ◌∷◌, length, take, slice_get, Option, None, Some, ◌⊎◌, inl, inr, Ok, refl, sym, ap, ◌∙◌, subst, arith, length-take}
 use Rattle.std.specs.Prelude.{count_by, IfSome}
 use Rattle.std.proofs.lemmas.Bool.{both_ways, cases_Bool, cases_eq, cases_lt, eqb-true}
+use Rattle.std.proofs.lemmas.Option.{same_Some}
 use Rattle.pol_answer.specs.declared.answer.Answer.{Answer}
 use Rattle.pol_answer.specs.declared.answer.Answer.TheVariants as answer
 use Rattle.pol_data.proofs.Counts.{count_by-cons}
@@ -27,12 +28,9 @@ use Rattle.pol_generated.specs.Requests.{is_committed}
 
 -- ---- lines
 
-pub some_line : {X : Type 0} (a b : X) → Some a ≡ Some b → a ≡ b
-some_line a b same = cc
-
 -- an index has one line
-one_line : (lines : List Line) (i : ℕ) (a b : Line) → slice_get lines i ≡ Some a → slice_get lines i ≡ Some b → a ≡ b
-one_line lines i a b first second = some_line a b (sym first ∙ second)
+one_line : (lines : List Line) (j i : ℕ) (a b : Line) → j ≡ i → slice_get lines j ≡ Some a → slice_get lines i ≡ Some b → a ≡ b
+one_line lines j i a b same first second = same_Some a b (sym first ∙ ap (slice_get lines) same ∙ second)
 
 -- a request that is answered `ok` with this number
 pub record IsCarrier (lines : List Line) (k : ℕ) : Type 0 where
@@ -86,15 +84,26 @@ abbrev carried : Answer → ℕ
 carried (answer.Committed k identity) = k
 carried _ = 0
 
+module _ (lines : List Line) (j i session : ℕ) (request : Request) (k : ℕ) (identity : Option ℕ) (same : j ≡ i)
+    (its : IsLine lines j (Ok (command.Commit session request)) (answer.Committed k identity)) where
+  -- a line carries one number
+  one_number : (other : ℕ) (later : Request) (n : ℕ) (number : Option ℕ)
+      → IsLine lines i (Ok (command.Commit other later)) (answer.Committed n number) → k ≡ n
+  one_number other later n number line = ap (λ (x : Line). carried x.1) (one_line lines j i _ _ same its.there line.there)
+
+  -- one without a commit carries none
+  not_carried : (reading : Reading) (told : Answer) → IsLine lines i reading told → is_committed told ≡ false → ⊥
+  not_carried reading told line other =
+      let commits : true ≡ is_committed told = ap (λ (x : Line). is_committed x.1) (one_line lines j i _ _ same its.there line.there) in
+      both_ways (is_committed told) other (sym commits)
+
 pub commit_counted : (lines : List Line) (i c session : ℕ) (request : Request) (identity : Option ℕ) → IsCounted lines i c
     → IsLine lines i (Ok (command.Commit session request)) (answer.Committed (c + 1) identity) → IsCounted lines (i + 1) (c + 1)
 commit_counted lines i c session request identity counted line = record {
   most = λ j other later k number its before.
       elim (cases_eq j i) [
         | inl same ↦
-            let here : slice_get lines i ≡ Some (Ok (command.Commit other later), answer.Committed k number) =
-            subst (λ (n : ℕ). slice_get lines n ≡ Some (Ok (command.Commit other later), answer.Committed k number)) same its.there in
-            let one : k ≡ c + 1 = ap (λ (x : Line). carried x.1) (one_line lines i _ _ here line.there) in
+            let one : k ≡ c + 1 = one_number lines j i other later k number same its session request (c + 1) identity line in
             omega (arith, one)
         | inr apart ↦ let older = counted.most j other later k number its (omega (arith, before, apart)) in omega (arith, older)
       ];
@@ -106,19 +115,11 @@ pub other_counted : (lines : List Line) (i c : ℕ) (reading : Reading) (told : 
 other_counted lines i c reading told counted line other = record {
   most = λ j session request k identity its before.
       elim (cases_eq j i) [
-        | inl same ↦
-            let here : slice_get lines i ≡ Some (Ok (command.Commit session request), answer.Committed k identity) =
-            subst (λ (n : ℕ). slice_get lines n ≡ Some (Ok (command.Commit session request), answer.Committed k identity)) same its.there in
-            let one : true ≡ is_committed told = ap (λ (x : Line). is_committed x.1) (one_line lines i _ _ here line.there) in
-            absurd (both_ways (is_committed told) other (sym one))
+        | inl same ↦ absurd (not_carried lines j i session request k identity same its reading told line other)
         | inr apart ↦ counted.most j session request k identity its (omega (arith, before, apart))
       ];
   last = elim counted.last [ inl none ↦ inl none | inr it ↦ inr (it.0, (let before = it.1 in omega (arith, before))) ];
 }
-
-same_number : (c k : ℕ) (one other : Reading) (identity number : Option ℕ)
-    → ◌≡◌ {A = Line} (one, answer.Committed (c + 1) identity) (other, answer.Committed k number) → k ≡ c + 1
-same_number c k one other identity number same = sym (ap (λ (x : Line). carried x.1) same)
 
 -- a `synced` line before this one is of the revision, and has no row
 pub record IsSynced (lines : List Line) (i c : ℕ) : Type 0 where
@@ -129,12 +130,12 @@ pub record IsSynced (lines : List Line) (i c : ℕ) : Type 0 where
 
 -- ---- what a run says of such lines
 
-no_request : {X : Type 0} (o : Option X) (x : X) → o ≡ None → o ≡ Some x → ⊥
-no_request o x none some = cc
+not_found : {X : Type 0} (o : Option X) (x : X) → o ≡ None → o ≡ Some x → ⊥
+not_found o x none some = cc
 
 room_for : (count limit : ℕ) (o : Option ℕ) → IfSome o (λ l. count ≤ l) → o ≡ Some limit → count ≤ limit
 room_for count limit None room is = absurd cc
-room_for count limit (Some l) room is = let same : l ≡ limit = some_line l limit is in omega (arith, room, same)
+room_for count limit (Some l) room is = let same : l ≡ limit = same_Some l limit is in omega (arith, room, same)
 
 module _ (options : Options) (lines : List Line) (short : IsRunInShort options lines)
     (own : (i : ℕ) (reading : Reading) (told : Answer) → IsLine lines i reading told → IsOf 1 reading) where
@@ -164,10 +165,7 @@ module _ (options : Options) (lines : List Line) (short : IsRunInShort options l
               let made = reached.made in
               let it = carrier (c + 1) (omega arith) (omega (arith, above, made)) in
               elim (cases_eq it.at i) [
-                | inl same ↦
-                    let here = subst (λ (n : ℕ). slice_get lines n ≡ Some (Ok (command.Commit it.session it.request), answer.Committed (c + 1) it.identity)) same it.line.there in
-                    let one : true ≡ is_committed told = ap (λ (x : Line). is_committed x.1) (one_line lines i _ _ here line.there) in
-                    absurd (both_ways (is_committed told) other (sym one))
+                | inl same ↦ absurd (not_carried lines it.at i it.session it.request (c + 1) it.identity same it.line reading told line other)
                 | inr apart ↦
                     let from = later_carried it in
                     let less : i < it.at = omega (arith, from, apart) in
@@ -215,10 +213,7 @@ module _ (options : Options) (lines : List Line) (short : IsRunInShort options l
           | inl further ↦
               let it = carrier (c + 1) (omega arith) (omega (arith, further, most)) in
               elim (cases_eq it.at i) [
-                | inl same ↦
-                    let here = subst (λ (n : ℕ). slice_get lines n ≡ Some (Ok (command.Commit it.session it.request), answer.Committed (c + 1) it.identity)) same it.line.there in
-                    same_number c k (Ok (command.Commit it.session it.request)) (Ok (command.Commit session request)) it.identity identity
-                    (one_line lines i _ _ here line.there)
+                | inl same ↦ sym (one_number lines it.at i it.session it.request (c + 1) it.identity same it.line session request k identity line)
                 | inr apart ↦
                     let from = later_carried it in
                     let less : i < it.at = omega (arith, from, apart) in
@@ -252,7 +247,7 @@ module _ (options : Options) (lines : List Line) (short : IsRunInShort options l
         let reached = short.none_ahead i (Ok (command.Commit session request)) (answer.Refused refused) refused.revision line refl in
         let same : refused.revision ≡ c =
         at_present (Ok (command.Commit session request)) (answer.Refused refused) refused.revision line refl reached says.1 in
-        absurd (no_request (fault_of (after_commits options short.history c) request) refused.fault none
+        absurd (not_found (fault_of (after_commits options short.history c) request) refused.fault none
         (subst (λ (n : ℕ). fault_of (after_commits options short.history n) request ≡ Some refused.fault) same says.0.fault))
     commits_next session request told line none = absurd (short.each i (Ok (command.Commit session request)) told line)
 
@@ -279,7 +274,7 @@ module _ (options : Options) (lines : List Line) (short : IsRunInShort options l
           let same : revision ≡ c = omega (arith, newer, later, still) in
           let found : endpoint_of query.endpoint (after_commits options short.history c).endpoints ≡ Some says.endpoint =
           subst (λ (n : ℕ). endpoint_of query.endpoint (after_commits options short.history n).endpoints ≡ Some says.endpoint) same says.lives in
-          let one : says.endpoint ≡ endpoint = some_line says.endpoint endpoint (sym found ∙ live) in
+          let one : says.endpoint ≡ endpoint = same_Some says.endpoint endpoint (sym found ∙ live) in
           let words : word ≡ verdict_for options (after_commits options short.history c) query endpoint =
           says.scan ∙ (λ j. verdict_for options (after_commits options short.history (same j)) query (one j)) in
           λ j. answer.Verdict (same j) (words j)
@@ -298,7 +293,7 @@ module _ (options : Options) (lines : List Line) (short : IsRunInShort options l
           let says = short.each i reading (answer.NoEndpoint k) line in
           let reached = short.none_ahead i reading (answer.NoEndpoint k) k line refl in
           let same : k ≡ c = at_present reading (answer.NoEndpoint k) k line refl reached says.1 in
-          absurd (no_request (endpoint_of query.endpoint (after_commits options short.history c).endpoints) endpoint
+          absurd (not_found (endpoint_of query.endpoint (after_commits options short.history c).endpoints) endpoint
           (subst (λ (n : ℕ). endpoint_of query.endpoint (after_commits options short.history n).endpoints ≡ None) same says.0) live)
       verdict_now session query endpoint told line live = absurd (short.each i (Ok (command.Look session query)) told line)
 

@@ -2,6 +2,7 @@
 use Rattle.std.proofs.Common.{◌≡◌, ℕ, zero, suc, ◌+◌, ◌*◌, ◌%◌, ◌<◌, ◌≤◌, ◌==◌, Bool, true, false, cond, List, [], ◌∷◌, ◌++◌, length, map, take, zip, slice_get, Option, Some, Ok, refl, sym, ap, ◌∙◌, subst, arith}
 use Rattle.std.specs.List.{AllByRecursion, flat_map, range_with_len}
 use Rattle.std.proofs.lemmas.List.{length-map}
+use Rattle.std.proofs.lemmas.Option.{same_Some}
 use Rattle.pol_answer.specs.declared.answer.Answer.{Answer}
 use Rattle.pol_data.proofs.Every.{every-append}
 use Rattle.pol_facts.proofs.StateLaws.{keeps-after, keeps-start}
@@ -31,7 +32,7 @@ use Rattle.pol_generated.specs.Maps.{HasRoom, MapsAreSmall, most_entries}
 use Rattle.pol_generated.specs.OneRun.{IsRunOfRounds}
 use Rattle.pol_generated.specs.Requests.{requests_asked, requests_in}
 use Rattle.pol_generated.proofs.Faultless.{asked_plays, requests_commit}
-use Rattle.pol_generated.proofs.InTurn.{none_counted, some_line}
+use Rattle.pol_generated.proofs.InTurn.{none_counted}
 use Rattle.pol_generated.proofs.OneRun.{FitsIn, GoesOn, IsOfOne, StandsBehindSync, goes_on}
 use Rattle.pol_generated.proofs.Plays.{Plays}
 use Rattle.pol_generated.proofs.Script.{below, lines_are_read}
@@ -167,7 +168,7 @@ all_own : (commands : List Command) (answers : List Answer) → AllByRecursion I
 all_own [] answers all i reading told there = absurd cc
 all_own (first ∷ others) [] all i reading told there = absurd cc
 all_own (first ∷ others) (a ∷ answers) all zero reading told there =
-    let same : Ok first ≡ reading = ap (λ (line : Line). line.0) (some_line {X = Line} (Ok first, a) (reading, told) there) in
+    let same : Ok first ≡ reading = ap (λ (line : Line). line.0) (same_Some {A = Line} (Ok first, a) (reading, told) there) in
     subst (λ (r : Reading). IsOf 1 r) same (of_one first all.0)
 all_own (first ∷ others) (a ∷ answers) all (suc i) reading told there = all_own others answers all.1 i reading told there
 
