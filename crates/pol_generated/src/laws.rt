@@ -60,15 +60,15 @@ pub fn generated_scripts_have_one_run()
     ensures one { HasOneRun }
 {}
 
+/// So whatever history places such a run, its commits are the requests of the script, in order, and for each verdict the map
+/// of its endpoint was published at the number of commits before the line ('profile').
+pub fn histories_hold_generated_scripts()
+    ensures { HistoriesHoldRounds }
+{}
+
 /// Answers in input order don't depend on the limit of maps, whatever the lines: so the summary of a generated script doesn't
 /// ('profile').
 pub fn no_limit_changes_answers()
     ensures { (options : Options) (limit : Option ℕ) (readings : List Reading)
         → serial_answers (record options { map_max = limit }) readings ≡ serial_answers options readings }
-{}
-
-/// So whatever history places such a run, its commits are the requests of the script, in order, and for each verdict the map
-/// of its endpoint was published at the number of commits before the line ('profile').
-pub fn histories_hold_generated_scripts()
-    ensures { HistoriesHoldRounds }
 {}
