@@ -75,7 +75,7 @@ merged_length : (raw : List MapEntry) → length (merged raw) ≤ length raw
 merged_length [] = omega arith
 merged_length (entry ∷ others) = omega (arith, put_length entry (merged others), merged_length others)
 
-canonical_length : (raw : List MapEntry) → length (canonical raw) ≤ length raw
+pub canonical_length : (raw : List MapEntry) → length (canonical raw) ≤ length raw
 canonical_length raw =
     let kept = λ (entry : MapEntry). not (is_under_deny raw entry) in
     omega (arith, merged_length raw, length-filter kept (merged raw), count_by-le-length kept (merged raw))
@@ -265,7 +265,7 @@ rules_counted (stamped ∷ policies) all =
 
 -- ---- there are 64 policies at most
 
-key_laws : IsEquivalence same_key
+pub key_laws : IsEquivalence same_key
 key_laws = record {
   refl = λ a. (same_key-Decides a a).1 refl;
   symm = λ a b. turned (same_key a b) (same_key b a) (λ is. (same_key-Decides b a).1 (sym ((same_key-Decides a b).0 is)))
