@@ -1,0 +1,136 @@
+-- What was taken is reported behind the history that is shown.
+use Rattle.std.proofs.Common.{[], List, ap, refl, subst, sym, ◌∙◌}
+use mathlib.Core.List.{IsPrefix}
+use Rattle.pol_history.specs.declared.event.HistoryEvent.{HistoryEvent}
+use Rattle.pol_history.specs.declared.event.HistoryEvent.TheVariants as event
+use Rattle.pol_history.specs.Machine.{endpoint_id}
+use Rattle.pol_history.specs.Meet.{AreOf}
+use Rattle.pol_history.specs.Reports.{last_report}
+use Rattle.pol_history.proofs.Meetings.{are_of-blocked, are_of-publish, pass-grows, passes-grow_whole}
+use Rattle.pol_book.specs.Asked.{table_at}
+use Rattle.pol_node.specs.Desk.{IsAt}
+use Rattle.pol_node.proofs.AtHistory.{at_blocked, at_publish}
+use Rattle.pol_node.proofs.Reporting.{blocked_here, either_way, leads_here, may_block, may_publish, next_by, published_here, reported_here, taken_before, taken_then, within}
+use Rattle.pol_node.proofs.desk.Desk.finish.Goals as goal
+
+pub returns-then-is_of-clause-finished : goal.returns-then-is_of-clause-finished
+returns-then-is_of-clause-finished g c =
+    let taken = c.args.taken.now in
+    reported_here (endpoint_id taken.endpoint) taken.revision c.show.new.pass.has.history c.last_report-report.result c.is_published.result
+    (ap (last_report (endpoint_id taken.endpoint)) c.show.ensures.all ∙ sym c.last_report-report.ensures) (sym c.is_of.ensures ∙ c.if-is_of.true) c.is_published.ensures
+
+-- ---- it is published
+
+pub publish-requires-clause-seen : goal.publish-requires-clause-seen
+publish-requires-clause-seen g c =
+    let options = g.N.NodeName.options in let taken = c.args.taken.now in let old = c.args.pass.now.has.history in let shown = c.show.new.pass.has.history in
+    let grown = c.show.ensures.grows.whole.grows in
+    let was = taken_before options old shown shown taken grown.goes_on grown.legal refl c.requires.revision c.requires.taken in
+    within options old shown taken was
+
+pub publish-requires-clause-taken : goal.publish-requires-clause-taken
+publish-requires-clause-taken g c =
+    let options = g.N.NodeName.options in let taken = c.args.taken.now in let old = c.args.pass.now.has.history in let shown = c.show.new.pass.has.history in
+    let grown = c.show.ensures.grows.whole.grows in
+    let was = taken_before options old shown shown taken grown.goes_on grown.legal refl c.requires.revision c.requires.taken in
+    taken_then options old shown taken was
+
+pub publish-requires-clause-may : goal.publish-requires-clause-may
+publish-requires-clause-may g c =
+    let options = g.N.NodeName.options in let taken = c.args.taken.now in let old = c.args.pass.now.has.history in let history = c.show.new.self.seen in
+    let grown = c.show.ensures.grows.whole.grows in
+    let was = taken_before options old c.show.new.pass.has.history history taken grown.goes_on grown.legal c.show.ensures.all c.requires.revision c.requires.taken in
+    let next = next_by options history (endpoint_id taken.endpoint) taken.revision c.args.last c.last_report-report.result c.if-not-is_live.ensures
+    c.last_report-report.ensures c.until_next.ensures.newer c.until_next.ensures.commits c.until_next.ensures.shown in
+    may_publish options old history taken was c.args.last next c.args.self.now.limit c.args.count c.args.self.now.limited c.requires.count c.if-count-self.true
+
+pub publish-requires-clause-leads : goal.publish-requires-clause-leads
+publish-requires-clause-leads g c =
+    let options = g.N.NodeName.options in let taken = c.args.taken.now in let old = c.args.pass.now.has.history in let history = c.show.new.self.seen in
+    let grown = c.show.ensures.grows.whole.grows in
+    let was = taken_before options old c.show.new.pass.has.history history taken grown.goes_on grown.legal c.show.ensures.all c.requires.revision c.requires.taken in
+    let next = next_by options history (endpoint_id taken.endpoint) taken.revision c.args.last c.last_report-report.result c.if-not-is_live.ensures
+    c.last_report-report.ensures c.until_next.ensures.newer c.until_next.ensures.commits c.until_next.ensures.shown in
+    leads_here options old history taken was c.args.last c.args.changes.now next c.requires.last c.requires.leads
+
+pub invariant_of-self-then-count-self : goal.invariant_of-self-then-count-self
+invariant_of-self-then-count-self g c =
+    let options = g.N.NodeName.options in let passes = g.N.NodeName.passes in let endpoint = endpoint_id c.args.taken.now.endpoint in
+    let revision = c.args.taken.now.revision in let history = c.show.new.self.seen in let repo = c.args.self.now.repo in
+    let at = subst (λ (h : List HistoryEvent). IsAt options h repo) (sym c.show.ensures.same) c.args.self.now.at in
+    let ours = subst (λ (h : List HistoryEvent). AreOf passes h) (sym c.show.ensures.same) c.args.self.now.ours in
+    let table = table_at options history endpoint revision in
+    let added = event.Publish endpoint revision table in
+    record {
+      at = either_way (λ (h : List HistoryEvent). IsAt options h repo) c.publish.result history c.publish.new.self.seen added c.publish.ensures.added c.publish.ensures.err
+          at (at_publish options history repo at endpoint revision table);
+      ours = either_way (λ (h : List HistoryEvent). AreOf passes h) c.publish.result history c.publish.new.self.seen added c.publish.ensures.added c.publish.ensures.err
+          ours (are_of-publish passes history endpoint revision table ours);
+      limited = c.args.self.now.limited;
+    }
+
+pub returns-in_ok-publish-clause-grows : goal.returns-in_ok-publish-clause-grows
+returns-in_ok-publish-clause-grows g c =
+    let options = g.N.NodeName.options in
+    passes-grow_whole options c.args.pass.now c.show.new.pass c.publish.new.pass [] [] (pass-grows options c.args.pass.now c.show.new.pass [] c.show.ensures.grows)
+    c.publish.ensures.grows
+
+pub returns-in_ok-publish-clause-finished : goal.returns-in_ok-publish-clause-finished
+returns-in_ok-publish-clause-finished g c =
+    let options = g.N.NodeName.options in let taken = c.args.taken.now in let old = c.args.pass.now.has.history in let history = c.show.new.self.seen in
+    let grown = c.show.ensures.grows.whole.grows in
+    let was = taken_before options old c.show.new.pass.has.history history taken grown.goes_on grown.legal c.show.ensures.all c.requires.revision c.requires.taken in
+    published_here options old history taken was c.publish.new.pass.has.history (c.publish.ensures.shown ∙ c.in_ok-publish.ensures.added)
+
+-- ---- it is too large
+
+pub block-requires-clause-seen : goal.block-requires-clause-seen
+block-requires-clause-seen g c =
+    let options = g.N.NodeName.options in let taken = c.args.taken.now in let old = c.args.pass.now.has.history in let shown = c.show.new.pass.has.history in
+    let grown = c.show.ensures.grows.whole.grows in
+    let was = taken_before options old shown shown taken grown.goes_on grown.legal refl c.requires.revision c.requires.taken in
+    within options old shown taken was
+
+pub block-requires-clause-taken : goal.block-requires-clause-taken
+block-requires-clause-taken g c =
+    let options = g.N.NodeName.options in let taken = c.args.taken.now in let old = c.args.pass.now.has.history in let shown = c.show.new.pass.has.history in
+    let grown = c.show.ensures.grows.whole.grows in
+    let was = taken_before options old shown shown taken grown.goes_on grown.legal refl c.requires.revision c.requires.taken in
+    taken_then options old shown taken was
+
+pub block-requires-clause-may : goal.block-requires-clause-may
+block-requires-clause-may g c =
+    let options = g.N.NodeName.options in let taken = c.args.taken.now in let old = c.args.pass.now.has.history in let history = c.show.new.self.seen in
+    let grown = c.show.ensures.grows.whole.grows in
+    let was = taken_before options old c.show.new.pass.has.history history taken grown.goes_on grown.legal c.show.ensures.all c.requires.revision c.requires.taken in
+    let next = next_by options history (endpoint_id taken.endpoint) taken.revision c.args.last c.last_report-report.result c.if-not-is_live.ensures
+    c.last_report-report.ensures c.until_next.ensures.newer c.until_next.ensures.commits c.until_next.ensures.shown in
+    may_block options old history taken was c.args.last next c.args.self.now.limit c.args.count c.args.self.now.limited c.requires.count c.if-count-self.false
+
+pub invariant_of-self-else-count-self : goal.invariant_of-self-else-count-self
+invariant_of-self-else-count-self g c =
+    let options = g.N.NodeName.options in let passes = g.N.NodeName.passes in let endpoint = endpoint_id c.args.taken.now.endpoint in
+    let revision = c.args.taken.now.revision in let history = c.show.new.self.seen in let repo = c.args.self.now.repo in
+    let at = subst (λ (h : List HistoryEvent). IsAt options h repo) (sym c.show.ensures.same) c.args.self.now.at in
+    let ours = subst (λ (h : List HistoryEvent). AreOf passes h) (sym c.show.ensures.same) c.args.self.now.ours in
+    let added = event.Blocked endpoint revision c.args.count in
+    record {
+      at = either_way (λ (h : List HistoryEvent). IsAt options h repo) c.block.result history c.block.new.self.seen added c.block.ensures.added c.block.ensures.err
+          at (at_blocked options history repo at endpoint revision c.args.count);
+      ours = either_way (λ (h : List HistoryEvent). AreOf passes h) c.block.result history c.block.new.self.seen added c.block.ensures.added c.block.ensures.err
+          ours (are_of-blocked passes history endpoint revision c.args.count ours);
+      limited = c.args.self.now.limited;
+    }
+
+pub returns-in_ok-block-clause-grows : goal.returns-in_ok-block-clause-grows
+returns-in_ok-block-clause-grows g c =
+    let options = g.N.NodeName.options in
+    passes-grow_whole options c.args.pass.now c.show.new.pass c.block.new.pass [] [] (pass-grows options c.args.pass.now c.show.new.pass [] c.show.ensures.grows)
+    c.block.ensures.grows
+
+pub returns-in_ok-block-clause-finished : goal.returns-in_ok-block-clause-finished
+returns-in_ok-block-clause-finished g c =
+    let taken = c.args.taken.now in let old = c.args.pass.now.has.history in
+    let begins = subst (λ (h : List HistoryEvent). IsPrefix old h) c.show.ensures.all c.show.ensures.grows.whole.grows.goes_on in
+    blocked_here old c.show.new.self.seen c.block.new.pass.has.history (endpoint_id taken.endpoint) taken.revision c.args.count begins
+    (c.block.ensures.shown ∙ c.in_ok-block.ensures.added)

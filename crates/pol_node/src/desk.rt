@@ -1,0 +1,313 @@
+//! What lies under the desk's lock.
+ghost use Rattle.std.specs.Prelude.{◌≡◌, ◌↔◌, ◌+◌, ◌<◌, ◌≤◌, ◌∷◌, [], IfErr, IfOk, IfSome, IsErrOf, IsTrue, MatchBool, None, OnErr, OnOk, Some, false, length, map, true};
+ghost use Rattle.std.specs.Arc.{arc_value};
+ghost use Rattle.pol_chains.specs.Moves.{TellsMovesSince};
+ghost use Rattle.pol_distill.specs.Distilled.{distilled};
+ghost use Rattle.pol_edits.specs.Changes.{changed, table_of};
+ghost use Rattle.pol_history.specs.Calls.{IsAccepted, IsTraced};
+ghost use Rattle.pol_history.specs.Commits.{Lives, commits_in, revision_of, state_now};
+ghost use Rattle.pol_history.specs.Grows.{PassGrowsWhole};
+ghost use Rattle.pol_history.specs.Machine.{endpoint_id, endpoint_in, is_reported};
+ghost use Rattle.pol_history.specs.Meet.{AreOf, HaveMet, has, meetings_of};
+ghost use Rattle.pol_history.specs.Reports.{published_before};
+ghost use Rattle.pol_model.specs.Ascending.{Ascends};
+ghost use Rattle.pol_model.specs.Committed.{slots_of};
+ghost use Rattle.pol_model.specs.PolicyMap.{policy_map};
+ghost use Rattle.pol_model.specs.Sizes.{IsShort};
+ghost use Rattle.pol_repo.specs.Cost.{label_peers};
+ghost use Rattle.pol_requests.specs.Readied.{is_of_policy};
+ghost use Rattle.pol_taken.specs.OfState.{IsTakenOf};
+ghost use Rattle.pol_node.specs.Desk.{IsAt, IsCauseOf, IsNotTraced};
+ghost use Rattle.pol_node.specs.Finish.{Finishes, TellsPublished, table_then};
+
+use crate::report::{Finished, TraceError, Traced};
+use left_right::Absorb;
+use pol_board::{BoardWriter, NodeName, Pass};
+use pol_data::{Memory, Steps};
+use pol_edits::ChangeList;
+use pol_face::{Face, Op};
+use pol_history::LastReport;
+use pol_model::{CommitError, Committed, Query, Request};
+use pol_repo::{EndpointRow, Repo};
+use pol_taken::{TakeError, Taken};
+use pol_trace::{ExplainError, explain};
+use std::alloc::Global;
+use std::sync::Wait;
+use std::sync::ledger::Ledger;
+
+/// The repository and the board's writer, which are at one history. It can't be dropped, and is ended by `close`.
+pub struct Desk<N: NodeName, R: Wait + Drop>
+where
+    Face<N>: Absorb<Op<N>>,
+{
+    /// The board's writer.
+    pub writer: BoardWriter<N, R>,
+    repo: Repo,
+    // Maps of more entries aren't published.
+    limit: u32,
+    ghost at: { IsAt N.options writer.seen repo },
+    ghost ours: { AreOf N.passes writer.seen },
+    ghost limited: { N.options.map_max ≡ Some limit },
+}
+
+impl<N: NodeName, R: Wait + Drop> Desk<N, R> {
+    /// The desk over the writer of a board without events and a repository without requests.
+    pub fn open(repo: Repo, writer: BoardWriter<N, R>, limit: u32) -> Desk<N, R>
+        requires repo { IsAt N.options [] repo }
+        requires writer { writer.seen ≡ [] }
+        requires limit { N.options.map_max ≡ Some limit }
+        ensures history { result.writer.seen ≡ [] }
+    {
+        Desk {
+            writer,
+            repo,
+            limit,
+        }
+    }
+
+    /// Ends it, and the board's writer. It takes no memory.
+    pub fn close<W: Wait>(self, rt: &W) {
+        let Desk {
+            writer,
+            repo: _repo,
+            limit: _,
+        } = self;
+        writer.close(rt);
+    }
+
+    /// Commits the request, and shows that to the pass.
+    ///
+    /// `Refused` names the fault of the request at the revision that it carries. `Memory` is want of memory, and the
+    /// board's writer may then be spent. After either the history is as before.
+    pub fn commit<W: Wait, L: Ledger>(
+        &mut self,
+        rt: &W,
+        alloc: Global,
+        pass: &mut Pass<N>,
+        request: Request,
+        steps: &mut Steps<L>,
+    ) -> Result<Committed, CommitError>
+        requires handed_out { has N.passes pass.old.number ≡ true }
+        requires short { IsShort request }
+        ensures grows { OnOk result (PassGrowsWhole N.options pass.old pass.new (request ∷ [])) }
+        ensures accepted { IfOk result (IsAccepted N.options pass.old.number pass.old.has.history pass.new.has.history request) }
+        ensures nothing { OnErr result (PassGrowsWhole N.options pass.old pass.new []) }
+        ensures cause { IfErr result (IsCauseOf N.options pass.old.has.history pass.new.has.history request) }
+        ensures stays { OnErr result (self.new.writer.seen ≡ self.old.writer.seen) }
+        ensures cost { is_of_policy request ≡ false → steps.new ≤ steps.old + label_peers (state_now N.options pass.new.has.history).policies }
+        ensures shown { pass.new.has.history ≡ self.new.writer.seen }
+    {
+        self.writer.show(rt, pass);
+        let ready = self.repo.prepare(request, steps)?;
+        match self
+            .writer
+            .commit(rt, alloc, pass, &ready.request, &ready.done)
+        {
+            Ok(()) => Ok(self.repo.accept(ready)),
+            Err(_) => {
+                self.repo.withdraw(ready);
+                Err(CommitError::Memory)
+            }
+        }
+    }
+
+    /// Shows the history to the pass, and tells its revision and how many slots are in use.
+    pub fn show<W: Wait>(&mut self, rt: &W, pass: &mut Pass<N>) -> (u64, u64)
+        ensures grows { PassGrowsWhole N.options pass.old pass.new [] }
+        ensures revision { result.0 ≡ revision_of pass.new.has.history }
+        ensures slots { slots_of (state_now N.options pass.new.has.history).endpoints ≡ result.1 }
+        ensures few { result.1 ≤ 256 }
+        ensures stays { self.new.writer.seen ≡ self.old.writer.seen }
+        ensures shown { pass.new.has.history ≡ self.new.writer.seen }
+    {
+        self.writer.show(rt, pass);
+        // The call tells that each request had no fault: so only the first 256 slots are in use.
+        let _journal = self.repo.journal();
+        (self.repo.revision(), slots_in(self.repo.endpoints()))
+    }
+
+    /// Shows the history to the pass, and explains the verdict on the query's packet at its revision.
+    ///
+    /// `NoEndpoint` comes exactly where no endpoint of that name is live there. `Memory` is want of memory.
+    pub fn trace<W: Wait>(
+        &mut self,
+        rt: &W,
+        alloc: Global,
+        pass: &mut Pass<N>,
+        query: &Query,
+    ) -> Result<Traced, TraceError>
+        ensures grows { PassGrowsWhole N.options pass.old pass.new [] }
+        ensures traced { IfOk result (λ traced. IsTraced N.options pass.old.has.history pass.new.has.history query.now traced.revision traced.trace) }
+        ensures cause { IfErr result (IsNotTraced N.options pass.old.has.history pass.new.has.history query.now) }
+        ensures stays { self.new.writer.seen ≡ self.old.writer.seen }
+        ensures shown { pass.new.has.history ≡ self.new.writer.seen }
+    {
+        self.writer.show(rt, pass);
+        let revision = self.repo.revision();
+        match explain(alloc, &self.repo, query) {
+            Ok(trace) => Ok(Traced { revision, trace }),
+            Err(ExplainError::NoEndpoint) => Err(TraceError::NoEndpoint { revision }),
+            Err(ExplainError::Memory) => Err(TraceError::Memory),
+        }
+    }
+
+    /// Shows the history to the pass, and takes what the map of the slot's endpoint is made of there. `since` is a revision
+    /// that the pass had seen before, none where nothing is known.
+    ///
+    /// `Gone` comes exactly where no live endpoint has the slot. `Memory` is want of memory.
+    pub fn take<W: Wait>(
+        &mut self,
+        rt: &W,
+        alloc: Global,
+        pass: &mut Pass<N>,
+        slot: u32,
+        since: Option<u64>,
+    ) -> Result<Taken, TakeError>
+        requires since { IfSome since (λ revision. revision ≤ revision_of pass.old.has.history) }
+        ensures grows { PassGrowsWhole N.options pass.old pass.new [] }
+        ensures revision { IfOk result (λ taken. taken.revision ≡ revision_of pass.new.has.history) }
+        ensures taken { IfOk result (IsTakenOf N.options (state_now N.options pass.new.has.history) slot) }
+        ensures map { IfOk result (λ taken. distilled (arc_value taken.filters) taken.sets
+            ≡ policy_map N.options (state_now N.options pass.new.has.history) taken.endpoint) }
+        ensures moves { IfOk result (λ taken. TellsMovesSince N.options (commits_in pass.new.has.history) since taken.sets taken.moves) }
+        ensures gone { IsErrOf result TakeError.Gone ↔ (endpoint_in slot (state_now N.options pass.new.has.history).endpoints ≡ None) }
+        ensures stays { self.new.writer.seen ≡ self.old.writer.seen }
+        ensures shown { pass.new.has.history ≡ self.new.writer.seen }
+    {
+        self.writer.show(rt, pass);
+        self.repo.take(alloc, slot, since)
+    }
+
+    /// Reports the map of what was taken: publishes it where it fits the limit. It has `count` entries, and the changes lead
+    /// to it from the map at the revision that was shown last, from an empty one where none was. Nothing is reported where
+    /// the endpoint is gone, or where its last report is of the taken revision.
+    ///
+    /// The one error is want of memory: then nothing was reported, and the board's writer may be spent.
+    pub fn finish<W: Wait>(
+        &mut self,
+        rt: &W,
+        alloc: Global,
+        pass: &mut Pass<N>,
+        taken: &Taken,
+        count: u64,
+        last: Option<u64>,
+        changes: &ChangeList,
+    ) -> Result<Finished, Memory>
+        requires revision { taken.now.revision ≡ revision_of pass.old.has.history }
+        requires taken { IsTakenOf N.options (state_now N.options pass.old.has.history) taken.now.endpoint.slot taken.now }
+        requires count { count ≡ length (policy_map N.options (state_now N.options pass.old.has.history) taken.now.endpoint) }
+        requires last { IfSome last (λ revision. revision ≤ revision_of pass.old.has.history) }
+        requires leads { changed changes.now (table_then N.options pass.old.has.history (endpoint_id taken.now.endpoint) last)
+            ≡ table_of (policy_map N.options (state_now N.options pass.old.has.history) taken.now.endpoint) }
+        ensures grows { PassGrowsWhole N.options pass.old pass.new [] }
+        ensures finished { IfOk result (Finishes N.options (endpoint_id taken.now.endpoint) taken.now.revision count pass.old.has.history pass.new.has.history) }
+        ensures nothing { OnErr result (self.new.writer.seen ≡ self.old.writer.seen) }
+        ensures shown { pass.new.has.history ≡ self.new.writer.seen }
+    {
+        self.writer.show(rt, pass);
+        if !self.is_live(taken) {
+            return Ok(Finished::Gone);
+        }
+        let report = self
+            .writer
+            .last_report(&taken.endpoint.name, taken.endpoint.added);
+        if is_of(report, taken.revision) {
+            return Ok(Finished::Already {
+                published: is_published(report, taken.revision),
+            });
+        }
+        until_next(rt, report, taken.revision, last);
+        if count <= self.limit as u64 {
+            self.writer.publish(rt, alloc, pass, taken, changes)?;
+            Ok(Finished::Published)
+        } else {
+            self.writer.block(rt, alloc, pass, taken, count)?;
+            Ok(Finished::Full)
+        }
+    }
+
+    /// Shows the history to all: they have met.
+    pub fn meet<W: Wait>(&mut self, rt: &W, passes: &mut [Pass<N>])
+        ensures met { HaveMet N.options N.passes (meetings_of passes.old passes.new) }
+        ensures numbers { map (λ pass. pass.number) passes.new ≡ map (λ pass. pass.number) passes.old }
+        ensures stays { self.new.writer.seen ≡ self.old.writer.seen }
+    {
+        for k in 0..passes.len() {
+            self.writer.show(rt, &mut passes[k]);
+        }
+    }
+}
+
+impl<N: NodeName, R: Wait + Drop> Desk<N, R> {
+    // Whether the endpoint that was taken is live now.
+    fn is_live(&self, taken: &Taken) -> bool
+        ensures { MatchBool result (Lives (state_now N.options self.now.writer.seen) (endpoint_id taken.now.endpoint))
+            (Lives (state_now N.options self.now.writer.seen) (endpoint_id taken.now.endpoint) → ⊥) }
+    {
+        match self.repo.endpoint(taken.endpoint.name.as_str()) {
+            Some(row) => row.added == taken.endpoint.added,
+            None => false,
+        }
+    }
+}
+
+// How many slots are in use: one more than the last.
+fn slots_in(endpoints: &[EndpointRow]) -> u64
+    requires ascend { Ascends (map (λ endpoint. endpoint.slot) endpoints.now) }
+    ensures { result ≡ slots_of endpoints.now }
+{
+    match endpoints.last() {
+        Some(row) => row.slot as u64 + 1,
+        None => 0,
+    }
+}
+
+// Whether the last report is of that revision.
+fn is_of(last: Option<LastReport>, revision: u64) -> bool
+    ensures { result ≡ is_reported revision last }
+{
+    match last {
+        Some(report) => report.revision == revision,
+        None => false,
+    }
+}
+
+// Whether the map that was published last is of that revision.
+fn is_published(last: Option<LastReport>, revision: u64) -> bool
+    ensures { TellsPublished result revision (published_before last) }
+{
+    match last {
+        Some(report) => report.published == Some(revision),
+        None => false,
+    }
+}
+
+// Whether a report at this revision may come next, where the map at `shown` was published last.
+fn is_next(last: Option<LastReport>, revision: u64, shown: Option<u64>) -> bool
+    ensures newer { IsTrue result → IfSome last (λ report. report.revision < revision) }
+    ensures commits { IsTrue result → IfSome last (λ report. report.commits ≤ revision) }
+    ensures shown { IsTrue result → published_before last ≡ shown }
+{
+    match last {
+        None => shown.is_none(),
+        Some(report) => {
+            report.revision < revision && report.commits <= revision && report.published == shown
+        }
+    }
+}
+
+// Waits until that is so. In every run it is so at once: nobody but the slot reports its endpoint, and its last report is
+// older than what it took since, which has all commits of that report; what it keeps leads from the map that it published
+// last.
+fn until_next<W: Wait>(rt: &W, last: Option<LastReport>, revision: u64, shown: Option<u64>)
+    ensures newer { IfSome last (λ report. report.revision < revision) }
+    ensures commits { IfSome last (λ report. report.commits ≤ revision) }
+    ensures shown { published_before last ≡ shown }
+{
+    for _ in rt.forever() {
+        if is_next(last, revision, shown) {
+            return;
+        }
+    }
+    unreachable!()
+}

@@ -1,0 +1,13 @@
+//! The running node: a repository and the board's writer behind one lock, and slots, each behind its own.
+//!
+//! A commit and a regeneration's take and finish hold the desk's lock; a map is built outside of it, under the lock of its
+//! slot. A look-up takes no lock. What each call answers is said by what its pass had seen before it and has seen after
+//! it (`pol_history`, `Calls`, `Regenerate`).
+#![tactic(auto)]
+
+mod desk;
+mod report;
+
+pub use desk::Desk;
+pub use pol_board::{BoardWriter, LookError, NodeName, Pass, Verdict};
+pub use report::{Finished, Regen, SyncReport, TraceError, Traced};

@@ -1,0 +1,73 @@
+//! What calls of the node answer.
+use pol_data::Memory;
+use pol_model::{FullList, Trace};
+
+/// What a regeneration of a slot did.
+#[derive(Clone, Copy, Debug, PartialEq, Eq)]
+pub enum Regen {
+    /// The map of this revision was published.
+    Published(u64),
+    /// The revision is that of the endpoint's last report, so nothing was done.
+    Already(u64),
+    /// The map is too large, and was reported so.
+    Full {
+        /// Its revision.
+        revision: u64,
+        /// How many entries it has.
+        count: u64,
+    },
+    /// The slot has no live endpoint, or the one that it had has gone.
+    Gone,
+}
+
+/// How what was taken was finished.
+#[derive(Clone, Copy, Debug, PartialEq, Eq)]
+pub enum Finished {
+    /// The map was published.
+    Published,
+    /// The last report is of its revision: it was published, or else reported as too large.
+    Already {
+        /// Whether it was published.
+        published: bool,
+    },
+    /// The map was reported as too large.
+    Full,
+    /// The endpoint is gone.
+    Gone,
+}
+
+/// What a sync tells: every endpoint that was live at the revision, and still is, was published or reported at it or later.
+#[derive(Debug, Drop)]
+pub struct SyncReport {
+    /// The revision.
+    pub revision: u64,
+    /// The maps that are too large, by name and then revision.
+    pub full: FullList,
+}
+
+/// An explanation, at this revision.
+#[derive(Debug, Drop)]
+pub struct Traced {
+    /// How many requests had been committed.
+    pub revision: u64,
+    /// The explanation.
+    pub trace: Trace,
+}
+
+/// Why there is no trace.
+#[derive(Clone, Copy, Debug, PartialEq, Eq)]
+pub enum TraceError {
+    /// No endpoint of that name is live at this revision.
+    NoEndpoint {
+        /// How many commits there were.
+        revision: u64,
+    },
+    /// Want of memory.
+    Memory,
+}
+
+impl From<Memory> for TraceError {
+    fn from(_error: Memory) -> TraceError {
+        TraceError::Memory
+    }
+}
