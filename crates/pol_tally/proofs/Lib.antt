@@ -1,0 +1,13 @@
+pub mod Kept
+pub mod Counting
+pub mod Below
+pub mod Gathered
+pub mod Walk
+pub mod Deduped
+pub mod Wider
+pub mod Found
+pub mod OfEntries
+pub mod Differ
+pub mod Unaffected
+pub mod Settled
+pub mod Listing

@@ -1,0 +1,4 @@
+pub mod Cells
+pub mod Times
+pub mod Counted
+pub mod Affected

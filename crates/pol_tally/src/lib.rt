@@ -1,0 +1,17 @@
+//! How often each key of a policy map is given, and what the map says of it.
+//!
+//! A `Tally` counts the entries that are put into a policy map, by key and kind. Entries come and go, and each change lists
+//! exactly the keys at which the canonical map of the entries changed.
+#![tactic(auto)]
+
+mod affected;
+mod cells;
+mod change;
+mod differences;
+mod keys;
+mod lists;
+mod order;
+mod reading;
+mod tally;
+
+pub use tally::Tally;
