@@ -9,3 +9,4 @@ pub mod Groups
 pub mod Whole
 pub mod Parts
 pub mod Audited
+pub mod Shares

@@ -5,3 +5,4 @@ pub mod Audit
 pub mod Cuts
 pub mod Ranges
 pub mod Exact
+pub mod Extent

@@ -1,6 +1,7 @@
 //! Whether two tables are alike.
-ghost use Rattle.std.specs.Prelude.{◌≡◌, ◌≤◌, IfOk, length};
+ghost use Rattle.std.specs.Prelude.{◌≡◌, ◌≤◌, ◌+◌, ◌*◌, IfOk, length};
 ghost use Rattle.pol_audit.specs.Audit.{IsAudit, least_packet};
+ghost use Rattle.pol_audit.specs.Extent.{extent};
 
 use crate::difference::{Difference, Numbers};
 use crate::directions::differences;
@@ -40,6 +41,8 @@ pub fn audit<L: Ledger>(
     requires left_few { length left.now ≤ 1000000 }
     requires right_few { length right.now ≤ 1000000 }
     ensures audit { IfOk result (λ audit. IsAudit left.now right.now audit) }
+    ensures forward { steps.old ≤ steps.new }
+    ensures cost { steps.new ≤ steps.old + 432 * extent left.now right.now }
 {
     let list = differences(alloc, left, right, steps)?;
     match list.as_slice().first() {

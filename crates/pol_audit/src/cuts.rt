@@ -1,5 +1,5 @@
 //! The ports at which what a table says may change.
-ghost use Rattle.std.specs.Prelude.{◌≡◌, ◌↔◌, ◌<◌, ℕ, ◌++◌, ◌∷◌, [], IfOk, OnOk, if◌then◌else◌, nat_lt};
+ghost use Rattle.std.specs.Prelude.{◌≡◌, ◌↔◌, ◌<◌, ◌≤◌, ◌+◌, ◌*◌, ℕ, ◌++◌, ◌∷◌, [], IfOk, OnOk, if◌then◌else◌, nat_lt, length};
 ghost use Rattle.std.specs.List.{Contains, flat_map};
 ghost use Rattle.std.specs.List.Sorted.{IsStrictlySortedBy};
 ghost use Rattle.std.specs.Ordering.{nat_cmp};
@@ -56,6 +56,7 @@ pub(crate) struct Parts<'a> {
 pub(crate) fn cuts_of(alloc: Global, parts: &Parts, proto: Proto) -> Result<Vec<u16>, Memory>
     ensures ascend { IfOk result (λ cuts. IsStrictlySortedBy nat_cmp cuts.items) }
     ensures members { IfOk result (λ cuts. (port : ℕ) → Contains cuts.items port ↔ Contains (all_cuts proto parts.now.left.now parts.now.right.now parts.now.left_every.now parts.now.right_every.now) port) }
+    ensures few { IfOk result (λ cuts. length cuts.items ≤ 2 * (length parts.now.left.now + length parts.now.right.now + length parts.now.left_every.now + length parts.now.right_every.now)) }
 {
     let mut cuts = Vec::new(alloc);
     push_cuts(&mut cuts, parts.left, proto)?;

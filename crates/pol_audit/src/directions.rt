@@ -1,12 +1,13 @@
 //! The whole difference of two tables.
-ghost use Rattle.std.specs.Prelude.{◌≡◌, ◌≤◌, ◌∷◌, [], List, IfOk, OnOk, length};
+ghost use Rattle.std.specs.Prelude.{◌≡◌, ◌≤◌, ◌+◌, ◌*◌, ◌∷◌, [], List, IfOk, OnOk, length};
 ghost use Rattle.pol_audit.specs.declared.difference.Difference.{Difference as Range};
-ghost use Rattle.std.specs.List.{flat_map};
+ghost use Rattle.std.specs.List.{flat_map, sum_by};
 ghost use Rattle.std.specs.List.Sorted.{IsNonDecreasingBy, IsStrictlySortedBy};
 ghost use Rattle.std.specs.Ordering.{nat_cmp};
 ghost use Rattle.std.specs.FinMap as map;
 ghost use Rattle.pol_mapkey.specs.Entries.{Entry};
 ghost use Rattle.pol_audit.specs.Difference.{IsDifference};
+ghost use Rattle.pol_audit.specs.Extent.{extent, extent_in, share_of, share_of_parts};
 ghost use Rattle.pol_audit.specs.Tables.{IsTable};
 ghost use Rattle.pol_ports.specs.declared.Direction.TheVariants.{Ingress, Egress};
 ghost use Rattle.pol_audit.specs.Exact.{AreAmong, Grown, GrownIn, IsDirectionOf, IsSplit, groups_at};
@@ -38,7 +39,10 @@ fn push_group<L: Ledger>(
 ) -> Result<(), Memory>
     requires left { AreAmong group.dir group.id (map.entries left.now) parts.now.left.now parts.now.left_every.now }
     requires right { AreAmong group.dir group.id (map.entries right.now) parts.now.right.now parts.now.right_every.now }
-    ensures { OnOk result (Grown (map.entries left.now) (map.entries right.now) (group ∷ []) out.old.items out.new.items) }
+    ensures grown { OnOk result (Grown (map.entries left.now) (map.entries right.now) (group ∷ []) out.old.items out.new.items) }
+    ensures few { OnOk result (length out.new.items ≤ length out.old.items + 2 * share_of_parts parts.now.left.now parts.now.right.now parts.now.left_every.now parts.now.right_every.now) }
+    ensures forward { steps.old ≤ steps.new }
+    ensures cost { steps.new ≤ steps.old + 144 * share_of_parts parts.now.left.now parts.now.right.now parts.now.left_every.now parts.now.right_every.now }
 {
     let ports = cuts_of(alloc, parts, group.proto)?;
     are_ports(&ports);
@@ -58,7 +62,10 @@ fn push_number<L: Ledger>(
 ) -> Result<(), Memory>
     requires left { AreAmong dir id (map.entries left.now) parts.now.left.now parts.now.left_every.now }
     requires right { AreAmong dir id (map.entries right.now) parts.now.right.now parts.now.right_every.now }
-    ensures { OnOk result (Grown (map.entries left.now) (map.entries right.now) (groups_at dir id) out.old.items out.new.items) }
+    ensures grown { OnOk result (Grown (map.entries left.now) (map.entries right.now) (groups_at dir id) out.old.items out.new.items) }
+    ensures few { OnOk result (length out.new.items ≤ length out.old.items + 6 * share_of_parts parts.now.left.now parts.now.right.now parts.now.left_every.now parts.now.right_every.now) }
+    ensures forward { steps.old ≤ steps.new }
+    ensures cost { steps.new ≤ steps.old + 432 * share_of_parts parts.now.left.now parts.now.right.now parts.now.left_every.now parts.now.right_every.now }
 {
     let tcp = Group {
         dir,
@@ -86,6 +93,7 @@ fn parts_of<'a>(left: &'a [(MapKey, Kind)], right: &'a [(MapKey, Kind)], id: u32
     requires right { IsNonDecreasingBy (λ e. e.0.id) right.now }
     ensures left { IsSplit id left.now result.left.now result.left_every.now }
     ensures right { IsSplit id right.now result.right.now result.right_every.now }
+    ensures share { share_of_parts result.left.now result.right.now result.left_every.now result.right_every.now ≡ share_of left.now right.now id }
 {
     let left_every = segment(left, 0);
     let right_every = segment(right, 0);
@@ -121,7 +129,10 @@ fn push_numbers<L: Ledger>(
     requires left { IsDirectionOf dir (map.entries left.now) left_part.now }
     requires right { IsDirectionOf dir (map.entries right.now) right_part.now }
     requires numbers { IsStrictlySortedBy nat_cmp numbers.now }
-    ensures { OnOk result (Grown (map.entries left.now) (map.entries right.now) (flat_map (groups_at dir) numbers.now) out.old.items out.new.items) }
+    ensures grown { OnOk result (Grown (map.entries left.now) (map.entries right.now) (flat_map (groups_at dir) numbers.now) out.old.items out.new.items) }
+    ensures few { OnOk result (length out.new.items ≤ length out.old.items + 6 * sum_by (share_of left_part.now right_part.now) numbers.now) }
+    ensures forward { steps.old ≤ steps.new }
+    ensures cost { steps.new ≤ steps.old + 432 * sum_by (share_of left_part.now right_part.now) numbers.now }
 {
     for id in numbers {
         let parts = parts_of(left_part, right_part, *id);
@@ -145,7 +156,10 @@ fn push_direction<L: Ledger>(
     requires right { IsTable right.now }
     requires left_trie { map.entries left_trie.now ≡ left.now }
     requires right_trie { map.entries right_trie.now ≡ right.now }
-    ensures { OnOk result (GrownIn left.now right.now dir out.old.items out.new.items) }
+    ensures grown { OnOk result (GrownIn left.now right.now dir out.old.items out.new.items) }
+    ensures few { OnOk result (length out.new.items ≤ length out.old.items + 6 * extent_in dir left.now right.now) }
+    ensures forward { steps.old ≤ steps.new }
+    ensures cost { steps.new ≤ steps.old + 432 * extent_in dir left.now right.now }
 {
     let left_part = of_direction(alloc, left, dir)?;
     let right_part = of_direction(alloc, right, dir)?;
@@ -175,7 +189,10 @@ fn push_directions<L: Ledger>(
     requires right { IsTable right.now }
     requires left_few { length left.now ≤ 1000000 }
     requires right_few { length right.now ≤ 1000000 }
-    ensures { OnOk result ((middle : List Range) × GrownIn left.now right.now Ingress out.old.items middle × GrownIn left.now right.now Egress middle out.new.items) }
+    ensures grown { OnOk result ((middle : List Range) × GrownIn left.now right.now Ingress out.old.items middle × GrownIn left.now right.now Egress middle out.new.items) }
+    ensures few { OnOk result (length out.new.items ≤ length out.old.items + 6 * extent left.now right.now) }
+    ensures forward { steps.old ≤ steps.new }
+    ensures cost { steps.new ≤ steps.old + 432 * extent left.now right.now }
 {
     let left_trie = trie_of(alloc, left)?;
     let right_trie = trie_of(alloc, right)?;
@@ -212,6 +229,9 @@ pub fn differences<L: Ledger>(
     requires left_few { length left.now ≤ 1000000 }
     requires right_few { length right.now ≤ 1000000 }
     ensures difference { IfOk result (λ list. IsDifference left.now right.now list) }
+    ensures few { IfOk result (λ list. length list ≤ 6 * extent left.now right.now) }
+    ensures forward { steps.old ≤ steps.new }
+    ensures cost { steps.new ≤ steps.old + 432 * extent left.now right.now }
 {
     let mut out = Vec::new(alloc);
     push_directions(alloc, &mut out, left.as_slice(), right.as_slice(), steps)?;

@@ -1,5 +1,5 @@
 //! Numbers in order, each once.
-ghost use Rattle.std.specs.Prelude.{◌↔◌, ◌<◌, ℕ};
+ghost use Rattle.std.specs.Prelude.{◌↔◌, ◌<◌, ◌≤◌, ℕ, length};
 ghost use Rattle.std.specs.List.{Contains};
 ghost use Rattle.std.specs.List.Sorted.{IsStrictlySortedBy};
 ghost use Rattle.std.specs.Ordering.{nat_cmp};
@@ -19,6 +19,7 @@ pub(crate) fn ids_in_order(numbers: Vec<u32>) -> Vec<u32>
 pub(crate) fn ports_in_order(ports: Vec<u16>) -> Vec<u16>
     ensures ascend { IsStrictlySortedBy nat_cmp result.items }
     ensures members { (n : ℕ) → Contains result.items n ↔ Contains ports.items n }
+    ensures few { length result.items ≤ length ports.items }
 {
     let mut ports = ports;
     ports.sort_unstable();

@@ -12,4 +12,6 @@ returns g c =
       audit =
           subst (λ p. IsLeastDiffering left right p) (sym c.least_packet.ensures)
           (from_first left right c.as_slice.result.now c.in-Some.range.now (sym c.in-Some.ensures.value) (subst (λ list. IsDifference left right list) (sym c.as_slice.ensures) c.in_ok-list.ensures.difference));
+      forward = c.differences.ensures.forward;
+      cost = c.differences.ensures.cost;
     }

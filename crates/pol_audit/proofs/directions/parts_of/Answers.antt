@@ -1,5 +1,6 @@
-use Rattle.std.proofs.Common.{inl, inr, ◌∙◌}
+use Rattle.std.proofs.Common.{inl, inr, ◌∙◌, arith}
 use Rattle.pol_audit.proofs.Segments.{in_segment}
+use Rattle.pol_audit.proofs.Shares.{entries_for_0, entries_for_id}
 use Rattle.pol_audit.proofs.directions.parts_of.Goals as goal
 
 pub returns-then-id-eq0-clause-left : goal.returns-then-id-eq0-clause-left
@@ -23,3 +24,15 @@ returns-else-id-eq0-clause-right c = λ e there either.
       | inl same ↦ inl (in_segment c.args.id c.args.right.now _ c.segment-else-id-eq0.ensures e there same)
       | inr zero' ↦ inr (in_segment 0 c.args.right.now _ c.segment-right_every.ensures e there zero')
     ]
+
+pub returns-then-id-eq0-clause-share : goal.returns-then-id-eq0-clause-share
+returns-then-id-eq0-clause-share c =
+    let left = entries_for_0 c.args.id c.args.left.now c.segment-left_every.result.now c.if-id-eq0.true c.segment-left_every.ensures in
+    let right = entries_for_0 c.args.id c.args.right.now c.segment-right_every.result.now c.if-id-eq0.true c.segment-right_every.ensures in
+    omega arith
+
+pub returns-else-id-eq0-clause-share : goal.returns-else-id-eq0-clause-share
+returns-else-id-eq0-clause-share c =
+    let left = entries_for_id c.args.id c.args.left.now c.segment.result.now c.segment-left_every.result.now c.if-id-eq0.false c.segment.ensures c.segment-left_every.ensures in
+    let right = entries_for_id c.args.id c.args.right.now c.segment-else-id-eq0.result.now c.segment-right_every.result.now c.if-id-eq0.false c.segment-else-id-eq0.ensures c.segment-right_every.ensures in
+    omega arith
