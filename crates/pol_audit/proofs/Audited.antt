@@ -1,5 +1,5 @@
 -- The least packet on which two tables differ is the first of the first range.
-use Rattle.std.proofs.Common.{◌≡◌, ◌≢◌, ℕ, ◌<◌, ◌≤◌, true, false, IsTrue, List, [], ◌∷◌, None, Some, refl, sym, ap, subst, ◌∙◌, inl, inr, ◌⊎◌, arith}
+use Rattle.std.proofs.Common.{◌≡◌, ◌≢◌, ℕ, ◌<◌, ◌≤◌, true, false, IsTrue, List, [], ◌∷◌, None, Some, refl, sym, ap, subst, ◌∙◌, inl, inr, ◌⊎◌, ◌↔◌, length, arith}
 use Rattle.std.specs.List.{Contains, slice_get}
 use Rattle.std.proofs.lemmas.Bool.{cases_Bool, eq-eqb, eqb-true}
 use Rattle.std.proofs.lemmas.Option.{get_or_from_slice_get}
@@ -11,7 +11,7 @@ use Rattle.pol_mapkey.specs.Entries.{Entry, read_map}
 use Rattle.pol_audit.specs.declared.difference.Difference.{Difference}
 use Rattle.pol_audit.specs.declared.difference.Numbers.{Numbers}
 use Rattle.pol_audit.specs.declared.difference.Numbers.TheVariants.{EveryOther, One}
-use Rattle.pol_audit.specs.Audit.{IsLeastDiffering, least_packet}
+use Rattle.pol_audit.specs.Audit.{Alike, IsLeastDiffering, least_packet}
 use Rattle.pol_audit.specs.Difference.{Ascend, IsBefore, IsDifference, LiesIn, has_number, least_number}
 use Rattle.pol_audit.specs.Packets.{ComesBefore, direction_place, packet_place, words}
 use Rattle.pol_audit.specs.Ranges.{same_word}
@@ -102,3 +102,25 @@ module _ (left right : List Entry) where
   pub from_first : (list : List Difference) (d : Difference) → slice_get list 0 ≡ Some d → IsDifference left right list → IsLeastDiffering left right (least_packet d)
   from_first [] d is whole = absurd (let wrong : None ≡ Some d = is in let e : ⊥ = cc in e)
   from_first (x ∷ list) d is whole = subst (λ e. IsLeastDiffering left right (least_packet e)) (let e : x ≡ d = get_or_from_slice_get (x ∷ list) 0 d d is in e) (first_is_least x list whole)
+
+module _ (left right : List Entry) where
+  -- tables that say the same have no difference, and those that have none say the same
+  no_range : (list : List Difference) → IsDifference left right list → Alike left right → list ≡ []
+  no_range [] is alike = refl
+  no_range (d ∷ list) is alike = absurd (
+      let least = first_is_least left right d list is in
+      let told = is.told d (Contains-here d list) in
+      let ordered = told.ordered in let ports = told.ports in
+      least.differ (sym least.left_word ∙ alike d.dir (least_number d.numbers) d.proto d.first (omega arith) ∙ least.right_word))
+
+  none_in : (list : List Difference) → list ≡ [] → (d : Difference) → Contains list d → ⊥
+  none_in list none d there = let empty = ap length none in let below = there.1 in omega arith
+
+  pub alike_has_none : (list : List Difference) → IsDifference left right list → Alike left right ↔ (list ≡ [])
+  alike_has_none list is = (
+    no_range list is,
+    λ none dir id proto port small. elim (decided left right (read_map left dir id proto port) (read_map right dir id proto port)) [
+      | inl same ↦ same
+      | inr other ↦ absurd (let found = is.whole dir id proto port small other in none_in list none found.0 found.1)
+    ],
+  )

@@ -10,3 +10,5 @@ pub mod Whole
 pub mod Parts
 pub mod Audited
 pub mod Shares
+pub mod Spelled
+pub mod Unique

@@ -6,3 +6,4 @@ pub mod Cuts
 pub mod Ranges
 pub mod Exact
 pub mod Extent
+pub mod Text

@@ -1,5 +1,5 @@
 //! The auditor of policy maps: whether two tables of entries say the same of every packet, the least packet on which they
-//! differ, and the whole difference as ranges of packets.
+//! differ, the whole difference as ranges of packets, and tables as texts.
 //!
 //! Tables are compared by what they say, not entry by entry: an entry that another one outweighs makes no difference. What
 //! a table says is profile (how the keys of two identities are weighed).
@@ -10,15 +10,20 @@ mod cuts;
 mod difference;
 mod directions;
 mod entries;
+mod error;
 mod in_order;
+pub mod laws;
 mod numbers;
 mod packet;
 mod ranges;
 mod segment;
+mod text;
 mod tries;
 
 pub use compare::audit;
 pub use difference::{Difference, Differences, Numbers};
 pub use directions::differences;
 pub use entries::Entries;
+pub use error::TableError;
 pub use packet::{Audit, Packet};
+pub use text::table_text;
