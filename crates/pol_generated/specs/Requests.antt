@@ -1,5 +1,5 @@
 -- The requests among the commands of a generated script, among what the lines of a script read as, and the answers to
--- requests that committed.
+-- requests that committed and to queries of verdicts.
 use Rattle.std.specs.Prelude.{ℕ, Bool, true, false, List, Option, None, Some, Ok, Err}
 use Rattle.std.specs.List.{filter_map}
 use Rattle.pol_answer.specs.declared.answer.Answer.{Answer}
@@ -35,3 +35,8 @@ requests_read readings = filter_map request_read readings
 abbrev pub is_committed : Answer → Bool
 is_committed (answer.Committed revision identity) = true
 is_committed other = false
+
+-- the answer is a verdict
+abbrev pub is_verdict : Answer → Bool
+is_verdict (answer.Verdict revision word) = true
+is_verdict other = false

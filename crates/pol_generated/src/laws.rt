@@ -1,6 +1,6 @@
 //! Laws of generated scripts, over the definitions alone.
 //! Each function does nothing: its contract is the law.
-ghost use Rattle.std.specs.Prelude.{◌≡◌, ℕ, ◌+◌, List, Option, length, map, Ok};
+ghost use Rattle.std.specs.Prelude.{◌≡◌, ℕ, ◌+◌, ◌*◌, ◌/◌, List, Option, length, map, Ok};
 ghost use Rattle.std.specs.List.{count_by};
 ghost use Rattle.pol_facts.specs.WithoutFaults.{WithoutFaults};
 ghost use Rattle.pol_gen.specs.Generated.{generated};
@@ -14,7 +14,7 @@ ghost use Rattle.pol_generated.specs.Asked.{asked};
 ghost use Rattle.pol_generated.specs.HistoryOfRounds.{HistoriesHoldRounds};
 ghost use Rattle.pol_generated.specs.Maps.{MapsAreSmall};
 ghost use Rattle.pol_generated.specs.OneRun.{HasOneRun, SerialAnswersAreARun};
-ghost use Rattle.pol_generated.specs.Requests.{is_committed, requests_asked, requests_read};
+ghost use Rattle.pol_generated.specs.Requests.{is_committed, is_verdict, requests_asked, requests_read};
 
 /// Each line of a generated script is read as what it is to ask, for every number, and there are no other
 /// lines. So none has a fault of its own ('profile').
@@ -45,6 +45,12 @@ pub fn no_generated_line_is_refused()
 /// state alone, as the summary counts them ('profile').
 pub fn commits_are_counted()
     ensures { (options : Options) (n : ℕ) → count_by is_committed (serial_answers options (readings_of (generated n))) ≡ 32 + n }
+{}
+
+/// And there are 32 verdicts for each ten rounds, the last of them perhaps begun: answered in input order, from the state
+/// alone, as the summary counts them by their words ('profile').
+pub fn verdicts_are_counted()
+    ensures { (options : Options) (n : ℕ) → count_by is_verdict (serial_answers options (readings_of (generated n))) ≡ 32 * ((n + 9) / 10) }
 {}
 
 /// No policy map of a generated script has more than 1,923 entries, at any number of its commits, for every number and
