@@ -1,10 +1,11 @@
 -- One line more of a script that is being cut.
 use Rattle.std.proofs.Common.{zero, suc, ◌≡◌, ℕ, ◌≤◌, List, [], ◌∷◌, ◌++◌, length, map, get_or, set, ◌-◌, ◌<◌, replicate, Option, None, Some, Result, Ok, Err, OnOk, refl, sym, ap, ◌∙◌, arith}
-use Rattle.std.proofs.lemmas.List.{map-append}
+use Rattle.std.specs.List.{AllByRecursion}
+use Rattle.std.proofs.lemmas.List.{length-replicate, map-append}
 use Rattle.pol_script.specs.declared.command.Command.{Command}
 use Rattle.pol_script.specs.declared.line_fault.LineFault.{LineFault}
 use Rattle.pol_run.specs.Spots.{Reading, session_of}
-use Rattle.pol_placed.specs.Cut.{change_at, change_last, change_session, command_behind, list_at, script_of, session_at}
+use Rattle.pol_placed.specs.Cut.{change_at, change_last, change_session, command_behind, list_at, script_of, session_at, with_command}
 use Rattle.pol_placed.proofs.OneMore.{fault_more, line_more}
 use Rattle.pol_phases.specs.declared.mark.Mark.{Mark}
 use Rattle.pol_phases.specs.declared.mark.Mark.TheVariants as mark
@@ -101,3 +102,26 @@ own-more n lines c session ended current next marks more of changed is so_far =
     let behind : ended ++ next ∷ [] ≡ command_behind n c (Some session) (ended ++ current ∷ []) =
     ap (λ (phase : List (List Command)). ended ++ phase ∷ []) changed ∙ sym (change_last-behind (change_session session (λ commands. commands ++ c ∷ [])) ended current) in
     command-more n lines c (Some session) ended ended current next marks more of behind is so_far
+
+-- ---- how many lists a phase has
+
+change_at-length : {X : Type 0} (i : ℕ) (change : List X → List X) (lists : List (List X)) → length (change_at i change lists) ≡ length lists
+change_at-length i change [] = refl
+change_at-length zero change (xs ∷ others) = refl
+change_at-length (suc i) change (xs ∷ others) = ap (λ (n : ℕ). suc n) (change_at-length i change others)
+
+session-length : {X : Type 0} (session : ℕ) (change : List X → List X) (lists : List (List X)) → length (change_session session change lists) ≡ length lists
+session-length zero change lists = refl
+session-length (suc i) change lists = change_at-length i change lists
+
+each_with : (n : ℕ) (c : Command) (session : Option ℕ) (phases : List (List (List Command))) → AllByRecursion (λ lines. length lines ≡ n) phases
+    → AllByRecursion (λ lines. length lines ≡ n) (with_command n c session phases)
+each_with n c None phases all = (length-replicate n [], all)
+each_with n c (Some session) [] all = tt
+each_with n c (Some session) (first ∷ later) all = (session-length session (λ commands. c ∷ commands) first ∙ all.0, all.1)
+
+-- each phase of a script has one for every session
+pub phases_each : (n : ℕ) (lines : List Reading) → AllByRecursion (λ lines. length lines ≡ n) (script_of n lines)
+phases_each n [] = (length-replicate n [], tt)
+phases_each n (Err fault ∷ lines) = phases_each n lines
+phases_each n (Ok c ∷ lines) = each_with n c (session_of (Ok c)) (script_of n lines) (phases_each n lines)
