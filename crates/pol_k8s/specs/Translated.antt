@@ -101,10 +101,14 @@ spec_of port =
     option_and_then (λ range. option_map (λ proto. record { proto = Some proto; range = range }) (proto_of (protocol_text port.protocol)))
     (range_of port.port port.end_port)
 
+-- every port of every protocol
+abbrev pub every_spec : PortSpec
+every_spec = record { proto = None; range = every_port }
+
 -- An entry with neither peers nor ports is for every packet. In a rule such an entry would be for none, so it gets
 -- all ports of every protocol.
 abbrev pub ports_of : List RawNetPeer → List RawNetPort → List PortSpec
-ports_of [] [] = record { proto = None; range = every_port } ∷ []
+ports_of [] [] = every_spec ∷ []
 ports_of [] (port ∷ ports) = filter_map spec_of (port ∷ ports)
 ports_of (peer ∷ peers) ports = filter_map spec_of ports
 
@@ -113,9 +117,13 @@ ports_of (peer ∷ peers) ports = filter_map spec_of ports
 abbrev pub entry_of : List ℕ → RawNetEntry → Entry
 entry_of own entry = record { peers = peers_of own entry.peers; ports = ports_of entry.peers entry.ports }
 
+-- in a rule this entry covers nothing
+abbrev pub nothing : Entry
+nothing = record { peers = Every; ports = [] }
+
 -- Without entries nothing is allowed: one entry that covers nothing says so.
 abbrev pub some_entry : List Entry → List Entry
-some_entry [] = record { peers = Every; ports = [] } ∷ []
+some_entry [] = nothing ∷ []
 some_entry (entry ∷ entries) = entry ∷ entries
 
 -- a direction in which the object doesn't isolate has no entry
