@@ -1,6 +1,11 @@
-pub mod LastSlot
-pub mod FewSlots
 pub mod AtHistory
+pub mod FewSlots
+pub mod Following
+pub mod LastSlot
 pub mod Living
-pub mod Unlimited
+pub mod Places
 pub mod Reporting
+pub mod RowOrder
+pub mod Turning
+pub mod Turns
+pub mod Unlimited

@@ -1,2 +1,3 @@
 pub mod Finish
 pub mod Desk
+pub mod Slot

@@ -6,8 +6,15 @@
 #![tactic(auto)]
 
 mod desk;
+mod node;
 mod report;
+mod rows;
+mod slot;
 
 pub use desk::Desk;
-pub use pol_board::{BoardWriter, LookError, NodeName, Pass, Verdict};
-pub use report::{Finished, Regen, SyncReport, TraceError, Traced};
+pub use node::Node;
+pub use pol_board::{
+    Board, BoardError, BoardWriter, LookError, NewBook, NodeName, Pass, SeenHistory, Verdict,
+};
+pub use report::{Config, Finished, Regen, SyncReport, TraceError, Traced};
+pub use slot::Slot;

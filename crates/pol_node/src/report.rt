@@ -1,6 +1,19 @@
 //! What calls of the node answer.
 use pol_data::Memory;
-use pol_model::{FullList, Trace};
+use pol_model::{FullList, Mode, Trace};
+
+/// How a node is made.
+#[derive(Clone, Copy, Debug)]
+pub struct Config {
+    /// The enforcement mode at the start.
+    pub mode: Mode,
+    /// Whether the local host is always let in.
+    pub localhost: bool,
+    /// Maps of more entries aren't published; at most 65,536.
+    pub map_max: u32,
+    /// How many passes are handed out, 1 to 40.
+    pub passes: u32,
+}
 
 /// What a regeneration of a slot did.
 #[derive(Clone, Copy, Debug, PartialEq, Eq)]

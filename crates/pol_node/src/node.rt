@@ -1,0 +1,275 @@
+//! The calls of the node.
+ghost use Rattle.std.specs.Prelude.{◌≡◌, ◌+◌, ◌<◌, ◌≤◌, ◌∷◌, [], false, IfErr, IfOk, Ok, OnErr, OnOk, Some, drop, length, map, slice_get, true, ℕ};
+ghost use Rattle.std.specs.List.{AllByRecursion};
+ghost use Rattle.pol_model.specs.Committed.{slots_of};
+ghost use Rattle.pol_model.specs.Sizes.{IsShort};
+ghost use Rattle.pol_repo.specs.Cost.{label_peers};
+ghost use Rattle.pol_requests.specs.Readied.{is_of_policy};
+ghost use Rattle.pol_history.specs.Calls.{IsAccepted, IsSynced, IsTraced};
+ghost use Rattle.pol_history.specs.Commits.{revision_of, state_now};
+ghost use Rattle.pol_history.specs.Grows.{PassGrows, PassGrowsWhole, PassState, nothing_yet};
+ghost use Rattle.pol_history.specs.Legal.{IsLegal};
+ghost use Rattle.pol_history.specs.Look.{look};
+ghost use Rattle.pol_history.specs.Meet.{HaveMet, has, meetings_of};
+ghost use Rattle.pol_history.specs.SlotTurns.{EachTells};
+ghost use Rattle.pol_board.specs.Counts.{new_passes};
+ghost use Rattle.pol_face.specs.Answers.{IsLookOf};
+ghost use Rattle.pol_node.specs.Desk.{IsCauseOf, IsNotTraced};
+
+use crate::desk::Desk;
+use crate::report::{Config, Regen, SyncReport, TraceError, Traced};
+use crate::rows::rows_in;
+use crate::slot::Slot;
+use left_right::Absorb;
+use pol_board::{BoardWriter, LookError, NodeName, Pass, Verdict};
+use pol_data::{Memory, Steps};
+use pol_face::{Face, Op};
+use pol_history::SlotTurn;
+use pol_model::{CommitError, Committed, Query, Request};
+use pol_repo::Repo;
+use std::alloc::Global;
+use std::sync::ledger::Ledger;
+use std::sync::{Mutex, MutexGuard, Wait};
+
+/// The running node: a desk behind one lock, and a slot for each endpoint that can be live, each behind its own. It can't be
+/// dropped, and is ended by `close`.
+pub struct Node<N: NodeName, R: Wait + Drop>
+where
+    Face<N>: Absorb<Op<N>>,
+{
+    desk: Mutex<Desk<N, R>>,
+    slots: Vec<Mutex<Slot<N>>>,
+    ghost all: { length slots.items ≡ 256 },
+}
+
+/// A slot for each of these passes.
+fn slots_of_passes<N: NodeName>(
+    alloc: Global,
+    passes: Vec<Pass<N>>,
+) -> Result<Vec<Mutex<Slot<N>>>, Memory>
+    requires few { length passes.items ≤ 256 }
+    ensures { IfOk result (λ slots. length slots.items ≡ length passes.items) }
+{
+    let mut slots = Vec::new(alloc);
+    for pass in passes {
+        let number = slots.len() as u32;
+        slots.push(Mutex::new(Slot::open(number, pass)))?;
+    }
+    Ok(slots)
+}
+
+/// The slots, over the first 256 passes. The next pass is left out, and the others are handed out.
+fn seated<N: NodeName>(
+    alloc: Global,
+    places: Vec<Pass<N>>,
+) -> Result<(Vec<Mutex<Slot<N>>>, Vec<Pass<N>>), Memory>
+    requires enough { 257 ≤ length places.items }
+    ensures slots { IfOk result (λ seated. length seated.0.items ≡ 256) }
+    ensures rest { IfOk result (λ seated. seated.1.items ≡ drop 257 places.items) }
+{
+    let mut places = places;
+    let handed_out = places.split_off(257)?;
+    places.truncate(256);
+    Ok((slots_of_passes(alloc, places)?, handed_out))
+}
+
+/// Shows the history to the pass, under the lock.
+fn show<N: NodeName, W: Wait, R: Wait + Drop>(
+    rt: &W,
+    desk: &Mutex<Desk<N, R>>,
+    pass: &mut Pass<N>,
+) -> (u64, u64)
+    ensures grows { PassGrowsWhole N.options pass.old pass.new [] }
+    ensures revision { result.0 ≡ revision_of pass.new.has.history }
+    ensures slots { slots_of (state_now N.options pass.new.has.history).endpoints ≡ result.1 }
+    ensures few { result.1 ≤ 256 }
+{
+    let mut desk = desk.lock(rt);
+    let shown = desk.show(rt, pass);
+    MutexGuard::unlock(desk);
+    shown
+}
+
+/// The turn of each of these slots, one after another.
+fn turns_of<N: NodeName, W: Wait, R: Wait + Drop>(
+    rt: &W,
+    alloc: Global,
+    desk: &Mutex<Desk<N, R>>,
+    slots: &[Mutex<Slot<N>>],
+    pass: &mut Pass<N>,
+) -> Result<Vec<SlotTurn>, Memory>
+    requires few { length slots.now ≤ 256 }
+    requires legal { IsLegal N.options pass.old.has.history }
+    ensures grows { PassGrows N.options pass.old pass.new [] }
+    ensures each { IfOk result (λ turns. length turns.items ≡ length slots.now) }
+    ensures tell { IfOk result (λ turns. EachTells N.options pass.old.has.history pass.new.has.history (revision_of pass.old.has.history) 0 turns.items) }
+{
+    let mut turns = Vec::new(alloc);
+    for number in 0..slots.len() {
+        let mut slot = slots[number].lock(rt);
+        turns.push(slot.turn_for(rt, alloc, desk, number as u32, pass)?)?;
+    }
+    Ok(turns)
+}
+
+impl<N: NodeName, R: Wait + Drop> Node<N, R> {
+    /// A node over the writer and the places of a new board: one for each of 256 slots, one of the writer, and the last
+    /// ones, which are handed out. Where it is refused it has closed the writer.
+    ///
+    /// The one error is want of memory.
+    pub fn new<W: Wait>(
+        rt: &W,
+        alloc: Global,
+        config: Config,
+        writer: BoardWriter<N, R>,
+        places: Vec<Pass<N>>,
+    ) -> Result<(Node<N, R>, Vec<Pass<N>>), Memory>
+        requires options { N.options ≡ record { mode = config.mode; localhost = config.localhost; map_max = Some config.map_max } }
+        requires limit { config.map_max ≤ 65536 }
+        requires passes { (0 < config.passes) × (config.passes ≤ 40) }
+        requires empty { writer.seen ≡ [] }
+        requires places { places.items ≡ new_passes (257 + config.passes) }
+        requires handed_out { N.passes ≡ map (λ pass. pass.number) (drop 257 places.items) }
+        ensures count { IfOk result (λ made. length made.1.items ≡ config.passes) }
+        ensures those { IfOk result (λ made. map (λ pass. pass.number) made.1.items ≡ N.passes) }
+        ensures nothing { IfOk result (λ made. AllByRecursion (λ pass. pass.has ≡ nothing_yet) made.1.items) }
+        ensures apart { IfOk result (λ made. (i j : ℕ) (one other : PassState) → slice_get made.1.items i ≡ Some one
+            → slice_get made.1.items j ≡ Some other → one.number ≡ other.number → i ≡ j) }
+    {
+        let (slots, passes) = match seated(alloc, places) {
+            Ok(seated) => seated,
+            Err(error) => {
+                writer.close(rt);
+                return Err(error);
+            }
+        };
+        let repo = match Repo::new(alloc, config.mode, config.localhost) {
+            Ok(repo) => repo,
+            Err(error) => {
+                writer.close(rt);
+                return Err(error);
+            }
+        };
+        let desk = Mutex::new(Desk::open(repo, writer, config.map_max));
+        Ok((Node { desk, slots }, passes))
+    }
+
+    /// Ends it, and the writer of its board. It takes no memory.
+    pub fn close<W: Wait>(self, rt: &W) {
+        let Node {
+            desk,
+            slots: _slots,
+        } = self;
+        desk.into_inner().close(rt);
+    }
+
+    /// Commits the request. After any refusal the board's history and the repository are as before.
+    ///
+    /// `Refused` names the fault of the request at the revision that it carries. `Memory` is want of memory, and the
+    /// board's writer may then be spent.
+    pub fn commit<W: Wait, L: Ledger>(
+        &self,
+        rt: &W,
+        alloc: Global,
+        pass: &mut Pass<N>,
+        request: Request,
+        steps: &mut Steps<L>,
+    ) -> Result<Committed, CommitError>
+        requires handed_out { has N.passes pass.old.number ≡ true }
+        requires short { IsShort request }
+        ensures grows { OnOk result (PassGrowsWhole N.options pass.old pass.new (request ∷ [])) }
+        ensures accepted { IfOk result (IsAccepted N.options pass.old.number pass.old.has.history pass.new.has.history request) }
+        ensures nothing { OnErr result (PassGrowsWhole N.options pass.old pass.new []) }
+        ensures cause { IfErr result (IsCauseOf N.options pass.old.has.history pass.new.has.history request) }
+        // Only a policy may list peers that are new, which are judged by all identities.
+        ensures cost { is_of_policy request ≡ false → steps.new ≤ steps.old + label_peers (state_now N.options pass.new.has.history).policies }
+    {
+        let mut desk = self.desk.lock(rt);
+        let done = desk.commit(rt, alloc, pass, request, steps);
+        MutexGuard::unlock(desk);
+        done
+    }
+
+    /// The verdict on a packet, by the endpoint's last published map, with at most 36 steps: `Pass::look`. It takes no
+    /// memory, and waits for nobody.
+    pub fn verdict<L: Ledger>(
+        &self,
+        pass: &mut Pass<N>,
+        query: &Query,
+        steps: &mut Steps<L>,
+    ) -> Result<Verdict, LookError>
+        ensures grows { PassGrows N.options pass.old pass.new [] }
+        ensures answer { IsLookOf result (look N.options pass.new.has.history query.now) }
+        ensures forward { steps.old ≤ steps.new }
+        ensures cost { steps.new ≤ steps.old + 36 }
+    {
+        pass.look(query, steps)
+    }
+
+    /// Explains the verdict on the query's packet, by all rules, at the present revision.
+    ///
+    /// `NoEndpoint` comes exactly where no endpoint of that name is live there. `Memory` is want of memory.
+    pub fn trace<W: Wait>(
+        &self,
+        rt: &W,
+        alloc: Global,
+        pass: &mut Pass<N>,
+        query: &Query,
+    ) -> Result<Traced, TraceError>
+        ensures grows { PassGrowsWhole N.options pass.old pass.new [] }
+        ensures traced { IfOk result (λ traced. IsTraced N.options pass.old.has.history pass.new.has.history query.now traced.revision traced.trace) }
+        ensures cause { IfErr result (IsNotTraced N.options pass.old.has.history pass.new.has.history query.now) }
+    {
+        let mut desk = self.desk.lock(rt);
+        let traced = desk.trace(rt, alloc, pass, query);
+        MutexGuard::unlock(desk);
+        traced
+    }
+
+    /// Regenerates the slot: `Slot::regenerate_over`, under the slot's lock. What was done, the slot's pass has seen. There
+    /// are slots from 0 to 255; of another number it is `Gone`.
+    ///
+    /// `Memory` is want of memory: no event was added, but the board's writer may be spent.
+    pub fn regenerate<W: Wait>(&self, rt: &W, alloc: Global, slot: u32) -> Result<Regen, Memory>
+        ensures gone { 256 ≤ slot → result ≡ Ok Regen.Gone }
+    {
+        match self.slots.get(slot as usize) {
+            None => Ok(Regen::Gone),
+            Some(slot) => {
+                let mut slot = slot.lock(rt);
+                slot.regenerate_over(rt, alloc, &self.desk)
+            }
+        }
+    }
+
+    /// Brings the map of every live endpoint up to date, and shows all that to the pass.
+    ///
+    /// `Memory` is want of memory: some slots may have been reported, and the board's writer may be spent.
+    pub fn sync<W: Wait>(
+        &self,
+        rt: &W,
+        alloc: Global,
+        pass: &mut Pass<N>,
+    ) -> Result<SyncReport, Memory>
+        ensures grows { PassGrows N.options pass.old pass.new [] }
+        ensures whole { OnOk result (PassGrowsWhole N.options pass.old pass.new []) }
+        ensures synced { IfOk result (λ report. IsSynced N.options pass.old.has.history pass.new.has.history report.revision report.full) }
+    {
+        let (revision, used) = show(rt, &self.desk, pass);
+        let slots = &self.slots[..used as usize];
+        let turns = turns_of(rt, alloc, &self.desk, slots, pass)?;
+        let full = rows_in(alloc, turns)?;
+        show(rt, &self.desk, pass);
+        Ok(SyncReport { revision, full })
+    }
+
+    /// Shows one history to all: they have met.
+    pub fn meet<W: Wait>(&self, rt: &W, passes: &mut [Pass<N>])
+        ensures met { HaveMet N.options N.passes (meetings_of passes.old passes.new) }
+        ensures numbers { map (λ pass. pass.number) passes.new ≡ map (λ pass. pass.number) passes.old }
+    {
+        let mut desk = self.desk.lock(rt);
+        desk.meet(rt, passes);
+        MutexGuard::unlock(desk);
+    }
+}
