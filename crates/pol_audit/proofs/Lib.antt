@@ -12,3 +12,5 @@ pub mod Audited
 pub mod Shares
 pub mod Spelled
 pub mod Unique
+pub mod Following
+pub mod Reading

@@ -1,12 +1,15 @@
 -- The words of a line: which bytes they have, and that they tell the entry.
-use Rattle.std.proofs.Common.{◌≡◌, ◌≢◌, ℕ, zero, suc, ◌+◌, ◌-◌, ◌<◌, ◌≤◌, ◌^◌, ◌==◌, not, Bool, true, false, List, [], ◌∷◌, ◌++◌, codes, length, get_or, decimal, Bor, Option, Some, None, IfSome, IfNone, Result, Ok, Err, MatchResult, refl, sym, ap, subst, ◌∙◌, inl, inr, append_assoc, arith}
+use Rattle.std.proofs.Common.{◌≡◌, ◌≢◌, ℕ, zero, suc, ◌+◌, ◌-◌, ◌<◌, ◌≤◌, ◌^◌, ◌==◌, nat_lt, not, Bool, true, false, List, [], ◌∷◌, ◌++◌, codes, length, get_or, decimal, Bor, Option, Some, None, IfSome, IfNone, Result, Ok, Err, MatchResult, refl, sym, ap, subst, ◌∙◌, inl, inr, append_assoc, arith}
 use Rattle.std.specs.List.{All, Contains, list_all}
 use Rattle.std.specs.Result.{result_ok}
+use Rattle.std.specs.Str.{IsAscii}
 use Rattle.std.specs.Str.Parse.{AllDigits, ParsesUnsigned, digits_value}
-use Rattle.std.proofs.lemmas.Bool.{cases_lt, eq-eqb}
-use Rattle.std.proofs.lemmas.Fmt.{decimal_digit, decimal_injective, decimal_is_IsNumeral, decimal-digits_value, digits_decimal, first_decimal}
+use Rattle.std.proofs.lemmas.Bool.{and_parts, cases_lt, eq-eqb, le-ltb}
+use Rattle.std.proofs.lemmas.Fmt.{IsAscii-decimal, decimal_digit, decimal_injective, decimal_is_IsNumeral, decimal-digits_value, digits_decimal, first_decimal}
 use Rattle.std.proofs.lemmas.List.{get_or_default}
 use Rattle.std.proofs.lemmas.List.Elements.{All-append, All-cons, Contains-get_or}
+use Rattle.std.proofs.lemmas.Str.{IsAscii-append}
+use Rattle.std.proofs.lemmas.Str.Ascii.{IsAscii-nil}
 use Rattle.std.proofs.lemmas.Str.Parse.{IsNumeralModel, not_in_digits, numerals_by_value, parse_plain, tells_digits}
 use Rattle.std.proofs.lemmas.Str.Pattern.{IsSplitOnceResult, split_after, split_parts}
 use Rattle.pol_data.proofs.Members.{list_all-in}
@@ -20,7 +23,7 @@ use Rattle.pol_mapkey.specs.declared.Kind.{Kind}
 use Rattle.pol_mapkey.specs.declared.Kind.TheVariants.{Allow, Deny}
 use Rattle.pol_mapkey.specs.Entries.{Entry}
 use Rattle.pol_mapkey.proofs.Keys.{key_same}
-use Rattle.pol_audit.specs.Text.{IsKept, Lacks, direction_word, entry_words, kind_word, line_of, port_text, proto_word, spaced}
+use Rattle.pol_audit.specs.Text.{IsKept, Lacks, direction_word, entry_words, kind_word, line_of, port_text, proto_word, said_words, spaced}
 
 -- ---- bytes that a text lacks
 pub lacks_by : (c : ℕ) (xs : List ℕ) → list_all (λ b. not (b == c)) xs ≡ true → Lacks c xs
@@ -91,6 +94,11 @@ cut_tells c (x ∷ a) b (y ∷ a') b' lacks lacks' is =
     let rest = cut_tells c a b a' b' (later c x a lacks) (later c y a' lacks') (tails x y (a ++ c ∷ b) (a' ++ c ∷ b') is) in
     ((let head = heads x y (a ++ c ∷ b) (a' ++ c ∷ b') is in λ i. head i ∷ rest.0 i), rest.1)
 
+-- a text with that byte in it doesn't lack it
+has_it : (c : ℕ) (a b : List ℕ) → Lacks c (a ++ c ∷ b) → ⊥
+has_it c [] b lacks = lacks 0 0 (omega arith) refl
+has_it c (x ∷ a) b lacks = has_it c a b (later c x (a ++ c ∷ b) lacks)
+
 -- ---- words tell what they stand for
 first : (a b : List ℕ) → a ≡ b → get_or a 0 0 ≡ get_or b 0 0
 first a b is = ap (λ xs. get_or xs 0 0) is
@@ -125,6 +133,52 @@ kind_tells Allow Deny is = absurd (let at = first (codes "allow") (codes "deny")
 kind_tells Deny Allow is = absurd (let at = first (codes "deny") (codes "allow") is in omega arith)
 kind_tells Deny Deny is = refl
 
+-- ---- a line has a newline byte, and is ASCII
+pub no_line : (e : Entry) (bytes behind : List ℕ) → Lacks 10 bytes → bytes ≢ line_of e ++ behind
+no_line e bytes behind lacks is = has_it 10 (entry_words e) behind (subst (Lacks 10) (is ∙ append_assoc (entry_words e) (codes "\n") behind) lacks)
+
+below_by : (x : ℕ) → nat_lt x 128 ≡ true → x < 128
+below_by x t = elim (cases_lt x 128) [
+  | inl below ↦ below
+  | inr above ↦ absurd (let wrong : true ≡ false = sym t ∙ le-ltb x 128 above in let e : ⊥ = cc in e)
+]
+
+ascii_by : (xs : List ℕ) → list_all (λ b. nat_lt b 128) xs ≡ true → IsAscii xs
+ascii_by [] t i = IsAscii-nil i
+ascii_by (x ∷ xs) t zero = below_by x (and_parts (nat_lt x 128) (list_all (λ b. nat_lt b 128) xs) t).0
+ascii_by (x ∷ xs) t (suc i) = ascii_by xs (and_parts (nat_lt x 128) (list_all (λ b. nat_lt b 128) xs) t).1 i
+
+direction_ascii : (dir : Direction) → IsAscii (direction_word dir)
+direction_ascii Ingress = ascii_by (codes "ingress") refl
+direction_ascii Egress = ascii_by (codes "egress") refl
+
+proto_ascii : (proto : KeyProto) → IsAscii (proto_word proto)
+proto_ascii Every = ascii_by (codes "every") refl
+proto_ascii Tcp = ascii_by (codes "TCP") refl
+proto_ascii Udp = ascii_by (codes "UDP") refl
+proto_ascii Sctp = ascii_by (codes "SCTP") refl
+
+kind_ascii : (kind : Kind) → IsAscii (kind_word kind)
+kind_ascii Allow = ascii_by (codes "allow") refl
+kind_ascii Deny = ascii_by (codes "deny") refl
+
+spaced_ascii : (a b : List ℕ) → IsAscii a → IsAscii b → IsAscii (spaced a b)
+spaced_ascii a b front back = IsAscii-append a (codes " " ++ b) front (IsAscii-append (codes " ") b (ascii_by (codes " ") refl) back)
+
+port_ascii : (port : PortPrefix) → port.bits < 2 ^ 16 → IsAscii (port_text port)
+port_ascii port small =
+    let short = port.short in
+    IsAscii-append (decimal port.bits) (codes "/" ++ decimal port.len) (IsAscii-decimal port.bits (omega arith))
+    (IsAscii-append (codes "/") (decimal port.len) (ascii_by (codes "/") refl) (IsAscii-decimal port.len (omega arith)))
+
+pub words_ascii : (e : Entry) → IsKept e → IsAscii (entry_words e)
+words_ascii e kept =
+    let id = kept.0 in
+    spaced_ascii (direction_word e.0.dir) _ (direction_ascii e.0.dir)
+    (spaced_ascii (decimal e.0.id) _ (IsAscii-decimal e.0.id (omega arith))
+    (spaced_ascii (proto_word e.0.proto) _ (proto_ascii e.0.proto)
+    (spaced_ascii (port_text e.0.port) (kind_word e.1) (port_ascii e.0.port kept.1) (kind_ascii e.1))))
+
 -- ---- the words of an entry tell it
 pub port_tells : (p q : PortPrefix) → p.bits < 2 ^ 16 → q.bits < 2 ^ 16 → port_text p ≡ port_text q → p ≡ q
 port_tells p q small small' is =
@@ -132,27 +186,21 @@ port_tells p q small small' is =
     let parts = cut_tells 47 (decimal p.bits) (decimal p.len) (decimal q.bits) (decimal q.len) (decimal_lacks 47 p.bits (omega arith) (omega arith)) (decimal_lacks 47 q.bits (omega arith) (omega arith)) is in
     prefix_same p q (decimal_injective p.bits q.bits (omega arith) (omega arith) parts.0) (decimal_injective p.len q.len (omega arith) (omega arith) parts.1)
 
--- what stands behind its direction, its number and its protocol
-abbrev behind_proto : Entry → List ℕ
-behind_proto e = spaced (port_text e.0.port) (kind_word e.1)
-
-abbrev behind_id : Entry → List ℕ
-behind_id e = spaced (proto_word e.0.proto) (behind_proto e)
-
-abbrev behind_dir : Entry → List ℕ
-behind_dir e = spaced (decimal e.0.id) (behind_id e)
+pub said_tells : (id id' : ℕ) (proto proto' : KeyProto) (port port' : PortPrefix) (kind kind' : Kind) → id < 2 ^ 32 → id' < 2 ^ 32 → port.bits < 2 ^ 16 → port'.bits < 2 ^ 16
+    → said_words id proto port kind ≡ said_words id' proto' port' kind' → (id ≡ id') × (proto ≡ proto') × (port ≡ port') × (kind ≡ kind')
+said_tells id id' proto proto' port port' kind kind' low low' small small' is =
+    let two = cut_tells 32 (decimal id) (spaced (proto_word proto) (spaced (port_text port) (kind_word kind))) (decimal id') (spaced (proto_word proto') (spaced (port_text port') (kind_word kind')))
+        (decimal_lacks 32 id (omega arith) (omega arith)) (decimal_lacks 32 id' (omega arith) (omega arith)) is in
+    let three = cut_tells 32 (proto_word proto) (spaced (port_text port) (kind_word kind)) (proto_word proto') (spaced (port_text port') (kind_word kind')) (proto_plain proto).0 (proto_plain proto').0 two.1 in
+    let four = cut_tells 32 (port_text port) (kind_word kind) (port_text port') (kind_word kind') (port_lacks 32 (omega arith) port small) (port_lacks 32 (omega arith) port' small') three.1 in
+    (decimal_injective id id' (omega arith) (omega arith) two.0, proto_tells proto proto' three.0, port_tells port port' small small' four.0, kind_tells kind kind' four.1)
 
 pub words_tell : (e f : Entry) → IsKept e → IsKept f → entry_words e ≡ entry_words f → e ≡ f
 words_tell e f kept kept' is =
-    let id = kept.0 in let id' = kept'.0 in
-    let one = cut_tells 32 (direction_word e.0.dir) (behind_dir e) (direction_word f.0.dir) (behind_dir f) (direction_plain e.0.dir).0 (direction_plain f.0.dir).0 is in
-    let two = cut_tells 32 (decimal e.0.id) (behind_id e) (decimal f.0.id) (behind_id f) (decimal_lacks 32 e.0.id (omega arith) (omega arith)) (decimal_lacks 32 f.0.id (omega arith) (omega arith)) one.1 in
-    let three = cut_tells 32 (proto_word e.0.proto) (behind_proto e) (proto_word f.0.proto) (behind_proto f) (proto_plain e.0.proto).0 (proto_plain f.0.proto).0 two.1 in
-    let four = cut_tells 32 (port_text e.0.port) (kind_word e.1) (port_text f.0.port) (kind_word f.1) (port_lacks 32 (omega arith) e.0.port kept.1) (port_lacks 32 (omega arith) f.0.port kept'.1) three.1 in
-    let key = key_same e.0 f.0 (direction_tells e.0.dir f.0.dir one.0) (decimal_injective e.0.id f.0.id (omega arith) (omega arith) two.0)
-        (proto_tells e.0.proto f.0.proto three.0) (port_tells e.0.port f.0.port kept.1 kept'.1 four.0) in
-    let kind = kind_tells e.1 f.1 four.1 in
-    λ i. (key i, kind i)
+    let one = cut_tells 32 (direction_word e.0.dir) (said_words e.0.id e.0.proto e.0.port e.1) (direction_word f.0.dir) (said_words f.0.id f.0.proto f.0.port f.1) (direction_plain e.0.dir).0 (direction_plain f.0.dir).0 is in
+    let rest = said_tells e.0.id f.0.id e.0.proto f.0.proto e.0.port f.0.port e.1 f.1 kept.0 kept'.0 kept.1 kept'.1 one.1 in
+    let key = key_same e.0 f.0 (direction_tells e.0.dir f.0.dir one.0) rest.0 rest.1 rest.2 in
+    λ i. (key i, rest.3 i)
 
 -- so does its line, and where it ends
 pub line_tells : (e f : Entry) (a b : List ℕ) → IsKept e → IsKept f → line_of e ++ a ≡ line_of f ++ b → (e ≡ f) × (a ≡ b)
@@ -206,3 +254,7 @@ module _ (c : ℕ) (text : List ℕ) (low : c < 128) where
   -- and one that wasn't cut isn't such words
   pub cut_none : (front back : List ℕ) → IsSplitOnceResult c text None → Lacks c front → text ≢ front ++ c ∷ back
   cut_none front back cut lacks is = split_after c text front back None cut low is (lacks_at c front lacks)
+
+pub number_fits : {E : Type 0} (text : List ℕ) (r : Result ℕ E) (o : Option ℕ) → o ≡ result_ok r → get_or text 0 0 ≢ 43 → (get_or text 0 0 ≡ 48 → length text ≡ 1) → ParsesUnsigned 32 10 text r → IfSome o (λ n. n < 2 ^ 32)
+number_fits {E = E} text (Ok n) o is no_plus no_zero h = subst (λ p. IfSome p (λ m. m < 2 ^ 32)) (sym is) (parse_plain_decimal {E = E} text (Ok n) no_plus no_zero h).0
+number_fits {E = E} text (Err e) o is no_plus no_zero h = subst (λ p. IfSome p (λ m. m < 2 ^ 32)) (sym is) tt

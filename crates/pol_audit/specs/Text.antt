@@ -38,10 +38,13 @@ spaced front back = front ++ (codes " " ++ back)
 abbrev pub port_text : PortPrefix → List ℕ
 port_text port = decimal port.bits ++ (codes "/" ++ decimal port.len)
 
+-- the words of an entry behind its direction
+abbrev pub said_words : ℕ → KeyProto → PortPrefix → Kind → List ℕ
+said_words id proto port kind = spaced (decimal id) (spaced (proto_word proto) (spaced (port_text port) (kind_word kind)))
+
 -- the words of an entry
 abbrev pub entry_words : Entry → List ℕ
-entry_words e =
-    spaced (direction_word e.0.dir) (spaced (decimal e.0.id) (spaced (proto_word e.0.proto) (spaced (port_text e.0.port) (kind_word e.1))))
+entry_words e = spaced (direction_word e.0.dir) (said_words e.0.id e.0.proto e.0.port e.1)
 
 -- its line, which ends with a newline byte
 abbrev pub line_of : Entry → List ℕ
