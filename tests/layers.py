@@ -15,15 +15,16 @@ import program
 PAGE = program.TOP / "docs" / "ARCHITECTURE.md"
 BLOCK = re.compile(r"(?ms)^```layers\n(.*?)^```$")
 UNKNOWN = "?"
+# What was found below each crate: crates.txt has very many ways down.
+BELOW = {}
 
 
 def below(name, listed):
     """All crates of the repository that a crate stands on."""
-    found = set()
-    for it in listed[name]:
-        if it in listed:
-            found |= {it} | below(it, listed)
-    return found
+    if name not in BELOW:
+        own = [it for it in listed[name] if it in listed]
+        BELOW[name] = {*own}.union(*(below(it, listed) for it in own))
+    return BELOW[name]
 
 
 def nearest(name, listed):
@@ -33,7 +34,7 @@ def nearest(name, listed):
 
 
 def height(name, listed):
-    return 1 + max((height(it, listed) for it in listed[name] if it in listed), default=0)
+    return 1 + max((height(it, listed) for it in nearest(name, listed)), default=0)
 
 
 def there():

@@ -5,6 +5,7 @@
 #![tactic(auto)]
 
 mod generate;
+pub mod laws;
 mod line;
 mod serial;
 mod summary;
