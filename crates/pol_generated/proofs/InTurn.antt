@@ -71,7 +71,7 @@ some_carrier k (line ∷ lines) some =
 
 -- ---- what stands before a line
 
--- of the lines before this one c carry a number, the numbers from 1 to c
+-- no line before this one carries a number above c, and one carries c, unless that is 0
 pub record IsCounted (lines : List Line) (i c : ℕ) : Type 0 where
   pub most : (j session : ℕ) (request : Request) (k : ℕ) (identity : Option ℕ)
       → IsLine lines j (Ok (command.Commit session request)) (answer.Committed k identity) → j < i → k ≤ c
