@@ -44,7 +44,8 @@ use Rattle.pol_face.specs.Changes.{table_held, table_shown}
 use Rattle.pol_face.specs.Rows.{Leads, table_in}
 use Rattle.pol_taken.specs.OfState.{IsTakenOf}
 use Rattle.pol_taken.specs.declared.taken.Taken.{Taken}
-use Rattle.pol_node.specs.Finish.{TellsPublished, WasBlocked, WasPublished, WasReportedAs, table_then}
+use Rattle.pol_follow.specs.Followed.{table_then}
+use Rattle.pol_node.specs.Finish.{TellsPublished, WasBlocked, WasPublished, WasReportedAs}
 
 -- ---- tables by their entries
 

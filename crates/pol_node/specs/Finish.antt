@@ -1,10 +1,6 @@
 -- How a finish ends, where `old` is what the slot's pass had seen before it, and `new` what it has seen after it.
-use Rattle.std.specs.Prelude.{◌≡◌, ◌≢◌, ℕ, ◌≤◌, Bool, true, false, List, length, slice_get, Option, None, Some}
-use Rattle.std.specs.FinMap as finite
-use Rattle.pol_book.specs.Asked.{table_at}
-use Rattle.pol_edits.specs.Changes.{table_of}
+use Rattle.std.specs.Prelude.{◌≡◌, ◌≢◌, ℕ, ◌≤◌, Bool, true, false, List, length, slice_get, Option, Some}
 use Rattle.pol_mapkey.specs.Entries.{Entry as MapEntry}
-use Rattle.pol_trie.specs.PolicyMap.{PolicyMap}
 use Rattle.pol_model.specs.declared.options.Options.{Options}
 use Rattle.pol_history.specs.declared.event.EndpointId.{EndpointId}
 use Rattle.pol_history.specs.declared.event.HistoryEvent.{HistoryEvent}
@@ -17,11 +13,6 @@ use Rattle.pol_node.specs.declared.report.Finished.{Finished}
 use Rattle.pol_node.specs.declared.report.Finished.TheVariants as done
 use Rattle.pol_node.specs.declared.report.Regen.{Regen}
 use Rattle.pol_node.specs.declared.report.Regen.TheVariants as regen
-
--- the table of the endpoint's canonical map at the revision, the empty one where there is no revision
-abbrev pub table_then : Options → List HistoryEvent → EndpointId → Option ℕ → PolicyMap
-table_then options history endpoint None = finite.empty
-table_then options history endpoint (Some revision) = table_of (table_at options history endpoint revision)
 
 -- the endpoint's canonical map at the revision was published past `old`
 pub record WasPublished (options : Options) (endpoint : EndpointId) (revision : ℕ) (old new : List HistoryEvent) : Type 0 where

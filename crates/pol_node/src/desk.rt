@@ -4,6 +4,7 @@ ghost use Rattle.std.specs.Arc.{arc_value};
 ghost use Rattle.pol_chains.specs.Moves.{TellsMovesSince};
 ghost use Rattle.pol_distill.specs.Distilled.{distilled};
 ghost use Rattle.pol_edits.specs.Changes.{changed, table_of};
+ghost use Rattle.pol_follow.specs.Followed.{table_then};
 ghost use Rattle.pol_history.specs.Calls.{IsAccepted, IsTraced};
 ghost use Rattle.pol_history.specs.Commits.{Lives, commits_in, revision_of, state_now};
 ghost use Rattle.pol_history.specs.Grows.{PassGrowsWhole};
@@ -18,7 +19,7 @@ ghost use Rattle.pol_repo.specs.Cost.{label_peers};
 ghost use Rattle.pol_requests.specs.Readied.{is_of_policy};
 ghost use Rattle.pol_taken.specs.OfState.{IsTakenOf};
 ghost use Rattle.pol_node.specs.Desk.{IsAt, IsCauseOf, IsNotTraced};
-ghost use Rattle.pol_node.specs.Finish.{Finishes, TellsPublished, table_then};
+ghost use Rattle.pol_node.specs.Finish.{Finishes, TellsPublished};
 
 use crate::report::{Finished, TraceError, Traced};
 use left_right::Absorb;
