@@ -14,3 +14,4 @@ pub mod Spelled
 pub mod Unique
 pub mod Following
 pub mod Reading
+pub mod Lengths

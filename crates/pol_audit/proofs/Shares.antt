@@ -1,5 +1,5 @@
 -- How many ports and ranges there are: what bounds the steps of an audit.
-use Rattle.std.proofs.Common.{◌≡◌, ℕ, ◌+◌, ◌-◌, ◌*◌, ◌<◌, ◌≤◌, ◌==◌, ◌||◌, Bool, true, false, cond, List, [], ◌∷◌, ◌++◌, count_by, filter, length, map, get_or, nat_lt, refl, sym, ap, subst, ◌∙◌, inl, inr, ◌⊎◌, ◌↔◌, length-append, arith}
+use Rattle.std.proofs.Common.{◌≡◌, ℕ, ◌+◌, ◌-◌, ◌*◌, ◌<◌, ◌≤◌, ◌==◌, ◌||◌, Bool, true, false, cond, List, [], ◌∷◌, ◌++◌, count_by, filter, length, map, refl, sym, ap, subst, ◌∙◌, inl, inr, ◌⊎◌, ◌↔◌, length-append, arith}
 use Rattle.std.specs.BTreeSet.{insert_key}
 use Rattle.std.specs.Cmp.{nat_cmp_is}
 use Rattle.std.specs.List.{Contains, flat_map, sum_by}
@@ -62,8 +62,16 @@ pub all_cuts_few : (proto : Proto) (left right left_every right_every : List Ent
 all_cuts_few proto left right left_every right_every =
     let a = flat_map (cuts_at proto) left in let b = flat_map (cuts_at proto) right in
     let c = flat_map (cuts_at proto) left_every in let d = flat_map (cuts_at proto) right_every in
-    omega (arith, length-append a b, length-append (a ++ b) c, length-append ((a ++ b) ++ c) d,
-    cuts_few proto left, cuts_few proto right, cuts_few proto left_every, cuts_few proto right_every)
+    omega (
+      arith,
+      length-append a b,
+      length-append (a ++ b) c,
+      length-append ((a ++ b) ++ c) d,
+      cuts_few proto left,
+      cuts_few proto right,
+      cuts_few proto left_every,
+      cuts_few proto right_every,
+    )
 
 -- ---- the entries of a number and of 0
 module _ (p q : Entry → Bool) (apart : (e : Entry) → p e ≡ true → q e ≡ false) where
@@ -143,11 +151,13 @@ module _ (k : ℕ) where
     | inr order ↦ elim order [
       | inl below ↦ subst (IsStrictlySortedBy nat_cmp) (sym (place_is x xs Less (nat_cmp_is k x Less below)))
           ((less k x below, every-from_in (λ y. nat_cmp k y ≡ Less) xs (λ y there. less k y (let above = above_head x xs up y (Contains-from_In xs y there) in omega arith))), up)
-      | inr above ↦ subst (IsStrictlySortedBy nat_cmp) (sym (place_is x xs Greater (nat_cmp_is k x Greater above)))
-          (every-from_in (λ y. nat_cmp x y ≡ Less) (insert_key nat_cmp xs k) (λ y there. less x y (elim (from_placed xs y there) [
-            | inl is ↦ omega (arith, is)
-            | inr old ↦ above_head x xs up y (Contains-from_In xs y old)
-          ])), placed_ascends xs up.1)
+      | inr above ↦ subst (IsStrictlySortedBy nat_cmp) (sym (place_is x xs Greater (nat_cmp_is k x Greater above))) (
+        every-from_in (λ y. nat_cmp x y ≡ Less) (insert_key nat_cmp xs k) (λ y there. less x y (elim (from_placed xs y there) [
+          | inl is ↦ omega (arith, is)
+          | inr old ↦ above_head x xs up y (Contains-from_In xs y old)
+        ])),
+        placed_ascends xs up.1,
+      )
     ]
   ]
 

@@ -1,6 +1,6 @@
 -- The words of a line: which bytes they have, and that they tell the entry.
-use Rattle.std.proofs.Common.{◌≡◌, ◌≢◌, ℕ, zero, suc, ◌+◌, ◌-◌, ◌<◌, ◌≤◌, ◌^◌, ◌==◌, nat_lt, not, Bool, true, false, List, [], ◌∷◌, ◌++◌, codes, length, get_or, decimal, Bor, Option, Some, None, IfSome, IfNone, Result, Ok, Err, MatchResult, refl, sym, ap, subst, ◌∙◌, inl, inr, append_assoc, arith}
-use Rattle.std.specs.List.{All, Contains, list_all}
+use Rattle.std.proofs.Common.{◌≡◌, ◌≢◌, ℕ, zero, suc, ◌<◌, ◌^◌, ◌==◌, nat_lt, not, true, false, List, [], ◌∷◌, ◌++◌, codes, length, get_or, decimal, Bor, Option, Some, None, IfSome, IfNone, Result, Ok, Err, MatchResult, refl, sym, ap, subst, ◌∙◌, inl, inr, append_assoc, arith}
+use Rattle.std.specs.List.{list_all}
 use Rattle.std.specs.Result.{result_ok}
 use Rattle.std.specs.Str.{IsAscii}
 use Rattle.std.specs.Str.Parse.{AllDigits, ParsesUnsigned, digits_value}
@@ -190,7 +190,7 @@ pub said_tells : (id id' : ℕ) (proto proto' : KeyProto) (port port' : PortPref
     → said_words id proto port kind ≡ said_words id' proto' port' kind' → (id ≡ id') × (proto ≡ proto') × (port ≡ port') × (kind ≡ kind')
 said_tells id id' proto proto' port port' kind kind' low low' small small' is =
     let two = cut_tells 32 (decimal id) (spaced (proto_word proto) (spaced (port_text port) (kind_word kind))) (decimal id') (spaced (proto_word proto') (spaced (port_text port') (kind_word kind')))
-        (decimal_lacks 32 id (omega arith) (omega arith)) (decimal_lacks 32 id' (omega arith) (omega arith)) is in
+    (decimal_lacks 32 id (omega arith) (omega arith)) (decimal_lacks 32 id' (omega arith) (omega arith)) is in
     let three = cut_tells 32 (proto_word proto) (spaced (port_text port) (kind_word kind)) (proto_word proto') (spaced (port_text port') (kind_word kind')) (proto_plain proto).0 (proto_plain proto').0 two.1 in
     let four = cut_tells 32 (port_text port) (kind_word kind) (port_text port') (kind_word kind') (port_lacks 32 (omega arith) port small) (port_lacks 32 (omega arith) port' small') three.1 in
     (decimal_injective id id' (omega arith) (omega arith) two.0, proto_tells proto proto' three.0, port_tells port port' small small' four.0, kind_tells kind kind' four.1)
@@ -206,7 +206,7 @@ words_tell e f kept kept' is =
 pub line_tells : (e f : Entry) (a b : List ℕ) → IsKept e → IsKept f → line_of e ++ a ≡ line_of f ++ b → (e ≡ f) × (a ≡ b)
 line_tells e f a b kept kept' is =
     let parts = cut_tells 10 (entry_words e) a (entry_words f) b (words_lack_newline e kept) (words_lack_newline f kept')
-        (sym (append_assoc (entry_words e) (codes "\n") a) ∙ is ∙ append_assoc (entry_words f) (codes "\n") b) in
+    (sym (append_assoc (entry_words e) (codes "\n") a) ∙ is ∙ append_assoc (entry_words f) (codes "\n") b) in
     (words_tell e f kept kept' parts.0, parts.1)
 
 -- ---- numbers

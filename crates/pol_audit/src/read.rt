@@ -41,10 +41,7 @@ fn behind_table<'a>(
 }
 
 /// The entry of the first line, where it may stand behind the table, and the bytes behind that line.
-fn next_entry<'a>(
-    table: &[(MapKey, Kind)],
-    bytes: &'a [u8],
-) -> Option<((MapKey, Kind), &'a [u8])>
+fn next_entry<'a>(table: &[(MapKey, Kind)], bytes: &'a [u8]) -> Option<((MapKey, Kind), &'a [u8])>
     requires { IsTable table.now }
     ensures some { IfSome result (λ found. bytes.now ≡ line_of found.0 ++ found.1.now) }
     ensures kept { IfSome result (λ found. IsKept found.0) }

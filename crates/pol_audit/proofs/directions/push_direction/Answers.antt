@@ -24,9 +24,9 @@ returns g c =
     let old = c.args.out.now.items in
     let new = c.push_numbers.new.out.items in
     let extent = extent_is dir left right c.deref.result.now c.deref-2.result.now c.deref-3.result.now c.deref-4.result.now numbers c.deref-5.result.now
-        (c.deref.ensures.value ∙ c.in_ok-left_part.ensures) (c.deref-2.ensures.value ∙ c.in_ok-right_part.ensures)
-        (c.deref-3.ensures.value ∙ c.in_ok-left_part.ensures) (c.deref-4.ensures.value ∙ c.in_ok-right_part.ensures) c.deref-5.ensures.value
-        c.in_ok-numbers.ensures.ascend c.in_ok-numbers.ensures.members in
+    (c.deref.ensures.value ∙ c.in_ok-left_part.ensures) (c.deref-2.ensures.value ∙ c.in_ok-right_part.ensures)
+    (c.deref-3.ensures.value ∙ c.in_ok-left_part.ensures) (c.deref-4.ensures.value ∙ c.in_ok-right_part.ensures) c.deref-5.ensures.value
+    c.in_ok-numbers.ensures.ascend c.in_ok-numbers.ensures.members in
     let cost = c.push_numbers.ensures.cost in
     record {
       grown = on_ok c.push_numbers.result _ _ c.push_numbers.ensures.grown (λ made. (

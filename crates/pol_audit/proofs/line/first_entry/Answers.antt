@@ -22,4 +22,4 @@ returns-in-Some-clause-kept c = c.entry_before.ensures.kept
 pub returns-in-Some-clause-none : goal.returns-in-Some-clause-none
 returns-in-Some-clause-none c = on_none c.entry_before.result _ _ c.entry_before.ensures.none (λ none e behind kept is.
     none e kept (cut_tells 10 c.in-Some.line.now c.in-Some.behind.now (entry_words e) behind c.in-Some.ensures.one (words_lack_newline e kept)
-        (sym c.in-Some.ensures.some ∙ is ∙ append_assoc (entry_words e) (codes "\n") behind)).0)
+    (sym c.in-Some.ensures.some ∙ is ∙ append_assoc (entry_words e) (codes "\n") behind)).0)

@@ -29,4 +29,4 @@ returns-in-Some-clause-table c = c.behind_table.ensures.table
 pub returns-in-Some-clause-none : goal.returns-in-Some-clause-none
 returns-in-Some-clause-none c = on_none c.behind_table.result _ _ c.behind_table.ensures.none (λ none e behind kept up is.
     none (subst (λ x. IsTable (c.args.table.now ++ x ∷ []))
-        (line_tells e c.in-Some.entry behind c.in-Some.behind.now kept c.in-Some.ensures.kept (sym is ∙ c.in-Some.ensures.some)).0 up))
+    (line_tells e c.in-Some.entry behind c.in-Some.behind.now kept c.in-Some.ensures.kept (sym is ∙ c.in-Some.ensures.some)).0 up))
