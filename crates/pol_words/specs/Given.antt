@@ -7,6 +7,7 @@ use Rattle.clap.specs.Kinds.{Kinds}
 use Rattle.clap.specs.ValueTests.{is_unsigned_in}
 use Rattle.pol_model.specs.declared.options.Mode.{Mode}
 use Rattle.pol_model.specs.declared.options.Mode.TheVariants.{Default, Always, Never}
+use Rattle.pol_words.specs.declared.TheConstants.{MAP_MAX}
 use Rattle.pol_words.specs.declared.Words.{Words}
 use Rattle.pol_words.specs.Grammar.{grammar}
 
@@ -53,7 +54,7 @@ generate_in rows = if_given (number_in 1 10000) (first_of (codes "generate") row
 
 abbrev pub words_of : Option ℕ → Option Mode → Option Bool → Option (Option ℕ) → Option Words
 words_of (Some workers) (Some mode) (Some localhost) (Some generate) = Some (record {
-  options = record { mode = mode; localhost = localhost; map_max = None };
+  options = record { mode = mode; localhost = localhost; map_max = Some MAP_MAX };
   workers = workers;
   generate = generate;
 })

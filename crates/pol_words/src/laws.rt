@@ -6,11 +6,11 @@ ghost use Rattle.pol_words.specs.Given.{words_given, words_fit};
 
 /// What some words give ('profile').
 pub fn words_that_fit()
-    ensures none { words_given [] ≡ Some (record { options = record { mode = Default; localhost = true; map_max = None }; workers = 2; generate = None }) }
+    ensures none { words_given [] ≡ Some (record { options = record { mode = Default; localhost = true; map_max = Some 16384 }; workers = 2; generate = None }) }
     ensures all { words_given (codes "--generate" ∷ codes "10000" ∷ codes "--workers=0" ∷ codes "--allow-localhost" ∷ codes "policy" ∷ codes "--enable-policy=never" ∷ [])
-        ≡ Some (record { options = record { mode = Never; localhost = false; map_max = None }; workers = 0; generate = Some 10000 }) }
+        ≡ Some (record { options = record { mode = Never; localhost = false; map_max = Some 16384 }; workers = 0; generate = Some 10000 }) }
     ensures greatest { words_given (codes "--workers" ∷ codes "8" ∷ codes "--generate" ∷ codes "1" ∷ codes "--enable-policy" ∷ codes "always" ∷ [])
-        ≡ Some (record { options = record { mode = Always; localhost = true; map_max = None }; workers = 8; generate = Some 1 }) }
+        ≡ Some (record { options = record { mode = Always; localhost = true; map_max = Some 16384 }; workers = 8; generate = Some 1 }) }
     ensures end { words_fit (codes "--" ∷ []) ≡ true }
 {}
 

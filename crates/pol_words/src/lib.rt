@@ -18,10 +18,13 @@ use std::alloc::Global;
 
 pub mod laws;
 
+/// The most entries of a policy map that is published (Cilium, `bpf-policy-map-max`).
+pub const MAP_MAX: u32 = 16_384;
+
 /// What the words of a command line say ('profile').
 #[derive(Clone, Copy, Debug, PartialEq, Eq)]
 pub struct Words {
-    /// The options of the run. No map has a limit.
+    /// The options of the run. Maps of more than `MAP_MAX` entries aren't published.
     pub options: Options,
     /// How many workers, 0 to 8.
     pub workers: u64,
@@ -86,7 +89,8 @@ fn command<'a>(alloc: Global) -> Result<Command<'a>, Memory>
 }
 
 fn number_in(text: &str, least: u64, greatest: u64) -> Option<u64>
-    ensures { result ≡ number_in least greatest text.now }
+    ensures number { result ≡ number_in least greatest text.now }
+    ensures range { IfSome result (λ n. (least ≤ n) × (n ≤ greatest)) }
 {
     match text.parse::<u64>() {
         Ok(number) => {
@@ -139,7 +143,8 @@ fn text_in<'a>(matches: &ArgMatches<'a>, name: &str) -> Option<&'a str>
 }
 
 fn workers_in(matches: &ArgMatches) -> Option<u64>
-    ensures { result ≡ workers_in (rows_of (found_of matches.now)) }
+    ensures given { result ≡ workers_in (rows_of (found_of matches.now)) }
+    ensures range { IfSome result (λ workers. workers ≤ 8) }
 {
     match text_in(matches, "workers") {
         None => None,
@@ -186,7 +191,8 @@ fn words_of(
     generate: Option<Option<u32>>,
 ) -> Option<Words>
     ensures words { result ≡ words_of workers mode localhost generate }
-    ensures unlimited { IfSome result (λ given. given.options.map_max ≡ None) }
+    ensures limited { IfSome result (λ given. given.options.map_max ≡ Some MAP_MAX) }
+    ensures workers { IfSome result (λ given. Some given.workers ≡ workers) }
     ensures generate { IfSome result (λ given. Some given.generate ≡ generate) }
 {
     match (workers, mode, localhost, generate) {
@@ -194,7 +200,7 @@ fn words_of(
             options: Options {
                 mode,
                 localhost,
-                map_max: None,
+                map_max: Some(MAP_MAX),
             },
             workers,
             generate,
@@ -205,16 +211,13 @@ fn words_of(
 
 fn words_in(matches: &ArgMatches) -> Option<Words>
     ensures given { result ≡ words_in (rows_of (found_of matches.now)) }
-    ensures unlimited { IfSome result (λ given. given.options.map_max ≡ None) }
+    ensures limited { IfSome result (λ given. given.options.map_max ≡ Some MAP_MAX) }
+    ensures workers { IfSome result (λ given. given.workers ≤ 8) }
     ensures rounds { IfSome result (λ given. IfSome given.generate (λ n. (1 ≤ n) × (n ≤ 10000))) }
 {
+    let workers = workers_in(matches);
     let generate = generate_in(matches);
-    words_of(
-        workers_in(matches),
-        mode_in(matches),
-        localhost_in(matches),
-        generate,
-    )
+    words_of(workers, mode_in(matches), localhost_in(matches), generate)
 }
 
 /// What the words behind the program's name give. `Misfit` comes exactly where they don't fit the command:
@@ -224,7 +227,8 @@ fn words_in(matches: &ArgMatches) -> Option<Words>
 pub fn read_words(alloc: Global, words: &[String]) -> Result<Words, WordsError>
     ensures given { IfOk result (λ given. words_given (map string_bytes words.now) ≡ Some given) }
     ensures misfit { IsErrOf result WordsError.Misfit → words_given (map string_bytes words.now) ≡ None }
-    ensures unlimited { IfOk result (λ given. given.options.map_max ≡ None) }
+    ensures limited { IfOk result (λ given. given.options.map_max ≡ Some MAP_MAX) }
+    ensures workers { IfOk result (λ given. given.workers ≤ 8) }
     ensures rounds { IfOk result (λ given. IfSome given.generate (λ n. (1 ≤ n) × (n ≤ 10000))) }
 {
     let command = match command(alloc) {

@@ -1,5 +1,5 @@
 -- What is printed for a script is a run of the policy machine.
-use Rattle.std.proofs.Common.{◌≡◌, ℕ, ◌^◌, ◌<◌, ◌≤◌, Bool, true, false, not, ◌||◌, nat_lt, List, length, map, Option, IsTrue, refl, ap, sym, ◌∙◌, subst, arith, ltb-false}
+use Rattle.std.proofs.Common.{◌≡◌, ℕ, ◌^◌, ◌<◌, ◌≤◌, Bool, true, false, not, ◌||◌, nat_lt, List, length, map, Option, Some, IsTrue, refl, ap, sym, ◌∙◌, subst, arith, ltb-false}
 use Rattle.std.specs.Prelude.{if◌then◌else◌}
 use Rattle.std.specs.List.{list_any, zip}
 use Rattle.std.specs.Io.KnownBytes.{Appends}
@@ -7,13 +7,16 @@ use Rattle.std.proofs.lemmas.List.{length-map}
 use Rattle.pol_base.specs.Bytes.{AppendsPart}
 use Rattle.pol_answer.specs.Text.{texts_of}
 use Rattle.pol_answer.specs.declared.answer.Answer.{Answer}
+use Rattle.pol_history.specs.declared.event.HistoryEvent.{HistoryEvent}
+use Rattle.pol_history.specs.Legal.{IsLegal}
 use Rattle.pol_model.specs.declared.options.Options.{Options}
+use Rattle.pol_placed.specs.HistoryOfRun.{IsHistoryOf}
 use Rattle.pol_script.specs.Lines.{lines_of}
 use Rattle.pol_script.specs.Reading.{reading_of}
 use Rattle.pol_run.specs.Run.{IsRun, IsRunOf, is_marked}
 use Rattle.pol_run.specs.Spots.{Reading, spots_of}
 use Rattle.pol_run.proofs.ToldHistory.{run_history_told}
-use Rattle.policyd.specs.Headline.{WritesRun, WritesPartOfRun}
+use Rattle.policyd.specs.Headline.{HoldsText, LeavesHistory, WritesRun, WritesPartOfRun}
 use Rattle.policyd.specs.Script.{fits_limits, input_max, lines_max}
 
 -- lines that were read, played and printed
@@ -26,6 +29,18 @@ printed_run options script text readings answers marked read one_each run printe
   text = printed;
   run = subst (λ (xs : List Reading). IsRun options (spots_of (zip xs answers))) read run;
   status = ap (λ (b : Bool). if b then 1 else 0) marks;
+}
+
+-- and the history that was seen in the end holds them
+pub printed_history : (options : Options) (script text : List ℕ) (readings : List Reading) (answers : List Answer) (history : List HistoryEvent)
+    → readings ≡ map reading_of (lines_of script) → length answers ≡ length readings → IsLegal options history → IsHistoryOf options history (zip readings answers)
+    → text ≡ texts_of answers → HoldsText options script text history
+printed_history options script text readings answers history read one_each legal holds printed = record {
+  answers = answers;
+  one_each = one_each ∙ ap (λ (xs : List Reading). length xs) read ∙ length-map (lines_of script) reading_of;
+  texts = printed;
+  legal = legal;
+  holds = subst (λ (xs : List Reading). IsHistoryOf options history (zip xs answers)) read holds;
 }
 
 -- a script within the limits has few lines
@@ -49,3 +64,8 @@ module _ (options : Options) (old new : Option (List ℕ)) (script text : List �
   -- some of them were
   pub writes_part : AppendsPart old new text → WritesPartOfRun options old new script
   writes_part written = record { text = text; status = status; run = run; written = written }
+
+module _ (options : Options) (old new : Option (List ℕ)) (script text : List ℕ) (history : List HistoryEvent) (holds : HoldsText options script text history) where
+  -- all answers were written, and the history is given back
+  pub leaves_history : (last : Option (List HistoryEvent)) → last ≡ Some history → Appends old new text → LeavesHistory options old new script last
+  leaves_history last seen written = record { text = text; history = history; seen = seen; holds = holds; written = written }

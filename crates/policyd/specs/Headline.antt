@@ -1,9 +1,16 @@
 -- What the program promises of what it wrote, and how it ended.
-use Rattle.std.specs.Prelude.{◌≡◌, ℕ, List, Option}
+use Rattle.std.specs.Prelude.{◌≡◌, ℕ, List, length, Option, Some}
 use Rattle.std.specs.Io.KnownBytes.{Appends}
 use Rattle.std.specs.List.{zip}
 use Rattle.pol_base.specs.Bytes.{AppendsPart}
+use Rattle.pol_answer.specs.Text.{texts_of}
+use Rattle.pol_answer.specs.declared.answer.Answer.{Answer}
+use Rattle.pol_history.specs.declared.event.HistoryEvent.{HistoryEvent}
+use Rattle.pol_generated.specs.HistoryOfRounds.{IsHistoryOfRounds}
+use Rattle.pol_history.specs.Legal.{IsLegal}
 use Rattle.pol_model.specs.declared.options.Options.{Options}
+use Rattle.pol_placed.specs.HistoryOfRun.{IsHistoryOf}
+use Rattle.pol_script.specs.Lines.{lines_of}
 use Rattle.pol_run.specs.History.{history_of}
 use Rattle.pol_run.specs.Run.{IsRunOf, readings_of}
 use Rattle.pol_run.specs.Spots.{spots_of}
@@ -24,3 +31,28 @@ pub record WritesPartOfRun (options : Options) (old new : Option (List ℕ)) (sc
   pub status : ℕ
   pub run : IsRunOf options script text status
   pub written : AppendsPart old new text
+
+-- The history is legal and holds what the text says: its commits are those of the run, each session's by a pass of its own,
+-- and it has each map that was read and each report that a `synced` line speaks of.
+pub record HoldsText (options : Options) (script text : List ℕ) (history : List HistoryEvent) : Type 0 where
+  pub answers : List Answer
+  pub one_each : length answers ≡ length (lines_of script)
+  pub texts : text ≡ texts_of answers
+  pub legal : IsLegal options history
+  pub holds : IsHistoryOf options history (zip (readings_of script) answers)
+
+-- what was written is such a text, of the history that was seen in the end
+pub record LeavesHistory (options : Options) (old new : Option (List ℕ)) (script : List ℕ) (last : Option (List HistoryEvent)) : Type 0 where
+  pub text : List ℕ
+  pub history : List HistoryEvent
+  pub seen : last ≡ Some history
+  pub holds : HoldsText options script text history
+  pub written : Appends old new text
+
+-- what was seen of a generated script in the end: a legal history whose commits are its requests, in order, with the
+-- published map of each verdict
+pub record LeavesRounds (options : Options) (rounds : ℕ) (last : Option (List HistoryEvent)) : Type 0 where
+  pub history : List HistoryEvent
+  pub seen : last ≡ Some history
+  pub legal : IsLegal options history
+  pub holds : IsHistoryOfRounds options rounds history

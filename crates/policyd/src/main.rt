@@ -2,7 +2,7 @@
 //! standard output.
 //!
 //! `play` does all of it over any source and sink: `source` reads a script and answers it, and `generate` writes the
-//! summary of one that is made. The lines are played by `pol_play`. What `play` promises is stated in its contract,
+//! summary of one that is made. The lines are played by `pol_lines`. What `play` promises is stated in its contract,
 //! over the definitions of `pol_run`.
 #![tactic(auto)]
 
@@ -10,8 +10,11 @@ ghost use Rattle.std.specs.Prelude.{◌≡◌};
 ghost use Rattle.std.specs.IoError.{error_kind};
 ghost use Rattle.policyd.specs.Ends.{status_without_words};
 
+#[cfg(test)]
+mod gates;
 mod generate;
 mod play;
+mod played;
 mod source;
 mod status;
 #[cfg(test)]
@@ -47,7 +50,7 @@ fn main(rt: HostRuntime) -> ExitCode {
         Ok(words) => {
             let mut source = IoSource::new(rt.stdin());
             let mut sink = IoSink::new(rt.stdout());
-            play(&rt, rt.alloc(), words.as_slice(), &mut source, &mut sink)
+            play(&rt, rt.alloc(), words.as_slice(), &mut source, &mut sink).status
         }
         Err(error) => status_without_words(&error),
     };

@@ -1,19 +1,21 @@
 //! All that the program does, over any source and sink.
-ghost use Rattle.std.specs.Prelude.{◌≡◌, ◌⊎◌, map, string_bytes, None, IfSome, IsSomeAnd, IsTrue, true, is_some};
+ghost use Rattle.std.specs.Prelude.{◌≡◌, ◌⊎◌, map, string_bytes, None, IfSome, IsSomeAnd, IsTrue, true, false, is_some};
 ghost use Rattle.std.specs.Io.KnownBytes.{Appends, IsAtEnd, Keeps};
 ghost use Rattle.pol_base.specs.Faults.{Rose, DidNotRise};
 ghost use Rattle.pol_base.specs.Bytes.{AppendsPart, ConsumesSome};
 ghost use Rattle.pol_words.specs.Given.{words_given};
-ghost use Rattle.pol_play.specs.Summary.{summary};
+ghost use Rattle.pol_summary.specs.Summary.{summary};
 ghost use Rattle.policyd.specs.Script.{is_too_long, fits_limits};
-ghost use Rattle.policyd.specs.Headline.{WritesRun, WritesPartOfRun};
+ghost use Rattle.policyd.specs.Headline.{LeavesHistory, LeavesRounds, WritesRun, WritesPartOfRun};
 ghost use Rattle.policyd.specs.Ends.{is_answered, has_read_all, is_silent, status_number};
-ghost use Rattle.policyd.specs.Task.{reads_with, generates};
+ghost use Rattle.policyd.specs.Task.{generates, reads_with};
 
 use crate::generate::play_generated;
+use crate::played::Played;
 use crate::source::play_source;
 use crate::status::Status;
 use pol_base::{Sink, Source};
+use pol_pool::{Gate, OpenGate};
 use pol_words::{WordsError, read_words};
 use std::alloc::Global;
 use std::sync::Wait;
@@ -25,53 +27,131 @@ use std::thread::Threads;
 /// Words that don't fit are status `Usage`, and nothing is read then. The whole source is read before a line is
 /// answered (`Read`, `TooLong`), and nothing is written before each line is (`Write`). Want of memory may come at
 /// any point before the first write ('profile').
+///
+/// `last` is what all passes of the run had seen after the last line: a legal history that holds what was written. It is
+/// there where each line was answered.
 pub fn play<R: Threads + Wait + Sync, S: Source, K: Sink>(
-    _rt: &R,
+    rt: &R,
     alloc: Global,
     words: &[String],
     source: &mut S,
     sink: &mut K,
-) -> Status
-    ensures usage { result ≡ Status.Usage → words_given (map string_bytes words.now) ≡ None }
-    ensures misfit { words_given (map string_bytes words.now) ≡ None → (result ≡ Status.Usage) ⊎ (result ≡ Status.Memory) }
-    ensures unread { result ≡ Status.Usage → source.new ≡ source.old }
+) -> Played
+    ensures usage { result.status ≡ Status.Usage → words_given (map string_bytes words.now) ≡ None }
+    ensures misfit { words_given (map string_bytes words.now) ≡ None → (result.status ≡ Status.Usage) ⊎ (result.status ≡ Status.Memory) }
+    ensures unread { result.status ≡ Status.Usage → source.new ≡ source.old }
     ensures not_read { IsTrue (is_some (generates (map string_bytes words.now))) → source.new ≡ source.old }
-    ensures read { result ≡ Status.Read → Rose (S.faults source.old) (S.faults source.new) }
-    ensures write { result ≡ Status.Write → Rose (K.faults sink.old) (K.faults sink.new) }
-    ensures too_long { result ≡ Status.TooLong → IsTrue (is_some (reads_with (map string_bytes words.now)))
+    ensures read { result.status ≡ Status.Read → Rose (S.faults source.old) (S.faults source.new) }
+    ensures write { result.status ≡ Status.Write → Rose (K.faults sink.old) (K.faults sink.new) }
+    ensures too_long { result.status ≡ Status.TooLong → IsTrue (is_some (reads_with (map string_bytes words.now)))
         × IfSome (S.left source.old) (λ script. IsTrue (is_too_long script)) }
-    ensures within { IsTrue (has_read_all result) → IsTrue (is_some (reads_with (map string_bytes words.now)))
+    ensures within { IsTrue (has_read_all result.status) → IsTrue (is_some (reads_with (map string_bytes words.now)))
         → IfSome (S.left source.old) (λ script. IsTrue (fits_limits script)) }
     ensures taken { ConsumesSome (S.left source.old) (S.left source.new) }
-    ensures at_end { IsTrue (has_read_all result) → IsTrue (is_some (reads_with (map string_bytes words.now)))
+    ensures at_end { IsTrue (has_read_all result.status) → IsTrue (is_some (reads_with (map string_bytes words.now)))
         → IsAtEnd (S.left source.new) }
-    ensures silent { IsTrue (is_silent result) → Keeps (K.written sink.old) (K.written sink.new) }
-    ensures run { IsTrue (is_answered result) → IfSome (reads_with (map string_bytes words.now)) (λ options.
+    ensures silent { IsTrue (is_silent result.status) → Keeps (K.written sink.old) (K.written sink.new) }
+    ensures run { IsTrue (is_answered result.status) → IfSome (reads_with (map string_bytes words.now)) (λ options.
         IfSome (S.left source.old) (λ script.
-        WritesRun options (K.written sink.old) (K.written sink.new) script (status_number result))) }
-    ensures part { result ≡ Status.Write → IfSome (reads_with (map string_bytes words.now)) (λ options.
+        WritesRun options (K.written sink.old) (K.written sink.new) script (status_number result.status))) }
+    ensures part { result.status ≡ Status.Write → IfSome (reads_with (map string_bytes words.now)) (λ options.
         IfSome (S.left source.old) (λ script.
         WritesPartOfRun options (K.written sink.old) (K.written sink.new) script)) }
-    ensures summary { IsTrue (is_answered result) → IfSome (generates (map string_bytes words.now)) (λ task.
-        (result ≡ Status.Clean)
+    ensures last { IsTrue (is_answered result.status) → IfSome (reads_with (map string_bytes words.now)) (λ options.
+        IfSome (S.left source.old) (λ script.
+        LeavesHistory options (K.written sink.old) (K.written sink.new) script result.last)) }
+    ensures last_generated { IsTrue (is_answered result.status) → IfSome (generates (map string_bytes words.now)) (λ task.
+        LeavesRounds task.options task.rounds result.last) }
+    ensures no_last { is_answered result.status ≡ false → result.last ≡ None }
+    ensures summary { IsTrue (is_answered result.status) → IfSome (generates (map string_bytes words.now)) (λ task.
+        (result.status ≡ Status.Clean)
         × Appends (K.written sink.old) (K.written sink.new) (summary task.options task.rounds)) }
-    ensures summary_part { result ≡ Status.Write → IfSome (generates (map string_bytes words.now)) (λ task.
+    ensures summary_part { result.status ≡ Status.Write → IfSome (generates (map string_bytes words.now)) (λ task.
         AppendsPart (K.written sink.old) (K.written sink.new) (summary task.options task.rounds)) }
     ensures complete { IsTrue (is_some (reads_with (map string_bytes words.now)))
         → DidNotRise (S.faults source.old) (S.faults source.new)
         → DidNotRise (K.faults sink.old) (K.faults sink.new)
         → IsSomeAnd (S.left source.old) (λ script. IsTrue (fits_limits script))
-        → IsTrue (is_answered result) ⊎ (result ≡ Status.Memory) }
+        → IsTrue (is_answered result.status) ⊎ (result.status ≡ Status.Memory) }
     ensures complete_generated { IsTrue (is_some (generates (map string_bytes words.now)))
         → DidNotRise (K.faults sink.old) (K.faults sink.new)
-        → (result ≡ Status.Clean) ⊎ (result ≡ Status.Memory) }
+        → (result.status ≡ Status.Clean) ⊎ (result.status ≡ Status.Memory) }
+{
+    play_gated(rt, alloc, words, source, sink, &OpenGate)
+}
+
+/// The same, where sessions and workers pass a gate: `start` before the first line of a session in a phase, `enter` and
+/// `leave` around each call of a worker.
+pub fn play_gated<R: Threads + Wait + Sync, S: Source, K: Sink, G: Gate + Sync>(
+    rt: &R,
+    alloc: Global,
+    words: &[String],
+    source: &mut S,
+    sink: &mut K,
+    gate: &G,
+) -> Played
+    ensures usage { result.status ≡ Status.Usage → words_given (map string_bytes words.now) ≡ None }
+    ensures misfit { words_given (map string_bytes words.now) ≡ None → (result.status ≡ Status.Usage) ⊎ (result.status ≡ Status.Memory) }
+    ensures unread { result.status ≡ Status.Usage → source.new ≡ source.old }
+    ensures not_read { IsTrue (is_some (generates (map string_bytes words.now))) → source.new ≡ source.old }
+    ensures read { result.status ≡ Status.Read → Rose (S.faults source.old) (S.faults source.new) }
+    ensures write { result.status ≡ Status.Write → Rose (K.faults sink.old) (K.faults sink.new) }
+    ensures too_long { result.status ≡ Status.TooLong → IsTrue (is_some (reads_with (map string_bytes words.now)))
+        × IfSome (S.left source.old) (λ script. IsTrue (is_too_long script)) }
+    ensures within { IsTrue (has_read_all result.status) → IsTrue (is_some (reads_with (map string_bytes words.now)))
+        → IfSome (S.left source.old) (λ script. IsTrue (fits_limits script)) }
+    ensures taken { ConsumesSome (S.left source.old) (S.left source.new) }
+    ensures at_end { IsTrue (has_read_all result.status) → IsTrue (is_some (reads_with (map string_bytes words.now)))
+        → IsAtEnd (S.left source.new) }
+    ensures silent { IsTrue (is_silent result.status) → Keeps (K.written sink.old) (K.written sink.new) }
+    ensures run { IsTrue (is_answered result.status) → IfSome (reads_with (map string_bytes words.now)) (λ options.
+        IfSome (S.left source.old) (λ script.
+        WritesRun options (K.written sink.old) (K.written sink.new) script (status_number result.status))) }
+    ensures part { result.status ≡ Status.Write → IfSome (reads_with (map string_bytes words.now)) (λ options.
+        IfSome (S.left source.old) (λ script.
+        WritesPartOfRun options (K.written sink.old) (K.written sink.new) script)) }
+    ensures last { IsTrue (is_answered result.status) → IfSome (reads_with (map string_bytes words.now)) (λ options.
+        IfSome (S.left source.old) (λ script.
+        LeavesHistory options (K.written sink.old) (K.written sink.new) script result.last)) }
+    ensures last_generated { IsTrue (is_answered result.status) → IfSome (generates (map string_bytes words.now)) (λ task.
+        LeavesRounds task.options task.rounds result.last) }
+    ensures no_last { is_answered result.status ≡ false → result.last ≡ None }
+    ensures summary { IsTrue (is_answered result.status) → IfSome (generates (map string_bytes words.now)) (λ task.
+        (result.status ≡ Status.Clean)
+        × Appends (K.written sink.old) (K.written sink.new) (summary task.options task.rounds)) }
+    ensures summary_part { result.status ≡ Status.Write → IfSome (generates (map string_bytes words.now)) (λ task.
+        AppendsPart (K.written sink.old) (K.written sink.new) (summary task.options task.rounds)) }
+    ensures complete { IsTrue (is_some (reads_with (map string_bytes words.now)))
+        → DidNotRise (S.faults source.old) (S.faults source.new)
+        → DidNotRise (K.faults sink.old) (K.faults sink.new)
+        → IsSomeAnd (S.left source.old) (λ script. IsTrue (fits_limits script))
+        → IsTrue (is_answered result.status) ⊎ (result.status ≡ Status.Memory) }
+    ensures complete_generated { IsTrue (is_some (generates (map string_bytes words.now)))
+        → DidNotRise (K.faults sink.old) (K.faults sink.new)
+        → (result.status ≡ Status.Clean) ⊎ (result.status ≡ Status.Memory) }
 {
     match read_words(alloc, words) {
-        Err(WordsError::Misfit) => Status::Usage,
-        Err(WordsError::Memory) => Status::Memory,
+        Err(WordsError::Misfit) => Played::only(Status::Usage),
+        Err(WordsError::Memory) => Played::only(Status::Memory),
         Ok(given) => match given.generate {
-            None => play_source(alloc, given.options, source, sink),
-            Some(n) => play_generated(alloc, given.options, n, sink),
+            None => play_source(
+                rt,
+                alloc,
+                given.options,
+                given.workers as u32,
+                gate,
+                source,
+                sink,
+            ),
+            Some(n) => play_generated(
+                rt,
+                alloc,
+                given.options,
+                given.workers as u32,
+                gate,
+                n,
+                sink,
+            ),
         },
     }
 }

@@ -1,58 +1,71 @@
 //! A script is read from a source, and its answers are written to a sink.
-ghost use Rattle.std.specs.Prelude.{◌≡◌, ◌⊎◌, None, IfOk, IfErr, IfSome, IsErrOf, IsSomeAnd, OnOk, IsTrue, if◌then◌else◌};
+ghost use Rattle.std.specs.Prelude.{◌≡◌, ◌≤◌, ◌⊎◌, None, IfOk, IfErr, IfSome, IsErrOf, IsSomeAnd, OnOk, IsTrue, false, if◌then◌else◌};
 ghost use Rattle.std.specs.Io.KnownBytes.{IsAtEnd, Keeps};
 ghost use Rattle.std.specs.List.{list_any};
 ghost use Rattle.pol_base.specs.Faults.{Rose, DidNotRise};
 ghost use Rattle.pol_base.specs.Bytes.{ConsumesSome};
 ghost use Rattle.pol_run.specs.Run.{IsRunOf, is_marked};
 ghost use Rattle.policyd.specs.Script.{is_too_long, fits_limits};
-ghost use Rattle.policyd.specs.Headline.{WritesRun, WritesPartOfRun};
+ghost use Rattle.policyd.specs.Headline.{HoldsText, LeavesHistory, WritesRun, WritesPartOfRun};
 ghost use Rattle.policyd.specs.Ends.{is_answered, has_read_all, is_silent, status_number};
 
+use crate::played::Played;
 use crate::status::Status;
-use pol_answer::{Answer, answers_text};
+use pol_answer::Answer;
 use pol_base::{Failed, ReadAllError, Sink, Source, read_all, write_all};
+use pol_blocks::{print_answers, read_lines};
+use pol_book::SeenHistory;
 use pol_data::Memory;
+use pol_lines::play_lines;
 use pol_model::Options;
-use pol_play::play_lines;
-use pol_script::{count_lines, read_script};
+use pol_placed::phases::lines_are_seated;
+use pol_pool::Gate;
+use pol_script::count_lines;
 use std::alloc::Global;
+use std::sync::Wait;
+use std::thread::Threads;
 
 // The most bytes and the most lines of a script.
 const INPUT_MAX: usize = 67_108_864;
 
 const LINES_MAX: usize = 1_000_000;
 
-/// Reads the whole script, answers its lines, and then writes all answers.
-pub fn play_source<S: Source, K: Sink>(
+/// Reads the whole script, plays its lines beside so many workers, and then writes all answers.
+pub fn play_source<R: Threads + Wait + Sync, S: Source, K: Sink, G: Gate + Sync>(
+    rt: &R,
     alloc: Global,
     options: Options,
+    workers: u32,
+    gate: &G,
     source: &mut S,
     sink: &mut K,
-) -> Status
-    requires { options.map_max ≡ None }
-    ensures no_usage { result ≡ Status.Usage → ⊥ }
-    ensures read { result ≡ Status.Read → Rose (S.faults source.old) (S.faults source.new) }
-    ensures write { result ≡ Status.Write → Rose (K.faults sink.old) (K.faults sink.new) }
-    ensures too_long { result ≡ Status.TooLong
+) -> Played
+    requires { IsSomeAnd options.map_max (λ limit. limit ≤ 65536) }
+    ensures no_usage { result.status ≡ Status.Usage → ⊥ }
+    ensures read { result.status ≡ Status.Read → Rose (S.faults source.old) (S.faults source.new) }
+    ensures write { result.status ≡ Status.Write → Rose (K.faults sink.old) (K.faults sink.new) }
+    ensures too_long { result.status ≡ Status.TooLong
         → IfSome (S.left source.old) (λ script. IsTrue (is_too_long script)) }
-    ensures within { IsTrue (has_read_all result)
+    ensures within { IsTrue (has_read_all result.status)
         → IfSome (S.left source.old) (λ script. IsTrue (fits_limits script)) }
     ensures taken { ConsumesSome (S.left source.old) (S.left source.new) }
-    ensures at_end { IsTrue (has_read_all result) → IsAtEnd (S.left source.new) }
-    ensures silent { IsTrue (is_silent result) → Keeps (K.written sink.old) (K.written sink.new) }
-    ensures run { IsTrue (is_answered result) → IfSome (S.left source.old)
-        (λ script. WritesRun options (K.written sink.old) (K.written sink.new) script (status_number result)) }
-    ensures part { result ≡ Status.Write → IfSome (S.left source.old)
+    ensures at_end { IsTrue (has_read_all result.status) → IsAtEnd (S.left source.new) }
+    ensures silent { IsTrue (is_silent result.status) → Keeps (K.written sink.old) (K.written sink.new) }
+    ensures run { IsTrue (is_answered result.status) → IfSome (S.left source.old)
+        (λ script. WritesRun options (K.written sink.old) (K.written sink.new) script (status_number result.status)) }
+    ensures part { result.status ≡ Status.Write → IfSome (S.left source.old)
         (λ script. WritesPartOfRun options (K.written sink.old) (K.written sink.new) script) }
+    ensures last { IsTrue (is_answered result.status) → IfSome (S.left source.old)
+        (λ script. LeavesHistory options (K.written sink.old) (K.written sink.new) script result.last) }
+    ensures no_last { is_answered result.status ≡ false → result.last ≡ None }
     ensures complete { DidNotRise (S.faults source.old) (S.faults source.new)
         → DidNotRise (K.faults sink.old) (K.faults sink.new)
         → IsSomeAnd (S.left source.old) (λ script. IsTrue (fits_limits script))
-        → IsTrue (is_answered result) ⊎ (result ≡ Status.Memory) }
+        → IsTrue (is_answered result.status) ⊎ (result.status ≡ Status.Memory) }
 {
     match script_of(alloc, source) {
-        Ok(script) => answer_script(alloc, options, script.as_slice(), sink),
-        Err(status) => status,
+        Ok(script) => answer_script(rt, alloc, options, workers, gate, script.as_slice(), sink),
+        Err(status) => Played::only(status),
     }
 }
 
@@ -82,44 +95,72 @@ fn script_of<S: Source>(alloc: Global, source: &mut S) -> Result<Vec<u8>, Status
 }
 
 // Answers a script.
-#[tactic(auto, using(crate::proofs::ScriptRun::writes_run, crate::proofs::ScriptRun::writes_part))]
-fn answer_script<K: Sink>(alloc: Global, options: Options, script: &[u8], sink: &mut K) -> Status
-    requires no_limit { options.map_max ≡ None }
+#[tactic(auto, using(crate::proofs::ScriptRun::writes_run, crate::proofs::ScriptRun::writes_part, crate::proofs::ScriptRun::leaves_history))]
+fn answer_script<R: Threads + Wait + Sync, K: Sink, G: Gate + Sync>(
+    rt: &R,
+    alloc: Global,
+    options: Options,
+    workers: u32,
+    gate: &G,
+    script: &[u8],
+    sink: &mut K,
+) -> Played
+    requires limit { IsSomeAnd options.map_max (λ limit. limit ≤ 65536) }
     requires within { IsTrue (fits_limits script.now) }
-    ensures end { IsTrue (has_read_all result) ⊎ (result ≡ Status.Memory) }
-    ensures write { result ≡ Status.Write → Rose (K.faults sink.old) (K.faults sink.new) }
-    ensures silent { result ≡ Status.Memory → Keeps (K.written sink.old) (K.written sink.new) }
-    ensures run { IsTrue (is_answered result)
-        → WritesRun options (K.written sink.old) (K.written sink.new) script.now (status_number result) }
-    ensures part { result ≡ Status.Write
+    ensures end { IsTrue (has_read_all result.status) ⊎ (result.status ≡ Status.Memory) }
+    ensures write { result.status ≡ Status.Write → Rose (K.faults sink.old) (K.faults sink.new) }
+    ensures silent { result.status ≡ Status.Memory → Keeps (K.written sink.old) (K.written sink.new) }
+    ensures run { IsTrue (is_answered result.status)
+        → WritesRun options (K.written sink.old) (K.written sink.new) script.now (status_number result.status) }
+    ensures part { result.status ≡ Status.Write
         → WritesPartOfRun options (K.written sink.old) (K.written sink.new) script.now }
+    ensures last { IsTrue (is_answered result.status)
+        → LeavesHistory options (K.written sink.old) (K.written sink.new) script.now result.last }
+    ensures no_last { is_answered result.status ≡ false → result.last ≡ None }
 {
-    match print_answers(alloc, options, script) {
-        Err(Memory) => Status::Memory,
+    match answers_to(rt, alloc, options, workers, gate, script) {
+        Err(Memory) => Played::only(Status::Memory),
         Ok(printed) => match write_all(sink, printed.text.as_slice()) {
-            Err(Failed) => Status::Write,
-            Ok(()) => end_of(printed.marked),
+            Err(Failed) => Played::only(Status::Write),
+            Ok(()) => Played {
+                status: end_of(printed.marked),
+                last: Some(printed.last),
+            },
         },
     }
 }
 
-// The answers to a script, as they are printed.
+// The answers to a script, as they are printed, and what was seen of its history in the end.
 #[derive(Drop)]
 struct Printed {
     text: Vec<u8>,
     marked: bool,
+    last: SeenHistory,
 }
 
 // Reading, playing and printing.
-fn print_answers(alloc: Global, options: Options, script: &[u8]) -> Result<Printed, Memory>
-    requires { options.map_max ≡ None }
-    ensures { IfOk result (λ printed. IsRunOf options script.now printed.text.items (if printed.marked then 1 else 0)) }
+fn answers_to<R: Threads + Wait + Sync, G: Gate + Sync>(
+    rt: &R,
+    alloc: Global,
+    options: Options,
+    workers: u32,
+    gate: &G,
+    script: &[u8],
+) -> Result<Printed, Memory>
+    requires { IsSomeAnd options.map_max (λ limit. limit ≤ 65536) }
+    ensures run { IfOk result (λ printed. IsRunOf options script.now printed.text.items (if printed.marked then 1 else 0)) }
+    ensures history { IfOk result (λ printed. HoldsText options script.now printed.text.items printed.last) }
 {
-    let readings = read_script(alloc, script)?;
-    let answers = play_lines(alloc, options, readings)?;
-    let text = answers_text(alloc, answers.as_slice())?;
-    let marked = any_marked(answers.as_slice());
-    Ok(Printed { text, marked })
+    let readings = read_lines(rt, alloc, script)?;
+    lines_are_seated();
+    let played = play_lines(rt, alloc, options, workers, gate, readings)?;
+    let text = print_answers(rt, alloc, played.answers.as_slice())?;
+    let marked = any_marked(played.answers.as_slice());
+    Ok(Printed {
+        text,
+        marked,
+        last: played.last,
+    })
 }
 
 // Whether the answer is a refusal, `notyet` or `noendpoint`.

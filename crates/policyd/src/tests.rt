@@ -7,7 +7,7 @@ use std::alloc::Global;
 use std::test::Fail;
 
 // The demo of Cilium's documentation: one endpoint is reached from its own organisation alone, and on one port.
-const SCRIPT: &[u8] =
+pub const SCRIPT: &[u8] =
     b"{\"op\":\"endpoint\",\"name\":\"deathstar\",\"labels\":[\"k8s:class=deathstar\",\"k8s:org=empire\",\"k8s:io.kubernetes.pod.namespace=default\"],\"address\":\"10.0.0.1\"}\n\
 {\"op\":\"endpoint\",\"name\":\"tiefighter\",\"labels\":[\"k8s:class=tiefighter\",\"k8s:org=empire\",\"k8s:io.kubernetes.pod.namespace=default\"],\"address\":\"10.0.0.2\"}\n\
 {\"op\":\"endpoint\",\"name\":\"xwing\",\"labels\":[\"k8s:class=xwing\",\"k8s:org=alliance\",\"k8s:io.kubernetes.pod.namespace=default\"],\"address\":\"10.0.0.3\"}\n\
@@ -18,7 +18,7 @@ const SCRIPT: &[u8] =
 {\"op\":\"verdict\",\"endpoint\":\"deathstar\",\"direction\":\"ingress\",\"address\":\"10.0.0.2\",\"protocol\":\"TCP\",\"port\":443}\n\
 ";
 
-const ANSWERS: &[u8] = b"ok 1 identity 256\n\
+pub const ANSWERS: &[u8] = b"ok 1 identity 256\n\
 ok 2 identity 257\n\
 ok 3 identity 258\n\
 ok 4\n\
@@ -44,7 +44,10 @@ fn each_read_that_fails_ends_the_run(rt: HostRuntime) -> Result<(), Fail> {
     for read in 1..=READS {
         let mut source = script(alloc, vec![in alloc; read]?)?;
         let mut sink = MemSink::new(alloc, 1000, 10, Vec::new(alloc))?;
-        assert_eq!(rt; play(&rt, alloc, &[], &mut source, &mut sink), Status::Read);
+        assert_eq!(rt;
+            play(&rt, alloc, &[], &mut source, &mut sink).status,
+            Status::Read
+        );
         assert_eq!(rt; sink.calls(), 0);
     }
     Ok(())
@@ -57,7 +60,7 @@ fn each_write_that_fails_leaves_a_prefix(rt: HostRuntime) -> Result<(), Fail> {
         let mut source = script(alloc, Vec::new(alloc))?;
         let mut sink = MemSink::new(alloc, 1000, 10, vec![in alloc; write]?)?;
         assert_eq!(rt;
-            play(&rt, alloc, &[], &mut source, &mut sink),
+            play(&rt, alloc, &[], &mut source, &mut sink).status,
             Status::Write
         );
         assert!(rt; ANSWERS.starts_with(sink.written()));

@@ -44,6 +44,7 @@ returns c =
     record {
       given = tt;
       misfit = λ _. misfitting words error has (λ memory. c.in_default.not-OutOfMemory (c.kind.ensures ∙ memory));
-      unlimited = tt;
+      limited = tt;
+      workers = tt;
       rounds = tt;
     }

@@ -1,0 +1,10 @@
+//! The lines of a script are played over the running node.
+//!
+//! `play_lines` cuts the script into phases (`pol_phases`), lets sessions play it at once with workers beside them
+//! (`pol_sessions`), and puts their answers back. By the laws of `pol_placed` the lines with their answers are a run of the
+//! policy machine, whatever the schedule was.
+#![tactic(auto)]
+
+mod script;
+
+pub use script::{PlayedLines, play_lines};

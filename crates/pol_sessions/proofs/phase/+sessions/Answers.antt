@@ -1,0 +1,10 @@
+use Rattle.std.proofs.Common.{rules}
+use Rattle.pol_placed.specs.Seats.{HasGoneOn, HaveGoneOn}
+use Rattle.pol_sessions.proofs.phase.+sessions.Goals as goal
+
+pub play_at_once-returns : goal.play_at_once-returns
+play_at_once-returns g t c =
+    let front = c.in_ok-front.field-0 in let back = c.in_ok-back.field-0 in
+    let others : HaveGoneOn g.N.NodeName.options c.args.passes.items c.args.lines.items front.told.items front.passes.items = search rules in
+    let last : HasGoneOn g.N.NodeName.options c.args.pass c.args.own back.answers back.pass = search rules in
+    c.more.ensures c.args.passes.items c.args.lines.items c.args.pass c.args.own others last

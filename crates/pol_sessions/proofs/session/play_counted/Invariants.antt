@@ -1,0 +1,13 @@
+use Rattle.std.proofs.Common.{◌≡◌, length, true}
+use Rattle.pol_history.specs.Meet.{has}
+use Rattle.pol_sessions.proofs.Lines.{IsHalfway}
+use Rattle.pol_sessions.proofs.session.play_counted.Given as goal
+
+abbrev pub invariant-loop-line : goal.invariant-loop-line
+invariant-loop-line g l = record {
+  halfway : IsHalfway g.N.NodeName.options l.fn.pass l.fn.lines l.left l.answers l.pass;
+  hints : l.hint_pass.queue ≡ l.hints.name;
+}
+
+abbrev pub decreases-loop-line : goal.decreases-loop-line
+decreases-loop-line g l = length l.left

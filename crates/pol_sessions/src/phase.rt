@@ -1,0 +1,282 @@
+//! The sessions of a phase at once, and phase after phase.
+ghost use Rattle.std.specs.Prelude.{◌≡◌, ◌≤◌, ◌++◌, ◌∷◌, [], IfOk, List, length, true};
+ghost use Rattle.std.specs.List.{AllByRecursion};
+ghost use Rattle.pol_history.specs.Grows.{PassState};
+ghost use Rattle.pol_history.specs.Meet.{has};
+ghost use Rattle.pol_placed.specs.Seats.{ArePhases, HasGoneOn, HaveGoneOn, IsPhase};
+ghost use Rattle.pol_script.specs.declared.command.Command.{Command};
+
+use crate::session::play_session;
+use pol_data::{Items, Memory};
+use pol_node::{Node, NodeName, Pass};
+use pol_phases::{Answers, Commands};
+use pol_pool::{Gate, HintPass, Hints};
+use std::alloc::Global;
+use std::collections::VecDeque;
+use std::sync::Wait;
+use std::thread::{Threads, join};
+
+/// A session's pass after a phase, and what it was told in it.
+#[derive(Drop)]
+struct Done<N: NodeName> {
+    pass: Pass<N>,
+    answers: Answers,
+}
+
+/// The passes of the sessions after a phase, and what each session was told in it.
+#[derive(Drop)]
+pub struct Played<N: NodeName> {
+    pub passes: Vec<Pass<N>>,
+    pub told: Vec<Answers>,
+}
+
+/// The passes of the sessions after all phases, and what each session was told in each of them.
+#[derive(Drop)]
+pub struct PlayedPhases<N: NodeName> {
+    pub passes: Vec<Pass<N>>,
+    pub told: Vec<Items<Answers>>,
+}
+
+// One session. It passes the gate before its first line.
+fn play_one<N: NodeName, W: Wait, R: Wait + Drop, G: Gate>(
+    rt: &W,
+    alloc: Global,
+    node: &Node<N, R>,
+    hints: &Hints,
+    gate: &G,
+    session: u32,
+    pass: Pass<N>,
+    hint_pass: HintPass,
+    lines: Commands,
+) -> Result<Done<N>, Memory>
+    requires handed_out { has N.passes pass.number ≡ true }
+    requires hints { hint_pass.queue ≡ hints.now.name }
+    ensures { IfOk result (λ done. HasGoneOn N.options pass lines done.answers done.pass) }
+{
+    if !lines.is_empty() {
+        gate.start(rt, session);
+    }
+    let mut pass = pass;
+    let mut hint_pass = hint_pass;
+    let answers = play_session(rt, alloc, node, &mut pass, hints, &mut hint_pass, lines)?;
+    Ok(Done { pass, answers })
+}
+
+// The sessions of a phase: the last one behind the others, or in a thread beside them.
+#[cycle(sessions)]
+fn play_sessions<
+    N: NodeName + Send + Sync,
+    W: Threads + Wait + Sync,
+    R: Wait + Drop + Send,
+    G: Gate + Sync,
+>(
+    rt: &W,
+    alloc: Global,
+    node: &Node<N, R>,
+    hints: &Hints,
+    gate: &G,
+    hint_pass: HintPass,
+    passes: Vec<Pass<N>>,
+    lines: Vec<Commands>,
+) -> Result<Played<N>, Memory>
+    requires handed_out { AllByRecursion (λ pass. has N.passes pass.number ≡ true) passes.items }
+    requires one_each { length lines.items ≡ length passes.items }
+    requires few { length passes.items ≤ 40 }
+    requires hints { hint_pass.queue ≡ hints.now.name }
+    ensures { IfOk result (λ played. HaveGoneOn N.options passes.items lines.items played.told.items played.passes.items) }
+{
+    let mut passes = passes;
+    let mut lines = lines;
+    let Some(pass) = passes.pop() else {
+        return Ok(Played {
+            passes: Vec::new(alloc),
+            told: Vec::new(alloc),
+        });
+    };
+    let Some(own) = lines.pop() else {
+        unreachable!();
+    };
+    if is_alone(&own, &lines) {
+        play_in_turn(
+            rt, alloc, node, hints, gate, hint_pass, passes, lines, pass, own,
+        )
+    } else {
+        play_at_once(
+            rt, alloc, node, hints, gate, hint_pass, passes, lines, pass, own,
+        )
+    }
+}
+
+// The last session has no lines, or the others have none, so no thread is started for it.
+#[cycle(sessions)]
+fn play_in_turn<
+    N: NodeName + Send + Sync,
+    W: Threads + Wait + Sync,
+    R: Wait + Drop + Send,
+    G: Gate + Sync,
+>(
+    rt: &W,
+    alloc: Global,
+    node: &Node<N, R>,
+    hints: &Hints,
+    gate: &G,
+    hint_pass: HintPass,
+    passes: Vec<Pass<N>>,
+    lines: Vec<Commands>,
+    pass: Pass<N>,
+    own: Commands,
+) -> Result<Played<N>, Memory>
+    requires handed_out { AllByRecursion (λ pass. has N.passes pass.number ≡ true) passes.items }
+    requires one_each { length lines.items ≡ length passes.items }
+    requires few { length passes.items ≤ 39 }
+    requires last { has N.passes pass.number ≡ true }
+    requires hints { hint_pass.queue ≡ hints.now.name }
+    ensures { IfOk result (λ played. HaveGoneOn N.options (passes.items ++ pass ∷ []) (lines.items ++ own ∷ []) played.told.items played.passes.items) }
+{
+    let mut hint_pass = hint_pass;
+    let session = passes.len() as u32 + 1;
+    let other = hints.split(rt, &mut hint_pass)?;
+    let front = play_sessions(rt, alloc, node, hints, gate, hint_pass, passes, lines)?;
+    let back = play_one(rt, alloc, node, hints, gate, session, pass, other, own)?;
+    more(front, back)
+}
+
+// The last session in a thread beside the others.
+#[cycle(sessions)]
+fn play_at_once<
+    N: NodeName + Send + Sync,
+    W: Threads + Wait + Sync,
+    R: Wait + Drop + Send,
+    G: Gate + Sync,
+>(
+    rt: &W,
+    alloc: Global,
+    node: &Node<N, R>,
+    hints: &Hints,
+    gate: &G,
+    hint_pass: HintPass,
+    passes: Vec<Pass<N>>,
+    lines: Vec<Commands>,
+    pass: Pass<N>,
+    own: Commands,
+) -> Result<Played<N>, Memory>
+    requires handed_out { AllByRecursion (λ pass. has N.passes pass.number ≡ true) passes.items }
+    requires one_each { length lines.items ≡ length passes.items }
+    requires few { length passes.items ≤ 39 }
+    requires last { has N.passes pass.number ≡ true }
+    requires hints { hint_pass.queue ≡ hints.now.name }
+    ensures { IfOk result (λ played. HaveGoneOn N.options (passes.items ++ pass ∷ []) (lines.items ++ own ∷ []) played.told.items played.passes.items) }
+{
+    let mut hint_pass = hint_pass;
+    let session = passes.len() as u32 + 1;
+    let other = hints.split(rt, &mut hint_pass)?;
+    let (front, back) = join(
+        rt,
+        || -> Result<Played<N>, Memory>
+            requires handed_out { AllByRecursion (λ pass. has N.passes pass.number ≡ true) passes.items }
+            requires one_each { length lines.items ≡ length passes.items }
+            requires few { length passes.items ≤ 39 }
+            requires hints { hint_pass.queue ≡ hints.now.name }
+            ensures { IfOk result (λ played. HaveGoneOn N.options passes.items lines.items played.told.items played.passes.items) }
+        { play_sessions(rt, alloc, node, hints, gate, hint_pass, passes, lines) },
+        || -> Result<Done<N>, Memory>
+            requires handed_out { has N.passes pass.number ≡ true }
+            requires hints { other.queue ≡ hints.now.name }
+            ensures { IfOk result (λ done. HasGoneOn N.options pass own done.answers done.pass) }
+        { play_one(rt, alloc, node, hints, gate, session, pass, other, own) },
+    );
+    more(front?, back?)
+}
+
+// Whether the session has no lines, or the others have none.
+fn is_alone(own: &Commands, others: &[Commands]) -> bool {
+    own.is_empty() || others.iter().all(|lines| lines.is_empty())
+}
+
+// One session more, whatever it and the others went on from.
+fn more<N: NodeName>(front: Played<N>, back: Done<N>) -> Result<Played<N>, Memory>
+    ensures { (olds : List PassState) (lines : List (List Command)) (old : PassState) (own : List Command)
+        → HaveGoneOn N.options olds lines front.told.items front.passes.items → HasGoneOn N.options old own back.answers back.pass
+        → IfOk result (λ played. HaveGoneOn N.options (olds ++ old ∷ []) (lines ++ own ∷ []) played.told.items played.passes.items) }
+{
+    let Played {
+        mut passes,
+        mut told,
+    } = front;
+    let Done { pass, answers } = back;
+    passes.push(pass)?;
+    told.push(answers)?;
+    Ok(Played { passes, told })
+}
+
+/// Plays the sessions of a phase, each in a thread, and then all passes meet. The one error is want of memory.
+pub fn play_phase<
+    N: NodeName + Send + Sync,
+    W: Threads + Wait + Sync,
+    R: Wait + Drop + Send,
+    G: Gate + Sync,
+>(
+    rt: &W,
+    alloc: Global,
+    node: &Node<N, R>,
+    hints: &Hints,
+    gate: &G,
+    hint_pass: HintPass,
+    passes: Vec<Pass<N>>,
+    lines: Vec<Commands>,
+) -> Result<Played<N>, Memory>
+    requires handed_out { AllByRecursion (λ pass. has N.passes pass.number ≡ true) passes.items }
+    requires one_each { length lines.items ≡ length passes.items }
+    requires few { length passes.items ≤ 40 }
+    requires hints { hint_pass.queue ≡ hints.now.name }
+    ensures { IfOk result (λ played. IsPhase N.options N.passes passes.items lines.items played.told.items played.passes.items) }
+{
+    let mut played = play_sessions(rt, alloc, node, hints, gate, hint_pass, passes, lines)?;
+    node.meet(rt, &mut played.passes);
+    Ok(played)
+}
+
+/// Plays phase after phase. The one error is want of memory.
+pub fn play_phases<
+    N: NodeName + Send + Sync,
+    W: Threads + Wait + Sync,
+    R: Wait + Drop + Send,
+    G: Gate + Sync,
+>(
+    rt: &W,
+    alloc: Global,
+    node: &Node<N, R>,
+    hints: &Hints,
+    gate: &G,
+    hint_pass: HintPass,
+    passes: Vec<Pass<N>>,
+    phases: Vec<Items<Commands>>,
+) -> Result<PlayedPhases<N>, Memory>
+    requires handed_out { AllByRecursion (λ pass. has N.passes pass.number ≡ true) passes.items }
+    requires one_each { AllByRecursion (λ lines. length lines ≡ length passes.items) phases.items }
+    requires few { length passes.items ≤ 40 }
+    requires hints { hint_pass.queue ≡ hints.now.name }
+    ensures phases { IfOk result (λ played. ArePhases N.options N.passes passes.items phases.items played.told.items played.passes.items) }
+    ensures as_many { IfOk result (λ played. length played.passes.items ≡ length passes.items) }
+{
+    let mut hint_pass = hint_pass;
+    let mut passes = passes;
+    let mut told = Vec::with_capacity(alloc, phases.len())?;
+    let mut left = VecDeque::from_vec(phases);
+    while let Some(lines) = left.pop_front() {
+        let other = hints.split(rt, &mut hint_pass)?;
+        let played = play_phase(
+            rt,
+            alloc,
+            node,
+            hints,
+            gate,
+            other,
+            passes,
+            lines.into_vec(),
+        )?;
+        passes = played.passes;
+        told.push(Items::from_vec(played.told))?;
+    }
+    Ok(PlayedPhases { passes, told })
+}

@@ -1,0 +1,78 @@
+//! What one session has in a phase.
+ghost use Rattle.std.specs.Prelude.{◌≡◌, IfOk, OnErr, true};
+ghost use Rattle.pol_history.specs.Meet.{has};
+ghost use Rattle.pol_placed.specs.Seats.{HasGoneOn};
+ghost use Rattle.pol_sessions.specs.Sessions.{HasStopped};
+
+use crate::line::play_line;
+use pol_data::{Memory, Steps};
+use pol_node::{Node, NodeName, Pass};
+use pol_phases::{Answers, Commands};
+use pol_pool::{HintPass, Hints};
+use std::alloc::Global;
+use std::marker::Brand;
+use std::sync::Wait;
+use std::sync::ledger::{Blank, Ledger};
+
+/// Plays the lines of one session within one phase, in order, by the calls of the node that handed out the pass. A look that
+/// had no guard is asked again. After a commit it puts a hint for each slot in use.
+///
+/// The one error is want of memory: what was committed and published and the hints that were put before it stand, and the
+/// board's writer may be spent.
+pub fn play_session<N: NodeName, W: Wait, R: Wait + Drop>(
+    rt: &W,
+    alloc: Global,
+    node: &Node<N, R>,
+    pass: &mut Pass<N>,
+    hints: &Hints,
+    hint_pass: &mut HintPass,
+    lines: Commands,
+) -> Result<Answers, Memory>
+    requires handed_out { has N.passes pass.old.number ≡ true }
+    requires hints { hint_pass.old.queue ≡ hints.now.name }
+    ensures played { IfOk result (λ answers. HasGoneOn N.options pass.old lines answers pass.new) }
+    ensures stopped { OnErr result (HasStopped N.options pass.old lines pass.new) }
+    ensures hints { hint_pass.new.queue ≡ hints.now.name }
+{
+    play_counted::<N, W, R, Brand>(
+        Blank::new(1),
+        rt,
+        alloc,
+        node,
+        pass,
+        hints,
+        hint_pass,
+        lines,
+    )
+}
+
+// Nothing here asks how many steps its calls take.
+fn play_counted<N: NodeName, W: Wait, R: Wait + Drop, L: Ledger>(
+    blank: Blank,
+    rt: &W,
+    alloc: Global,
+    node: &Node<N, R>,
+    pass: &mut Pass<N>,
+    hints: &Hints,
+    hint_pass: &mut HintPass,
+    lines: Commands,
+) -> Result<Answers, Memory>
+    requires name { blank.name ≡ L.name }
+    requires parts { blank.parts ≡ L.parts }
+    requires some { blank.parts ≡ 1 }
+    requires handed_out { has N.passes pass.old.number ≡ true }
+    requires hints { hint_pass.old.queue ≡ hints.now.name }
+    ensures played { IfOk result (λ answers. HasGoneOn N.options pass.old lines answers pass.new) }
+    ensures stopped { OnErr result (HasStopped N.options pass.old lines pass.new) }
+    ensures hints { hint_pass.new.queue ≡ hints.now.name }
+{
+    let mut steps = Steps::<L>::new(blank);
+    let mut left = lines;
+    let mut answers = Answers::new(alloc);
+    let _seen = pass.seen();
+    while let Some(line) = left.next() {
+        let answer = play_line(rt, alloc, node, pass, hints, hint_pass, line, &mut steps)?;
+        answers.push(answer)?;
+    }
+    Ok(answers)
+}

@@ -1,0 +1,134 @@
+//! Workers beside the sessions.
+ghost use Rattle.std.specs.Prelude.{◌≡◌, ◌≤◌, IfOk, length, true};
+ghost use Rattle.std.specs.List.{AllByRecursion};
+ghost use Rattle.pol_history.specs.Meet.{has};
+ghost use Rattle.pol_placed.specs.Seats.{ArePhases};
+
+use crate::phase::{PlayedPhases, play_phases};
+use left_right::Absorb;
+use pol_data::{Items, Memory};
+use pol_face::{Face, Op};
+use pol_node::{Node, NodeName, Pass};
+use pol_phases::Commands;
+use pol_pool::{Calls, Gate, HintPass, Hints, Job, Over, work};
+use std::alloc::Global;
+use std::sync::Wait;
+use std::thread::{Threads, join};
+
+/// What a worker does with a hint: it regenerates the slot.
+#[derive(Drop)]
+struct Regenerating<'a, N: NodeName, R: Wait + Drop>
+where
+    Face<N>: Absorb<Op<N>>,
+{
+    node: &'a Node<N, R>,
+}
+
+impl<'a, N: NodeName, R: Wait + Drop> Job for Regenerating<'a, N, R> {
+    fn run<W: Wait>(&self, rt: &W, alloc: Global, slot: u32) -> Result<(), Memory> {
+        match self.node.regenerate(rt, alloc, slot) {
+            Ok(_) => Ok(()),
+            Err(_) => Err(Memory),
+        }
+    }
+}
+
+// So many workers, each in a thread.
+fn serve<
+    N: NodeName + Send + Sync,
+    W: Threads + Wait + Sync,
+    R: Wait + Drop + Send,
+    G: Gate + Sync,
+>(
+    rt: &W,
+    alloc: Global,
+    node: &Node<N, R>,
+    hints: &Hints,
+    gate: &G,
+    calls: &Calls,
+    over: &Over,
+    hint_pass: HintPass,
+    workers: u32,
+) -> Result<(), Memory>
+    requires { hint_pass.queue ≡ hints.now.name }
+{
+    if workers == 0 {
+        return Ok(());
+    }
+    let mut hint_pass = hint_pass;
+    let mut other = hints.split(rt, &mut hint_pass)?;
+    let left = workers - 1;
+    let (others, last) = join(
+        rt,
+        || -> Result<(), Memory>
+            requires { hint_pass.queue ≡ hints.now.name }
+        { serve(rt, alloc, node, hints, gate, calls, over, hint_pass, left) },
+        || -> Result<(), Memory>
+            requires { other.queue ≡ hints.now.name }
+        {
+            work(
+                rt,
+                alloc,
+                hints,
+                &mut other,
+                &Regenerating { node },
+                gate,
+                calls,
+                over,
+            )
+        },
+    );
+    others?;
+    last
+}
+
+/// Plays phase after phase, beside so many workers, which regenerate the slots that hints name until the sessions have
+/// ended. The one error is want of memory.
+pub fn play_beside<
+    N: NodeName + Send + Sync,
+    W: Threads + Wait + Sync,
+    R: Wait + Drop + Send,
+    G: Gate + Sync,
+>(
+    rt: &W,
+    alloc: Global,
+    node: &Node<N, R>,
+    hints: &Hints,
+    gate: &G,
+    hint_pass: HintPass,
+    workers: u32,
+    passes: Vec<Pass<N>>,
+    phases: Vec<Items<Commands>>,
+) -> Result<PlayedPhases<N>, Memory>
+    requires handed_out { AllByRecursion (λ pass. has N.passes pass.number ≡ true) passes.items }
+    requires one_each { AllByRecursion (λ lines. length lines ≡ length passes.items) phases.items }
+    requires few { length passes.items ≤ 40 }
+    requires hints { hint_pass.queue ≡ hints.now.name }
+    ensures phases { IfOk result (λ played. ArePhases N.options N.passes passes.items phases.items played.told.items played.passes.items) }
+    ensures as_many { IfOk result (λ played. length played.passes.items ≡ length passes.items) }
+{
+    let mut hint_pass = hint_pass;
+    let other = hints.split(rt, &mut hint_pass)?;
+    let calls = Calls::new();
+    let over = Over::new();
+    let (played, served) = join(
+        rt,
+        || -> Result<PlayedPhases<N>, Memory>
+            requires handed_out { AllByRecursion (λ pass. has N.passes pass.number ≡ true) passes.items }
+            requires one_each { AllByRecursion (λ lines. length lines ≡ length passes.items) phases.items }
+            requires few { length passes.items ≤ 40 }
+            requires hints { hint_pass.queue ≡ hints.now.name }
+            ensures phases { IfOk result (λ played. ArePhases N.options N.passes passes.items phases.items played.told.items played.passes.items) }
+            ensures as_many { IfOk result (λ played. length played.passes.items ≡ length passes.items) }
+        {
+            let played = play_phases(rt, alloc, node, hints, gate, hint_pass, passes, phases);
+            over.set();
+            played
+        },
+        || -> Result<(), Memory>
+            requires { other.queue ≡ hints.now.name }
+        { serve(rt, alloc, node, hints, gate, &calls, &over, other, workers) },
+    );
+    served?;
+    played
+}

@@ -1,0 +1,3 @@
+pub mod OneSummary
+pub mod Fields
+pub mod Tallies

@@ -1,0 +1,37 @@
+"""A map of one entry more than may be published, and then of as many: the endpoint keeps its last map meanwhile.
+
+182 identities with 90 port prefixes each (30 for each of three protocols), one entry for TCP 80, one for UDP 80, one for
+the local host and one for egress, and at first one for SCTP 80.
+"""
+import json
+
+NAMESPACE = "k8s:io.kubernetes.pod.namespace=default"
+
+
+def line(**value):
+    print(json.dumps(value, separators=(",", ":")))
+
+
+def apply(name, entries):
+    spec = {"endpointSelector": {}, "ingress": entries}
+    line(op="apply", policy={"apiVersion": "cilium.io/v2", "kind": "CiliumNetworkPolicy", "metadata": {"name": name}, "spec": spec})
+
+
+def ports(*found):
+    return {"toPorts": [{"ports": [dict(zip(("port", "protocol"), it)) for it in found]}]}
+
+
+def verdict():
+    line(op="verdict", endpoint="web", direction="ingress", identity=300, protocol="TCP", port=443)
+
+
+big = {"fromEndpoints": [{"matchLabels": {"app": "big"}}], "toPorts": [{"ports": [{"port": "1", "endPort": 65534}]}]}
+line(op="endpoint", name="web", labels=[NAMESPACE], address="10.0.0.1")
+for j in range(182):
+    line(op="identity", name=f"i{j}", labels=[NAMESPACE, "k8s:app=big", f"k8s:n={j}"])
+apply("small", [ports(("80", "TCP"))])
+for entries in (None, [big, ports(("80", "UDP"), ("80", "SCTP"))], [big, ports(("80", "UDP"))]):
+    if entries:
+        apply("big", entries)
+    line(op="sync")
+    verdict()
