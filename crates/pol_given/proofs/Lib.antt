@@ -1,0 +1,6 @@
+pub mod Times
+pub mod Raw
+pub mod Balanced
+pub mod FirstRow
+pub mod SideBySide
+pub mod PeerStays

@@ -1,0 +1,4 @@
+pub mod Given
+pub mod Balance
+pub mod Told
+pub mod PeerRow

@@ -1,0 +1,116 @@
+//! The keys that ports give.
+ghost use Rattle.std.specs.Prelude.{◌≡◌, ◌++◌, IfOk, OnOk, map};
+ghost use Rattle.std.specs.List.{flat_map};
+ghost use Rattle.pol_mapkey.specs.MapKey.{every_key, port_key};
+ghost use Rattle.pol_model.specs.PolicyMap.{ports_keys, spec_keys};
+ghost use Rattle.pol_distill.specs.RawKeys.{with_id};
+
+use pol_data::Memory;
+use pol_mapkey::{KeyProto, MapKey};
+use pol_model::EVERY_IDENTITY;
+use pol_ports::{Direction, PortPrefix, Proto, split};
+use pol_rule::PortSpec;
+use std::alloc::Global;
+
+/// The key of an identity for every protocol and port.
+#[tactic(auto, using(pol_distill::proofs::RawLists::every_key_is))]
+pub(crate) fn every_key(dir: Direction, id: u32) -> MapKey
+    ensures { result ≡ every_key dir id }
+{
+    MapKey {
+        dir,
+        id,
+        proto: KeyProto::Every,
+        port: PortPrefix { bits: 0, len: 0 },
+    }
+}
+
+/// The key of an identity for a protocol and a port prefix.
+fn port_key(dir: Direction, id: u32, proto: Proto, port: PortPrefix) -> MapKey
+    ensures { result ≡ port_key dir id proto port }
+{
+    MapKey {
+        dir,
+        id,
+        proto: KeyProto::from(proto),
+        port,
+    }
+}
+
+/// The same key for another identity.
+pub(crate) fn with_id(key: &MapKey, id: u32) -> MapKey
+    ensures { result ≡ with_id id key.now }
+{
+    MapKey {
+        dir: key.dir,
+        id,
+        proto: key.proto,
+        port: key.port,
+    }
+}
+
+fn push_parts(
+    out: &mut Vec<MapKey>,
+    dir: Direction,
+    proto: Proto,
+    parts: &[PortPrefix],
+) -> Result<(), Memory>
+    ensures { OnOk result (out.new.items ≡ out.old.items ++ map (port_key dir 0 proto) parts.now) }
+{
+    for part in parts {
+        out.push(port_key(dir, EVERY_IDENTITY, proto, *part))?;
+    }
+    Ok(())
+}
+
+/// Appends the keys of a port, for every identity.
+fn push_spec(
+    alloc: Global,
+    out: &mut Vec<MapKey>,
+    dir: Direction,
+    spec: &PortSpec,
+) -> Result<(), Memory>
+    ensures { OnOk result (out.new.items ≡ out.old.items ++ spec_keys dir 0 spec.now) }
+{
+    let parts = split(alloc, spec.range)?;
+    match spec.proto {
+        Some(proto) => push_parts(out, dir, proto, &parts),
+        None => {
+            push_parts(out, dir, Proto::Tcp, &parts)?;
+            push_parts(out, dir, Proto::Udp, &parts)?;
+            push_parts(out, dir, Proto::Sctp, &parts)
+        }
+    }
+}
+
+fn push_specs(
+    alloc: Global,
+    out: &mut Vec<MapKey>,
+    dir: Direction,
+    specs: &[PortSpec],
+) -> Result<(), Memory>
+    ensures { OnOk result (out.new.items ≡ out.old.items ++ flat_map (spec_keys dir 0) specs.now) }
+{
+    for spec in specs {
+        push_spec(alloc, out, dir, spec)?;
+    }
+    Ok(())
+}
+
+/// The keys of a filter's ports, for every identity.
+#[tactic(auto, using(pol_distill::proofs::RawLists::keys_or_every))]
+pub(crate) fn ports_keys(
+    alloc: Global,
+    dir: Direction,
+    ports: &[PortSpec],
+) -> Result<Vec<MapKey>, Memory>
+    ensures { IfOk result (λ keys. keys.items ≡ ports_keys dir 0 ports.now) }
+{
+    let mut keys = Vec::new(alloc);
+    if ports.is_empty() {
+        keys.push(every_key(dir, EVERY_IDENTITY))?;
+    } else {
+        push_specs(alloc, &mut keys, dir, ports)?;
+    }
+    Ok(keys)
+}

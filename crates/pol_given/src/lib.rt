@@ -1,0 +1,16 @@
+//! Which entries filters put into a policy map, and which come and go when filters or sets change.
+//!
+//! `given` makes the entries of filters and sets. `moved` goes through old and new filters side by side: of a filter that
+//! comes or goes it makes all entries, of one that stays those of the numbers that its peers gained or lost.
+#![tactic(auto)]
+
+mod entries;
+mod keys;
+mod pairs;
+mod rows;
+mod staying;
+mod turns;
+
+pub use entries::given;
+pub use staying::Moved;
+pub use turns::{moved, replaced};
