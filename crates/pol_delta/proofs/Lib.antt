@@ -1,4 +1,4 @@
-pub mod Finding
-pub mod Differing
 pub mod SameRows
 pub mod Given
+pub mod Staying
+pub mod Standing

@@ -3,3 +3,4 @@ pub mod Applies
 pub mod Givers
 pub mod Giving
 pub mod Lists
+pub mod Kept

@@ -1,14 +1,14 @@
-//! Policy maps made anew from what changed.
+//! Policy maps that follow what changes.
 //!
-//! A `Work` keeps what an endpoint's policy map is made of. `Work::apply` takes it to other filters and sets, and lists
-//! exactly the keys of the map that changed.
+//! A `Work` keeps what an endpoint's policy map is made of, and how often each key of it is given. `Work::apply` takes it to
+//! other filters and sets, and lists exactly the keys of the map that changed.
 #![tactic(auto)]
 
 mod changes;
 mod copies;
-mod difference;
 mod givers;
 mod giving;
+mod turned;
 mod work;
 
 pub use changes::{Changes, Givers};

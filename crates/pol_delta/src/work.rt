@@ -1,4 +1,4 @@
-//! What an endpoint's policy map is made of, with the map.
+//! What an endpoint's policy map is made of, with how often each of its keys is given.
 ghost use Rattle.std.specs.Prelude.{◌≡◌, IfOk, IfSome, OnErr, OnOk, length};
 ghost use Rattle.std.specs.Arc.{arc_value};
 ghost use Rattle.pol_distill.specs.Distilled.{distilled};
@@ -10,40 +10,42 @@ ghost use Rattle.pol_delta.specs.Applies.{MovesTell, NamesFilters, PlacesDiffer}
 
 use crate::changes::{Changes, Givers};
 use crate::copies::{entries_of, rows_copy};
-use crate::difference::difference;
 use crate::givers::{allows_in, denies_in};
+use crate::turned::turned;
 use pol_data::Memory;
 use pol_distill::distill;
 use pol_edits::ChangeList;
+use pol_given::given;
 use pol_l4::Filters;
-use pol_mapkey::{Kind, MapKey};
+use pol_mapkey::MapKey;
 use pol_ports::Direction;
 use pol_sets::Sets;
+use pol_tally::Tally;
 use std::alloc::Global;
 use std::marker::Model;
 use std::sync::Arc;
 
-/// An endpoint's filters and the sets of their peers, with the policy map that is made of them. A contract sees the
-/// filters and the sets.
+/// An endpoint's filters and the sets of their peers, with the size of the policy map that is made of them and a tally of
+/// its entries. A contract sees the filters and the sets.
 #[derive(Drop)]
 pub struct Work {
     alloc: Global,
     filters: Arc<Filters>,
     sets: Sets,
-    entries: Vec<(MapKey, Kind)>,
+    size: u64,
+    tally: Tally,
 }
 
 impl Model for Work {
-    ghost use Rattle.std.specs.Prelude.{◌≡◌};
     ghost use Rattle.std.specs.Arc.{arc_value};
-    ghost use Rattle.pol_distill.specs.Distilled.{distilled};
+    ghost use Rattle.pol_delta.specs.Kept.{IsKept};
     ghost use Rattle.pol_delta.specs.Work.{WorkOf};
 
     ghost Value = { WorkOf };
 
     ghost view = { λ w. record { filters = arc_value w.filters; rows = w.sets } };
 
-    ghost invariant = { λ w. w.entries.items ≡ distilled (arc_value w.filters) w.sets };
+    ghost invariant = { λ w. IsKept (arc_value w.filters) w.sets w.size w.tally };
 }
 
 impl Work {
@@ -54,12 +56,14 @@ impl Work {
         ensures map { IfOk result (λ work. map_of work ≡ distilled (arc_value filters) sets) }
     {
         let table = distill(alloc, &filters, &sets)?;
-        let entries = entries_of(alloc, &table)?;
+        let raw = given(alloc, &filters, sets.as_slice())?;
+        let tally = Tally::of(alloc, &raw)?;
         Ok(Work {
             alloc,
             filters,
             sets,
-            entries,
+            size: table.count(),
+            tally,
         })
     }
 
@@ -80,24 +84,36 @@ impl Work {
     {
         let sets = rows_copy(self.alloc, changes.sets.as_slice())?;
         let filters = Arc::try_clone(&changes.filters)?;
-        let next = Work::from_scratch(self.alloc, filters, sets)?;
-        let list = difference(self.alloc, &self.entries, &next.entries)?;
-        *self = next;
-        Ok(list)
+        let changed = turned(
+            self.alloc,
+            &mut self.tally,
+            self.size,
+            &self.filters,
+            self.sets.as_slice(),
+            &changes.filters,
+            changes.sets.as_slice(),
+            &changes.moves,
+        )?;
+        self.filters = filters;
+        self.sets = sets;
+        self.size = changed.size;
+        Ok(changed.list)
     }
 
     /// `Set` of each entry of the map, in key order. The one error is want of memory.
     pub fn whole(&self, alloc: Global) -> Result<ChangeList, Memory>
         ensures whole { IfOk result (λ list. list ≡ whole (map_of self.now)) }
     {
-        ChangeList::whole(alloc, &self.entries)
+        let table = distill(alloc, &self.filters, &self.sets)?;
+        let entries = entries_of(alloc, &table)?;
+        ChangeList::whole(alloc, &entries)
     }
 
     /// How many entries the map has.
     pub fn count(&self) -> u64
         ensures count { result ≡ length (map_of self.now) }
     {
-        self.entries.len() as u64
+        self.size
     }
 
     /// How many filters that allow, and how many that deny, give the key, each counted once: none where nothing is

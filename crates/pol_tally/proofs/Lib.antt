@@ -11,3 +11,4 @@ pub mod Differ
 pub mod Unaffected
 pub mod Settled
 pub mod Listing
+pub mod Sized

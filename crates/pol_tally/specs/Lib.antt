@@ -2,3 +2,4 @@ pub mod Cells
 pub mod Times
 pub mod Counted
 pub mod Affected
+pub mod Sizes

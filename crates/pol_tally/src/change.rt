@@ -1,5 +1,5 @@
 //! Entries that come and go at once.
-ghost use Rattle.std.specs.Prelude.{◌≡◌, ◌+◌, ◌≤◌, IfOk, OnErr, OnOk, List};
+ghost use Rattle.std.specs.Prelude.{◌≡◌, ◌+◌, ◌≤◌, IfOk, OnErr, OnOk, List, length};
 ghost use Rattle.std.specs.List.{AllByRecursion};
 ghost use Rattle.pol_mapkey.specs.Entries.{Entry};
 ghost use Rattle.pol_mapkey.specs.declared.Kind.{Kind as OneKind};
@@ -9,7 +9,8 @@ ghost use Rattle.pol_distill.specs.Sorted.{IsSmall};
 ghost use Rattle.pol_edits.specs.Changes.{IsDifference, table_of};
 ghost use Rattle.pol_tally.specs.Affected.{ListsAffected};
 ghost use Rattle.pol_tally.specs.Cells.{lowered, raised};
-ghost use Rattle.pol_tally.specs.Counted.{IsAtRest, IsStillBefore, IsTallyOf, cells_of, settled_where, times_of};
+ghost use Rattle.pol_tally.specs.Counted.{IsAtRest, IsStillBefore, IsTallyOf, cells_of, settled_where, times_of, times_on};
+ghost use Rattle.pol_tally.specs.Sizes.{clear_count, new_count};
 ghost use Rattle.pol_tally.specs.declared.cells.Side.TheVariants.{After as after, Before as before};
 ghost use Rattle.pol_tally.specs.Times.{times};
 
@@ -17,6 +18,7 @@ use crate::affected::affected;
 use crate::cells::Side;
 use crate::differences::changes_at;
 use crate::lists::{lower_all, raise_all, settle_all};
+use crate::sizes::{Changed, resized};
 use crate::tally::Tally;
 use pol_data::Memory;
 use pol_edits::ChangeList;
@@ -37,23 +39,26 @@ fn listed(
     Ok(ChangeList::from_vec(changes))
 }
 
-/// Counts what comes and goes for the side after the change, and lists what differs. After an error some of it is
-/// counted.
+/// Counts what comes and goes for the side after the change, lists what differs, and tells the map's size then. After an
+/// error some of it is counted.
 fn staged(
     alloc: Global,
     tally: &mut Tally,
+    size: u64,
     come: &[(MapKey, Kind)],
     gone: &[(MapKey, Kind)],
-) -> Result<ChangeList, Memory>
+) -> Result<Changed, Memory>
     requires there { (q : OneKey) (k : OneKind) → times gone.now q k ≤ (cells_of tally.old q k).after + times come.now q k }
     ensures ok { OnOk result ((q : OneKey) (k : OneKind) → cells_of tally.new q k ≡ lowered (times gone.now q k) (raised (times come.now q k) (cells_of tally.old q k))) }
     ensures before { (q : OneKey) (k : OneKind) → IsStillBefore (times come.now q k + times gone.now q k) (cells_of tally.old q k) (cells_of tally.new q k) }
-    ensures list { IfOk result (λ list. ListsAffected (cells_of tally.new) (λ q k. times come.now q k + times gone.now q k) list) }
+    ensures list { IfOk result (λ changed. ListsAffected (cells_of tally.new) (λ q k. times come.now q k + times gone.now q k) changed.list) }
+    ensures size { IfOk result (λ changed. changed.size + clear_count changed.list ≡ size + new_count (times_on before (cells_of tally.new)) changed.list) }
 {
     raise_all(tally, come)?;
     lower_all(tally, gone);
     let list = listed(alloc, tally, come, gone)?;
-    Ok(list)
+    let size = resized(tally, size, &list)?;
+    Ok(Changed { list, size })
 }
 
 /// Lets a side stand for both, wherever something came or went. It takes no memory.
@@ -90,26 +95,29 @@ impl Tally {
     }
 
     /// Entries come, and others go. It gives exactly the keys at which the canonical map of the entries changes: `Set` with
-    /// the kind that a key has then, `Clear` where it has none any more. The one error is want of memory, and then all is
+    /// the kind that a key has then, `Clear` where it has none any more. From the map's size it tells its size then. The one error is want of memory, and then all is
     /// as before. Only keys that come or go, and those under a deny that comes or goes, are looked at.
     pub fn change(
         &mut self,
         alloc: Global,
+        size: u64,
         come: &[(MapKey, Kind)],
         gone: &[(MapKey, Kind)],
-    ) -> Result<ChangeList, Memory>
+    ) -> Result<Changed, Memory>
         requires rest { IsAtRest self.old }
         requires there { (q : OneKey) (k : OneKind) → times gone.now q k ≤ times_of self.old q k + times come.now q k }
         ensures rest { IsAtRest self.new }
         ensures counts { OnOk result ((q : OneKey) (k : OneKind) → times_of self.new q k + times gone.now q k ≡ times_of self.old q k + times come.now q k) }
-        ensures list { IfOk result (λ list. (was is : List Entry) → AllByRecursion IsSmall was → AllByRecursion IsSmall is → IsTallyOf was self.old → IsTallyOf is self.new
-            → IsDifference list (table_of (canonical was)) (table_of (canonical is))) }
+        ensures list { IfOk result (λ changed. (was is : List Entry) → AllByRecursion IsSmall was → AllByRecursion IsSmall is → IsTallyOf was self.old → IsTallyOf is self.new
+            → IsDifference changed.list (table_of (canonical was)) (table_of (canonical is))) }
+        ensures size { IfOk result (λ changed. (was is : List Entry) → AllByRecursion IsSmall was → AllByRecursion IsSmall is → IsTallyOf was self.old → IsTallyOf is self.new
+            → size ≡ length (canonical was) → changed.size ≡ length (canonical is)) }
         ensures err { OnErr result ((q : OneKey) (k : OneKind) → times_of self.new q k ≡ times_of self.old q k) }
     {
-        match staged(alloc, self, come, gone) {
-            Ok(list) => {
+        match staged(alloc, self, size, come, gone) {
+            Ok(changed) => {
                 keep(self, come, gone);
-                Ok(list)
+                Ok(changed)
             }
             Err(memory) => {
                 take_back(self, come, gone);

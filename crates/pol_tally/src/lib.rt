@@ -12,6 +12,8 @@ mod keys;
 mod lists;
 mod order;
 mod reading;
+mod sizes;
 mod tally;
 
+pub use sizes::Changed;
 pub use tally::Tally;
