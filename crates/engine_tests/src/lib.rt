@@ -21,3 +21,5 @@ mod policy;
 mod scripts;
 #[cfg(test)]
 mod selectors;
+#[cfg(test)]
+mod works;
