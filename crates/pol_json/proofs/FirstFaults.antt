@@ -4,10 +4,12 @@ use Rattle.std.specs.Option.{option_or}
 use Rattle.serde_json.specs.Data.{Data}
 use Rattle.pol_json.specs.declared.fault.DocFault.{DocFault}
 use Rattle.pol_json.specs.declared.table.Content.TheVariants.{Object}
-use Rattle.pol_json.specs.declared.table.Kind.TheVariants.{Policy}
+use Rattle.pol_json.specs.declared.table.Kind.{Kind}
+use Rattle.pol_json.specs.declared.table.Kind.TheVariants.{Policy, NetworkPolicy}
 use Rattle.pol_json.specs.Build.{policy_of}
-use Rattle.pol_json.specs.Document.{head_fault, places_of, first_fault, unless_fault, read_document}
+use Rattle.pol_json.specs.Document.{head_fault, places_in, places_of, first_fault, unless_fault, read_document}
 use Rattle.pol_json.specs.Look.{IsAt, IsOneOf, AllSound, IsRead, IsFirstFault}
+use Rattle.pol_json.specs.Network.{network_fault, network_head_fault}
 use Rattle.pol_json.specs.Path.{fault_of, fault_by, path_text}
 use Rattle.pol_json.specs.Places.{Step, Place, Cause, Found, cause_of, first_found}
 use Rattle.pol_json.specs.Table.{Shape, unknown, unsupported, one, list_of}
@@ -93,13 +95,28 @@ found_is : (found : Option Found) (fault : DocFault) → option_map fault_of fou
 found_is None fault is = cc
 found_is (Some f) fault is = (f, refl, cc)
 
+-- where nothing is found, nothing is wrong at what a path leads to
+pub sound_at : (kind : Kind) (d : Data) → first_found (places_in kind d) ≡ None → (path : List Step) (shape : Shape) (value : Data)
+    → IsAt kind path d shape value → cause_of shape value ≡ None
+sound_at kind d none path shape value led =
+    none_of (places_in kind d) (record { path = path; shape = shape; value = value }) none (led_to_is_a_place path (one (Object kind)) d shape value led)
+
+-- in a document that is read nothing is found
+pub nothing_found : (d : Data) (policy : RawPolicy) → read_document d ≡ Ok policy → first_found (places_of d) ≡ None
+nothing_found d policy is = neither (head_fault d) (first_found (places_of d)) (ok_has_no_fault (first_fault d) policy (policy_of d) is)
+
 -- a document that is read has nothing wrong at what a path leads to
 pub read_is_sound : (d : Data) (policy : RawPolicy) → read_document d ≡ Ok policy → (path : List Step) (shape : Shape) (value : Data)
-    → IsAt path d shape value → cause_of shape value ≡ None
-read_is_sound d policy is path shape value led =
-    none_of (places_of d) (record { path = path; shape = shape; value = value })
-    (neither (head_fault d) (first_found (places_of d)) (ok_has_no_fault (first_fault d) policy (policy_of d) is))
-    (led_to_is_a_place path (one (Object Policy)) d shape value led)
+    → IsAt Policy path d shape value → cause_of shape value ≡ None
+read_is_sound d policy is = sound_at Policy d (nothing_found d policy is)
+
+-- the same, of a NetworkPolicy
+pub nothing_found_in_network : (d : Data) → network_fault d ≡ None → first_found (places_in NetworkPolicy d) ≡ None
+nothing_found_in_network d none = neither (network_head_fault d) (first_found (places_in NetworkPolicy d)) none
+
+pub network_is_sound : (d : Data) → network_fault d ≡ None → (path : List Step) (shape : Shape) (value : Data)
+    → IsAt NetworkPolicy path d shape value → cause_of shape value ≡ None
+network_is_sound d none = sound_at NetworkPolicy d (nothing_found_in_network d none)
 
 sound_is_read : (shape : Shape) (value : Data) → cause_of shape value ≡ None → IsRead shape
 sound_is_read unknown value is = cc
@@ -109,16 +126,15 @@ sound_is_read (list_of content) value is = tt
 
 -- a document that is read has only members that the table has a shape for
 pub read_is_of_the_table : (d : Data) (policy : RawPolicy) → read_document d ≡ Ok policy → (path : List Step) (shape : Shape) (value : Data)
-    → IsAt path d shape value → IsRead shape
+    → IsAt Policy path d shape value → IsRead shape
 read_is_of_the_table d policy is path shape value led = sound_is_read shape value (read_is_sound d policy is path shape value led)
 
--- the fault of a document that is refused behind its head
-pub refused_at_the_first : (d : Data) (fault : DocFault) → head_fault d ≡ None → read_document d ≡ Err fault → IsFirstFault d fault
-refused_at_the_first d fault head is =
-    let both = err_has_the_fault (first_fault d) fault (policy_of d) is in
-    let found = found_is (first_found (places_of d)) fault (rw head at both) in
-    let first = first_of (places_of d) found.0 found.1 in
-    let among : IsOneOf first.place (places_of d) = subst (IsOneOf first.place) (sym first.in_order) (among_middle first.before first.after first.place) in
+-- what is found first, told as the fault of a document of this kind
+told_first : (kind : Kind) (d : Data) (fault : DocFault) → option_map fault_of (first_found (places_in kind d)) ≡ Some fault → IsFirstFault kind d fault
+told_first kind d fault is =
+    let found = found_is (first_found (places_in kind d)) fault is in
+    let first = first_of (places_in kind d) found.0 found.1 in
+    let among : IsOneOf first.place (places_in kind d) = subst (IsOneOf first.place) (sym first.in_order) (among_middle first.before first.after first.place) in
     record {
       before = first.before;
       place = first.place;
@@ -126,7 +142,16 @@ refused_at_the_first d fault head is =
       cause = found.0.cause;
       in_order = first.in_order;
       sound_before = first.sound_before;
-      leads = places_are_led_to (one (Object Policy)) d first.place among;
+      leads = places_are_led_to (one (Object kind)) d first.place among;
       holds = first.holds;
       told = found.2 ∙ ap (λ path. fault_by path_text path found.0.cause) first.way;
     }
+
+-- the fault of a document that is refused behind its head
+pub refused_at_the_first : (d : Data) (fault : DocFault) → head_fault d ≡ None → read_document d ≡ Err fault → IsFirstFault Policy d fault
+refused_at_the_first d fault head is =
+    let both = err_has_the_fault (first_fault d) fault (policy_of d) is in
+    told_first Policy d fault (rw head at both)
+
+pub network_refused_at_the_first : (d : Data) (fault : DocFault) → network_head_fault d ≡ None → network_fault d ≡ Some fault → IsFirstFault NetworkPolicy d fault
+network_refused_at_the_first d fault head is = told_first NetworkPolicy d fault (rw head at is)

@@ -1,24 +1,25 @@
 -- The key of a document that is read: its name and its namespace have the form of names, since its metadata is judged.
-use Rattle.std.proofs.Common.{◌≡◌, ℕ, Bool, true, false, not, cond, List, [], ◌∷◌, codes, Option, None, Some, unwrap_or, option_and_then, Ok, Ordering, Less, Equal, Greater, nat_cmp, IsTrue, inl, inr, refl, sym, ap, subst, ◌∙◌}
+use Rattle.std.proofs.Common.{◌≡◌, ℕ, Bool, true, false, not, cond, List, [], ◌∷◌, codes, Option, None, Some, is_some, unwrap_or, option_and_then, Ok, Ordering, Less, Equal, Greater, nat_cmp, IsTrue, inl, inr, refl, sym, ap, subst, ◌∙◌}
 use Rattle.std.proofs.lemmas.Map.Lookups.{exact_bytes}
 use Rattle.std.specs.Cmp.Lexicographic.{slice_cmp}
 use Rattle.std.specs.Option.{option_or}
 use Rattle.std.specs.Ordering.{match_ordering}
 use Rattle.serde_json.specs.Data.{Data, null, boolean, number, string, array, object, Members, no_members, member}
 use Rattle.serde_json.specs.Find.{as_str, get_member}
-use Rattle.pol_json.proofs.FirstFaults.{read_is_sound}
+use Rattle.pol_json.proofs.FirstFaults.{nothing_found, nothing_found_in_network, sound_at}
 use Rattle.pol_json.specs.Build.{default_namespace, is_cluster_wide, metadata_text, policy_of}
-use Rattle.pol_json.specs.Document.{first_fault, has_name, has_spec, head_fault, is_long, is_policy, read_document, unless_fault}
+use Rattle.pol_json.specs.Document.{first_fault, has_name, has_spec, head_fault, is_long, is_policy, places_in, read_document, unless_fault}
 use Rattle.pol_json.specs.Look.{HasMember, IsAt, StepsTo}
 use Rattle.pol_json.specs.Members.{is_null, present, text_at, unless_null}
-use Rattle.pol_json.specs.Places.{Cause, cause_of, named, or_wrong, text_cause, unless, wrong_shape}
+use Rattle.pol_json.specs.Network.{is_network_policy, network_fault, network_head_fault, network_name, network_namespace}
+use Rattle.pol_json.specs.Places.{Cause, cause_of, first_found, named, or_wrong, text_cause, unless, wrong_shape}
 use Rattle.pol_json.specs.Table.{one, shape_of}
 use Rattle.pol_json.specs.Texts.{is_dns_name}
 use Rattle.pol_json.specs.declared.fault.DocFault.{DocFault}
 use Rattle.pol_json.specs.declared.fault.DocFault.TheVariants.{NotPolicy, NoName, NoSpec}
 use Rattle.pol_json.specs.declared.table.Content.TheVariants.{Object, Text}
 use Rattle.pol_json.specs.declared.table.Kind.{Kind}
-use Rattle.pol_json.specs.declared.table.Kind.TheVariants.{Metadata, Policy}
+use Rattle.pol_json.specs.declared.table.Kind.TheVariants.{Metadata, NetworkPolicy, Policy}
 use Rattle.pol_json.specs.declared.table.TextForm.TheVariants as form
 use Rattle.pol_rule.specs.declared.raw.RawPolicy.{RawPolicy}
 
@@ -61,14 +62,19 @@ passes : (b : Bool) (cause : Cause) → unless b cause ≡ None → b ≡ true
 passes true cause none = refl
 passes false cause none = absurd cc
 
-module _ (d : Data) (raw : RawPolicy) (is : read_document d ≡ Ok raw) where
+-- from a document of a kind that has metadata, and in which nothing is found
+record HasMetadata (kind : Kind) (d : Data) : Type 0 where
+  none : first_found (places_in kind d) ≡ None
+  leads : (m : Data) → present (codes "metadata") d ≡ Some m → StepsTo (named (codes "metadata")) (one (Object kind)) d (one (Object Metadata)) m
+
+module _ (kind : Kind) (d : Data) (of : HasMetadata kind d) where
   name_at : (name : List ℕ) (m e : Data) (text : List ℕ) → shape_of Metadata name ≡ one (Text form.Name) → present (codes "metadata") d ≡ Some m
       → present name m ≡ Some e → as_str e ≡ Some text → is_dns_name text ≡ true
   name_at name m e text shape at_metadata at_name reads =
-      let leads : IsAt (named (codes "metadata") ∷ named name ∷ []) d (shape_of Metadata name) e =
-      (one (Object Metadata), m, steps Policy (codes "metadata") d m at_metadata, (shape_of Metadata name, e, steps Metadata name m e at_name, (refl, refl))) in
+      let leads : IsAt kind (named (codes "metadata") ∷ named name ∷ []) d (shape_of Metadata name) e =
+      (one (Object Metadata), m, of.leads m at_metadata, (shape_of Metadata name, e, steps Metadata name m e at_name, (refl, refl))) in
       let sound : cause_of (one (Text form.Name)) e ≡ None =
-      subst (λ s. cause_of s e ≡ None) shape (read_is_sound d raw is (named (codes "metadata") ∷ named name ∷ []) (shape_of Metadata name) e leads) in
+      subst (λ s. cause_of s e ≡ None) shape (sound_at kind d of.none (named (codes "metadata") ∷ named name ∷ []) (shape_of Metadata name) e leads) in
       let of_text : or_wrong (text_cause form.Name) (Some text) ≡ None = subst (λ o. or_wrong (text_cause form.Name) o ≡ None) reads sound in
       passes (is_dns_name text) wrong_shape of_text
 
@@ -124,10 +130,13 @@ is_read d raw is =
     let none : head_fault d ≡ None = no_first (head_fault d) _ of.0 in
     record { named_one = head_named (is_policy d) (has_name d) (has_spec d) none; built = of.1 }
 
+in_document : (d : Data) (raw : RawPolicy) → read_document d ≡ Ok raw → HasMetadata Policy d
+in_document d raw is = record { none = nothing_found d raw is; leads = steps Policy (codes "metadata") d }
+
 pub key_name : (d : Data) (raw : RawPolicy) → read_document d ≡ Ok raw → IsTrue (is_dns_name raw.key.name)
 key_name d raw is =
     let of = is_read d raw is in
-    subst (λ (policy : RawPolicy). is_dns_name policy.key.name ≡ true) of.built (name_read d raw is (present (codes "metadata") d) refl of.named_one)
+    subst (λ (policy : RawPolicy). is_dns_name policy.key.name ≡ true) of.built (name_read Policy d (in_document d raw is) (present (codes "metadata") d) refl of.named_one)
 
 spaced : (wide : Bool) (text : List ℕ) → is_dns_name text ≡ true → wide ≡ false → is_dns_name (cond wide [] text) ≡ true
 spaced true text is narrow = absurd cc
@@ -137,7 +146,7 @@ pub key_namespace : (d : Data) (raw : RawPolicy) → read_document d ≡ Ok raw 
 key_namespace d raw is narrow =
     let of = is_read d raw is in
     subst (λ (policy : RawPolicy). policy.key.cluster_wide ≡ false → is_dns_name policy.key.namespace ≡ true) of.built
-    (spaced (is_cluster_wide d) (metadata_text (codes "namespace") default_namespace d) (namespace_read d raw is (present (codes "metadata") d) refl)) narrow
+    (spaced (is_cluster_wide d) (metadata_text (codes "namespace") default_namespace d) (namespace_read Policy d (in_document d raw is) (present (codes "metadata") d) refl)) narrow
 
 unspaced : (wide : Bool) (text : List ℕ) → wide ≡ true → cond wide [] text ≡ []
 unspaced true text is = refl
@@ -148,3 +157,17 @@ wide_key d raw is =
     let of = is_read d raw is in
     subst (λ (policy : RawPolicy). policy.key.cluster_wide ≡ true → policy.key.namespace ≡ []) of.built
     (unspaced (is_cluster_wide d) (metadata_text (codes "namespace") default_namespace d))
+
+-- ---- the names of a NetworkPolicy
+
+in_network : (d : Data) → network_fault d ≡ None → HasMetadata NetworkPolicy d
+in_network d none = record { none = nothing_found_in_network d none; leads = steps NetworkPolicy (codes "metadata") d }
+
+pub name_of_network : (d : Data) → network_fault d ≡ None → IsTrue (is_dns_name (network_name d))
+name_of_network d none =
+    let head : network_head_fault d ≡ None = no_first (network_head_fault d) _ none in
+    name_read NetworkPolicy d (in_network d none) (present (codes "metadata") d) refl
+    (head_named (is_network_policy d) (has_name d) (is_some (present (codes "spec") d)) head)
+
+pub namespace_of_network : (d : Data) → network_fault d ≡ None → IsTrue (is_dns_name (network_namespace d))
+namespace_of_network d none = namespace_read NetworkPolicy d (in_network d none) (present (codes "metadata") d) refl

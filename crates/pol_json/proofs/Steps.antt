@@ -12,7 +12,7 @@ use Rattle.pol_json.specs.Places.{Step, Place, Cause, unknown_name, left_out, wr
 use Rattle.pol_json.specs.Members.{is_null}
 use Rattle.pol_json.specs.Table.{Shape, one}
 use Rattle.pol_json.specs.declared.table.Content.{Content}
-use Rattle.pol_json.specs.declared.table.Content.TheVariants.{Ignored, Text, Number, Object}
+use Rattle.pol_json.specs.declared.table.Content.TheVariants.{Ignored, Text, Number, PortNumber, Object}
 
 -- a path of one step
 pub one_step : (text : List ℕ) → text ++ [] ≡ text
@@ -100,6 +100,7 @@ pub sound_leaf : (step : Step) (content : Content) (d : Data) → is_sound_leaf 
 sound_leaf step Ignored d sound = leaf_under step Ignored d refl refl
 sound_leaf step (Text form) d sound = leaf_under step (Text form) d (no_cause (content_cause (Text form) d) sound) refl
 sound_leaf step Number d sound = leaf_under step Number d (no_cause (content_cause Number d) sound) refl
+sound_leaf step PortNumber d sound = leaf_under step PortNumber d (no_cause (content_cause PortNumber d) sound) refl
 sound_leaf step (Object kind) d sound = cc
 
 -- a member that isn't null is there

@@ -24,6 +24,10 @@ text_of d = unwrap_or (as_str d) []
 abbrev pub member_text : List ℕ → Data → List ℕ
 member_text name d = unwrap_or (text_at name d) []
 
+-- a member, as `of` has it; none where it is absent
+abbrev pub member_of : {A : Type 0} → (Data → A) → List ℕ → Data → Option A
+member_of of name d = option_map of (present name d)
+
 -- the items of a member, each as `of` has it
 abbrev pub member_items : {A : Type 0} → (Data → A) → List ℕ → Data → List A
 member_items of name d = map of (unwrap_or (list_at name d) [])
@@ -85,7 +89,7 @@ entry_of dir d =
 abbrev pub rule_of : Data → RawRule
 rule_of d =
     record {
-      subject = option_map selector_of (present (codes "endpointSelector") d);
+      subject = member_of selector_of (codes "endpointSelector") d;
       ingress = member_items (entry_of Ingress) (codes "ingress") d;
       ingress_deny = member_items (entry_of Ingress) (codes "ingressDeny") d;
       egress = member_items (entry_of Egress) (codes "egress") d;

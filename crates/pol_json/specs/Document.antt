@@ -6,6 +6,7 @@ use Rattle.serde_json.specs.Data.{Data}
 use Rattle.pol_json.specs.declared.fault.DocFault.{DocFault}
 use Rattle.pol_json.specs.declared.fault.DocFault.TheVariants.{NotPolicy, NoName, NoSpec}
 use Rattle.pol_json.specs.declared.table.Content.TheVariants.{Object}
+use Rattle.pol_json.specs.declared.table.Kind.{Kind}
 use Rattle.pol_json.specs.declared.table.Kind.TheVariants.{Policy}
 use Rattle.pol_json.specs.Build.{is_cluster_wide, policy_of}
 use Rattle.pol_json.specs.Members.{is_text, present, text_at, list_at}
@@ -48,9 +49,13 @@ head_fault d =
     else if not (has_spec d) then Some NoSpec
     else None
 
+-- the places of a document of this kind
+abbrev pub places_in : Kind → Data → List Place
+places_in kind d = places (one (Object kind)) d
+
 -- the places of a document
 abbrev pub places_of : Data → List Place
-places_of d = places (one (Object Policy)) d
+places_of d = places_in Policy d
 
 -- the first fault of a document
 abbrev pub first_fault : Data → Option DocFault

@@ -6,4 +6,5 @@ pub mod Places
 pub mod Path
 pub mod Build
 pub mod Document
+pub mod Network
 pub mod Look

@@ -7,8 +7,8 @@ use Rattle.serde_json.specs.Data.{Data, Items, no_items, item, Members, no_membe
 use Rattle.serde_json.specs.Find.{get_item}
 use Rattle.pol_json.specs.declared.fault.DocFault.{DocFault}
 use Rattle.pol_json.specs.declared.table.Content.TheVariants.{Object}
-use Rattle.pol_json.specs.declared.table.Kind.TheVariants.{Policy}
-use Rattle.pol_json.specs.Document.{places_of}
+use Rattle.pol_json.specs.declared.table.Kind.{Kind}
+use Rattle.pol_json.specs.Document.{places_in}
 use Rattle.pol_json.specs.Members.{is_null}
 use Rattle.pol_json.specs.Path.{fault_by, path_text}
 use Rattle.pol_json.specs.Places.{Step, named, numbered, Place, Cause, cause_of}
@@ -31,9 +31,9 @@ abbrev pub LeadsTo : List Step → Shape → Data → Shape → Data → Type 0
 LeadsTo [] shape d s e = (shape ≡ s) × (d ≡ e)
 LeadsTo (step ∷ path) shape d s e = (t : Shape) × (f : Data) × StepsTo step shape d t f × LeadsTo path t f s e
 
--- the same, from the whole document
-abbrev pub IsAt : List Step → Data → Shape → Data → Type 0
-IsAt path d s e = LeadsTo path (one (Object Policy)) d s e
+-- the same, from the whole document of a kind
+abbrev pub IsAt : Kind → List Step → Data → Shape → Data → Type 0
+IsAt kind path d s e = LeadsTo path (one (Object kind)) d s e
 
 -- the place is one of these
 abbrev pub IsOneOf : Place → List Place → Type 0
@@ -52,15 +52,15 @@ IsRead (unsupported name) = ⊥
 IsRead (one content) = Unit {0}
 IsRead (list_of content) = Unit {0}
 
--- a place of the document whose cause is this fault, with nothing wrong at the places before it
-pub record IsFirstFault (d : Data) (fault : DocFault) : Type 0 where
+-- a place of the document of this kind whose cause is this fault, with nothing wrong at the places before it
+pub record IsFirstFault (kind : Kind) (d : Data) (fault : DocFault) : Type 0 where
   pub before : List Place
   pub place : Place
   pub after : List Place
   pub cause : Cause
-  pub in_order : places_of d ≡ before ++ place ∷ after
+  pub in_order : places_in kind d ≡ before ++ place ∷ after
   pub sound_before : AllSound before
-  pub leads : IsAt place.path d place.shape place.value
+  pub leads : IsAt kind place.path d place.shape place.value
   pub holds : cause_of place.shape place.value ≡ Some cause
   pub told : fault ≡ fault_by path_text place.path cause
 

@@ -9,7 +9,7 @@ use Rattle.pol_json.specs.declared.table.Kind.{Kind}
 use Rattle.pol_json.specs.declared.table.TextForm.{TextForm}
 use Rattle.pol_json.specs.declared.table.TextForm.TheVariants as form
 use Rattle.pol_json.specs.declared.table.Content.{Content}
-use Rattle.pol_json.specs.declared.table.Content.TheVariants.{Ignored, Text, Number, Object}
+use Rattle.pol_json.specs.declared.table.Content.TheVariants.{Ignored, Text, Number, PortNumber, Object}
 use Rattle.pol_json.specs.Members.{is_null, present}
 use Rattle.pol_json.specs.Table.{Shape, unknown, unsupported, one, list_of, shape_of, found_first, needed}
 use Rattle.pol_json.specs.Texts.{is_dns_name, is_letter}
@@ -58,10 +58,19 @@ abbrev pub or_wrong : {A : Type 0} → (A → Option Cause) → Option A → Opt
 or_wrong cause None = Some wrong_shape
 or_wrong cause (Some x) = cause x
 
+abbrev pub number_cause : Data → Option Cause
+number_cause d = or_wrong (λ _. None) (option_and_then as_u64 (as_number d))
+
+-- a port that is a text is a named one
+abbrev pub unless_named : Option (List ℕ) → Option Cause → Option Cause
+unless_named None otherwise = otherwise
+unless_named (Some name) otherwise = Some (left_out (codes "named-port"))
+
 abbrev pub content_cause : Content → Data → Option Cause
 content_cause Ignored d = None
 content_cause (Text form) d = or_wrong (text_cause form) (as_str d)
-content_cause Number d = or_wrong (λ _. None) (option_and_then as_u64 (as_number d))
+content_cause Number d = number_cause d
+content_cause PortNumber d = unless_named (as_str d) (number_cause d)
 content_cause (Object kind) d = or_wrong (λ _. object_cause kind d) (as_object d)
 
 -- a value that holds nothing, and with which nothing is wrong

@@ -1,11 +1,12 @@
--- The table of members of a policy document (Cilium, Network Policy, "CiliumNetworkPolicy"; 'profile': what is unsupported).
+-- The table of members of a policy document (Cilium, Network Policy, "CiliumNetworkPolicy"; Kubernetes, `NetworkPolicy`;
+-- 'profile': what is unsupported).
 use Rattle.std.specs.Prelude.{ℕ, Bool, if◌then◌else◌, List, [], ◌∷◌, codes, bytes_eq}
 use Rattle.std.specs.List.{list_any}
 use Rattle.pol_json.specs.declared.table.Kind.{Kind}
-use Rattle.pol_json.specs.declared.table.Kind.TheVariants.{Policy, Metadata, Rule, Selector, MatchLabels, Expression, IngressEntry, EgressEntry, CidrSet, PortItem, Port}
+use Rattle.pol_json.specs.declared.table.Kind.TheVariants.{Policy, Metadata, Rule, Selector, MatchLabels, Expression, IngressEntry, EgressEntry, CidrSet, PortItem, Port, NetworkPolicy, NetworkSpec, NetworkIngress, NetworkEgress, NetworkPeer, IpBlock, NetworkPort}
 use Rattle.pol_json.specs.declared.table.TextForm.TheVariants as form
 use Rattle.pol_json.specs.declared.table.Content.{Content}
-use Rattle.pol_json.specs.declared.table.Content.TheVariants.{Ignored, Text, Number, Object}
+use Rattle.pol_json.specs.declared.table.Content.TheVariants.{Ignored, Text, Number, PortNumber, Object}
 use Rattle.pol_json.specs.declared.table.Shape.{Shape as CodeShape}
 use Rattle.pol_json.specs.declared.table.Shape.TheVariants as code
 
@@ -31,6 +32,9 @@ rows (name ∷ names) shape others = record { name = name; shape = shape } ∷ r
 
 abbrev both_entries : List Row
 both_entries = rows (codes "toPorts" ∷ []) (list_of (Object PortItem)) []
+
+abbrev network_ports : List Row
+network_ports = rows (codes "ports" ∷ []) (list_of (Object NetworkPort)) []
 
 -- the members of an object
 abbrev pub members : Kind → List Row
@@ -72,15 +76,32 @@ members Port =
     rows (codes "port" ∷ []) (one (Text form.Port))
     (rows (codes "protocol" ∷ []) (one (Text form.Protocol))
     (rows (codes "endPort" ∷ []) (one Number) []))
+members NetworkPolicy =
+    rows (codes "apiVersion" ∷ codes "kind" ∷ []) (one text)
+    (rows (codes "metadata" ∷ []) (one (Object Metadata))
+    (rows (codes "spec" ∷ []) (one (Object NetworkSpec))
+    (rows (codes "status" ∷ []) (one Ignored) [])))
+members NetworkSpec =
+    rows (codes "podSelector" ∷ []) (one (Object Selector))
+    (rows (codes "policyTypes" ∷ []) (list_of text)
+    (rows (codes "ingress" ∷ []) (list_of (Object NetworkIngress))
+    (rows (codes "egress" ∷ []) (list_of (Object NetworkEgress)) [])))
+members NetworkIngress = rows (codes "from" ∷ []) (list_of (Object NetworkPeer)) network_ports
+members NetworkEgress = rows (codes "to" ∷ []) (list_of (Object NetworkPeer)) network_ports
+members NetworkPeer =
+    rows (codes "podSelector" ∷ codes "namespaceSelector" ∷ []) (one (Object Selector))
+    (rows (codes "ipBlock" ∷ []) (one (Object IpBlock)) [])
+members IpBlock =
+    rows (codes "cidr" ∷ []) (one (Text form.Cidr))
+    (rows (codes "except" ∷ []) (list_of (Text form.Cidr)) [])
+members NetworkPort =
+    rows (codes "port" ∷ []) (one PortNumber)
+    (rows (codes "protocol" ∷ []) (one text)
+    (rows (codes "endPort" ∷ []) (one Number) []))
 
 -- the names that Cilium knows and this profile leaves out
 abbrev pub left_out : Kind → List (List ℕ)
-left_out Policy = []
-left_out Metadata = []
 left_out Rule = codes "nodeSelector" ∷ codes "enableDefaultDeny" ∷ []
-left_out Selector = []
-left_out MatchLabels = []
-left_out Expression = []
 left_out IngressEntry =
     codes "fromRequires" ∷ codes "fromNodes" ∷ codes "fromGroups" ∷ codes "icmps" ∷ codes "authentication" ∷ []
 left_out EgressEntry =
@@ -88,7 +109,7 @@ left_out EgressEntry =
 left_out CidrSet = codes "cidrGroupRef" ∷ codes "cidrGroupSelector" ∷ []
 left_out PortItem =
     codes "rules" ∷ codes "terminatingTLS" ∷ codes "originatingTLS" ∷ codes "listener" ∷ codes "serverNames" ∷ []
-left_out Port = []
+left_out _ = []
 
 -- the names that are found at the visit of their object
 abbrev pub found_first : Kind → List (List ℕ)
@@ -100,6 +121,7 @@ abbrev pub needed : Kind → List (List ℕ)
 needed Expression = codes "key" ∷ codes "operator" ∷ []
 needed CidrSet = codes "cidr" ∷ []
 needed Port = codes "port" ∷ []
+needed IpBlock = codes "cidr" ∷ []
 needed _ = []
 
 -- what stands at a name that is in neither table

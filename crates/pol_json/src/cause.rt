@@ -104,6 +104,7 @@ pub(crate) fn is_sound_leaf(content: Content, value: &Value) -> bool
             Some(text) => is_sound_text(form, text),
         },
         Content::Number => value.as_u64().is_some(),
+        Content::PortNumber => value.as_str().is_none() && value.as_u64().is_some(),
         Content::Object(_) => false,
     }
 }
@@ -160,6 +161,27 @@ fn check_port(alloc: Global, value: &Value) -> Result<(), DocError>
     }
 }
 
+fn check_ip_block(alloc: Global, value: &Value) -> Result<(), DocError>
+    ensures { Finds (fault_here (object_cause Kind.IpBlock (view value.now))) result }
+{
+    if present(value, "cidr").is_none() {
+        lacks(alloc, "cidr")
+    } else {
+        Ok(())
+    }
+}
+
+/// A port by its number. A text is a named port, which is left out.
+fn check_port_number(alloc: Global, value: &Value) -> Result<(), DocError>
+    ensures { Finds (fault_here (content_cause Content.PortNumber (view value.now))) result }
+{
+    match value.as_str() {
+        Some(_) => left_out(alloc, "named-port"),
+        None if value.as_u64().is_none() => wrong_shape(alloc),
+        None => Ok(()),
+    }
+}
+
 fn check_object(alloc: Global, kind: Kind, value: &Value) -> Result<(), DocError>
     ensures { Finds (fault_here (object_cause kind (view value.now))) result }
 {
@@ -167,6 +189,7 @@ fn check_object(alloc: Global, kind: Kind, value: &Value) -> Result<(), DocError
         Kind::CidrSet => check_cidr_set(alloc, value),
         Kind::Expression => check_expression(alloc, value),
         Kind::Port => check_port(alloc, value),
+        Kind::IpBlock => check_ip_block(alloc, value),
         _ => Ok(()),
     }
 }
@@ -183,6 +206,7 @@ pub(crate) fn check(alloc: Global, content: Content, value: &Value) -> Result<()
         },
         Content::Number if value.as_u64().is_none() => wrong_shape(alloc),
         Content::Number => Ok(()),
+        Content::PortNumber => check_port_number(alloc, value),
         Content::Object(_) if !value.is_object() => wrong_shape(alloc),
         Content::Object(kind) => check_object(alloc, kind, value),
     }

@@ -1,8 +1,8 @@
 //! Policy documents: what is read first, the walk, and the policy.
-ghost use Rattle.std.specs.Prelude.{◌≡◌, codes, Some, is_some, IfOk, IfSome, option_map};
+ghost use Rattle.std.specs.Prelude.{◌≡◌, codes, Some, is_some, IfOk, IfSome, option_and_then, option_map};
 ghost use Rattle.serde_json.specs.View.{view};
 ghost use Rattle.pol_json.specs.Build.{is_cluster_wide, key_with, rules_with};
-ghost use Rattle.pol_json.specs.Document.{has_kind, head_fault, is_long, is_there_and_long, places_of, read_document};
+ghost use Rattle.pol_json.specs.Document.{has_kind, has_name, head_fault, is_long, is_there_and_long, places_in, read_document};
 ghost use Rattle.pol_json.specs.Gives.{Gives, Finds, doc_fault_of};
 ghost use Rattle.pol_json.specs.Members.{present, text_at};
 ghost use Rattle.pol_json.specs.Path.{fault_of};
@@ -20,7 +20,7 @@ use serde_json::Value;
 use std::alloc::Global;
 
 /// The namespace of a policy that names none (Kubernetes, "Namespaces").
-const DEFAULT_NAMESPACE: &str = "default";
+pub(crate) const DEFAULT_NAMESPACE: &str = "default";
 
 /// What is read first of a policy: its kind, its metadata and the name there, and the rule of `spec`.
 #[derive(Clone, Copy)]
@@ -56,6 +56,23 @@ fn name_in<'v>(metadata: &'v Value) -> Option<&'v str>
 {
     let name = text_at(metadata, "name")?;
     if name.is_empty() { None } else { Some(name) }
+}
+
+/// Whether there is metadata with a name that isn't empty.
+pub(crate) fn has_name(value: &Value) -> bool
+    ensures { result ≡ has_name (view value.now) }
+{
+    match present(value, "metadata") {
+        None => false,
+        Some(metadata) => name_in(metadata).is_some(),
+    }
+}
+
+/// A text of the metadata.
+pub(crate) fn metadata_text<'v>(value: &'v Value, name: &str) -> Option<&'v str>
+    ensures { option_map (λ text. text.now) result ≡ option_and_then (text_at name.now) (present (codes "metadata") (view value.now)) }
+{
+    text_at(present(value, "metadata")?, name)
 }
 
 /// Whether `specs` is there and is no empty list.
@@ -100,10 +117,11 @@ fn head_of(value: &Value) -> Result<Head, DocError>
     })
 }
 
-fn check_places(alloc: Global, value: &Value) -> Result<(), DocError>
-    ensures { Finds (option_map fault_of (first_found (places_of (view value.now)))) result }
+/// The first fault at a place of a document of this kind.
+pub(crate) fn check_places(alloc: Global, kind: Kind, value: &Value) -> Result<(), DocError>
+    ensures { Finds (option_map fault_of (first_found (places_in kind (view value.now)))) result }
 {
-    from_policy(alloc, walk(alloc, Content::Object(Kind::Policy), value))
+    from_policy(alloc, walk(alloc, Content::Object(kind), value))
 }
 
 /// The key: a cluster-wide policy has no namespace, and another that names none is in the default one.
@@ -147,7 +165,7 @@ pub fn read_policy(alloc: Global, value: &Value) -> Result<RawPolicy, DocError>
     ensures exact { Gives doc_fault_of result (read_document (view value.now)) }
 {
     let head = head_of(value)?;
-    check_places(alloc, value)?;
+    check_places(alloc, Kind::Policy, value)?;
     Ok(RawPolicy {
         key: build_key(alloc, &head)?,
         rules: build_rules(alloc, value, head.spec)?,

@@ -1,22 +1,22 @@
 //! Building a part of a policy, and a list of such parts. Want of memory is the one error.
 ghost use Rattle.std.specs.Prelude.{◌≡◌, map, IfOk};
 ghost use Rattle.serde_json.specs.View.{view};
-ghost use Rattle.pol_json.specs.Build.{text_of, member_text, member_items, items_if_there};
+ghost use Rattle.pol_json.specs.Build.{text_of, member_of, member_text, member_items, items_if_there};
 
-use crate::members::{list_at, text_at};
+use crate::members::{list_at, present, text_at};
 use pol_data::{Items, Memory, Text};
 use serde_json::Value;
 use std::alloc::Global;
 
 /// A part of a policy that a JSON value gives.
-pub(crate) trait Part {
+pub trait Part {
     ghost use Rattle.std.specs.Prelude.{List};
     ghost use Rattle.serde_json.specs.Data.{Data};
 
     /// What the value gives.
     ghost gives: { Data → Self };
 
-    /// What the value gives.
+    /// What the value gives. The one error is want of memory.
     fn build(alloc: Global, value: &Value) -> Result<Self, Memory>
         ensures { IfOk result (λ x. x ≡ gives (view value.now)) };
 }
@@ -60,8 +60,22 @@ pub(crate) fn items_if_there<T: Part + Drop>(
     }
 }
 
-/// What each item of a member gives; no item where the member is absent.
-pub(crate) fn items_at<T: Part + Drop>(
+/// What a member gives; none where it is absent. The one error is want of memory.
+pub fn part_at<T: Part + Drop>(
+    alloc: Global,
+    value: &Value,
+    name: &str,
+) -> Result<Option<T>, Memory>
+    ensures { IfOk result (λ part. part ≡ member_of T.gives name.now (view value.now)) }
+{
+    match present(value, name) {
+        None => Ok(None),
+        Some(member) => Ok(Some(T::build(alloc, member)?)),
+    }
+}
+
+/// What each item of a member gives; no item where the member is absent or no list. The one error is want of memory.
+pub fn items_at<T: Part + Drop>(
     alloc: Global,
     value: &Value,
     name: &str,

@@ -1,4 +1,5 @@
-//! The table of members: what stands where in a policy document (Cilium, "CiliumNetworkPolicy").
+//! The table of members: what stands where in a policy document (Cilium, "CiliumNetworkPolicy"; Kubernetes,
+//! `NetworkPolicy`).
 ghost use Rattle.std.specs.Prelude.{◌≡◌};
 ghost use Rattle.pol_json.specs.Table.{seen, shape_of};
 
@@ -27,6 +28,20 @@ pub(crate) enum Kind {
     PortItem,
     /// A port of a port item.
     Port,
+    /// The whole document of a Kubernetes NetworkPolicy.
+    NetworkPolicy,
+    /// The `spec` of a NetworkPolicy.
+    NetworkSpec,
+    /// An entry of its `ingress`.
+    NetworkIngress,
+    /// An entry of its `egress`.
+    NetworkEgress,
+    /// A peer of such an entry.
+    NetworkPeer,
+    /// The `ipBlock` of such a peer.
+    IpBlock,
+    /// A port of such an entry.
+    NetworkPort,
 }
 
 /// What a text of a policy document is.
@@ -53,6 +68,8 @@ pub(crate) enum Content {
     Text(TextForm),
     /// A whole number that is not negative.
     Number,
+    /// A port by its number, a whole number that is not negative; by its name it is left out.
+    PortNumber,
     /// An object.
     Object(Kind),
 }
@@ -92,12 +109,18 @@ const INGRESS: Shape = Shape::List(Content::Object(Kind::IngressEntry));
 
 const EGRESS: Shape = Shape::List(Content::Object(Kind::EgressEntry));
 
+const METADATA: Shape = Shape::One(Content::Object(Kind::Metadata));
+
+const NETWORK_PEERS: Shape = Shape::List(Content::Object(Kind::NetworkPeer));
+
+const NETWORK_PORTS: Shape = Shape::List(Content::Object(Kind::NetworkPort));
+
 fn policy_member(name: &str) -> Shape
     ensures { seen name.now result ≡ shape_of Kind.Policy name.now }
 {
     match name {
         "apiVersion" | "kind" => TEXT,
-        "metadata" => Shape::One(Content::Object(Kind::Metadata)),
+        "metadata" => METADATA,
         "spec" => Shape::One(Content::Object(Kind::Rule)),
         "specs" => Shape::List(Content::Object(Kind::Rule)),
         "status" => IGNORED,
@@ -218,6 +241,83 @@ fn port_member(name: &str) -> Shape
     }
 }
 
+// ---- Kubernetes' NetworkPolicy
+
+fn network_policy_member(name: &str) -> Shape
+    ensures { seen name.now result ≡ shape_of Kind.NetworkPolicy name.now }
+{
+    match name {
+        "apiVersion" | "kind" => TEXT,
+        "metadata" => METADATA,
+        "spec" => Shape::One(Content::Object(Kind::NetworkSpec)),
+        "status" => IGNORED,
+        _ => Shape::Unknown,
+    }
+}
+
+fn network_spec_member(name: &str) -> Shape
+    ensures { seen name.now result ≡ shape_of Kind.NetworkSpec name.now }
+{
+    match name {
+        "podSelector" => SELECTOR,
+        "policyTypes" => TEXTS,
+        "ingress" => Shape::List(Content::Object(Kind::NetworkIngress)),
+        "egress" => Shape::List(Content::Object(Kind::NetworkEgress)),
+        _ => Shape::Unknown,
+    }
+}
+
+fn network_ingress_member(name: &str) -> Shape
+    ensures { seen name.now result ≡ shape_of Kind.NetworkIngress name.now }
+{
+    match name {
+        "from" => NETWORK_PEERS,
+        "ports" => NETWORK_PORTS,
+        _ => Shape::Unknown,
+    }
+}
+
+fn network_egress_member(name: &str) -> Shape
+    ensures { seen name.now result ≡ shape_of Kind.NetworkEgress name.now }
+{
+    match name {
+        "to" => NETWORK_PEERS,
+        "ports" => NETWORK_PORTS,
+        _ => Shape::Unknown,
+    }
+}
+
+fn network_peer_member(name: &str) -> Shape
+    ensures { seen name.now result ≡ shape_of Kind.NetworkPeer name.now }
+{
+    match name {
+        "podSelector" | "namespaceSelector" => SELECTOR,
+        "ipBlock" => Shape::One(Content::Object(Kind::IpBlock)),
+        _ => Shape::Unknown,
+    }
+}
+
+fn ip_block_member(name: &str) -> Shape
+    ensures { seen name.now result ≡ shape_of Kind.IpBlock name.now }
+{
+    match name {
+        "cidr" => Shape::One(Content::Text(TextForm::Cidr)),
+        "except" => CIDRS,
+        _ => Shape::Unknown,
+    }
+}
+
+fn network_port_member(name: &str) -> Shape
+    ensures { seen name.now result ≡ shape_of Kind.NetworkPort name.now }
+{
+    match name {
+        "port" => Shape::One(Content::PortNumber),
+        "protocol" => TEXT,
+        "endPort" => Shape::One(Content::Number),
+        _ => Shape::Unknown,
+    }
+}
+
 /// What should stand at the member of this name.
 pub(crate) fn shape_of(kind: Kind, name: &str) -> Shape
     ensures { seen name.now result ≡ shape_of kind name.now }
@@ -234,5 +334,12 @@ pub(crate) fn shape_of(kind: Kind, name: &str) -> Shape
         Kind::CidrSet => cidr_set_member(name),
         Kind::PortItem => port_item_member(name),
         Kind::Port => port_member(name),
+        Kind::NetworkPolicy => network_policy_member(name),
+        Kind::NetworkSpec => network_spec_member(name),
+        Kind::NetworkIngress => network_ingress_member(name),
+        Kind::NetworkEgress => network_egress_member(name),
+        Kind::NetworkPeer => network_peer_member(name),
+        Kind::IpBlock => ip_block_member(name),
+        Kind::NetworkPort => network_port_member(name),
     }
 }

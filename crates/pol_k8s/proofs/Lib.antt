@@ -3,3 +3,4 @@ pub mod Formed
 pub mod Taking
 pub mod Porting
 pub mod Kept
+pub mod ReadKept

@@ -11,6 +11,8 @@ use Rattle.pol_model.specs.Selects.{selects_number}
 use Rattle.pol_model.specs.State.{State}
 use Rattle.pol_model.specs.Verdict.{rule_covers}
 use Rattle.pol_model.specs.declared.row.Endpoint.{Endpoint}
+use Rattle.serde_json.specs.Data.{Data}
+use Rattle.pol_k8s.specs.Document.{key_of, netpol_of, raw_of}
 use Rattle.pol_k8s.specs.Meaning.{allows, isolates, selects}
 use Rattle.pol_k8s.specs.Translated.{translated_of}
 use Rattle.pol_k8s.specs.declared.raw.RawNetworkPolicy.{RawNetworkPolicy}
@@ -30,3 +32,8 @@ pub record MeansTheSame (raw : RawNetworkPolicy) (rule : Rule) : Type 0 where
 abbrev pub KeepsItsMeaning : Type 0
 KeepsItsMeaning = (raw : RawNetworkPolicy) (policy : Policy) → translated_of raw ≡ Ok policy
     → (policy.key ≡ raw.key) × (rule : Rule) × (policy.rules ≡ rule ∷ []) × MeansTheSame raw rule
+
+-- what is read of a document is one rule that means the same as the document's object, under its key
+abbrev pub ReadKeepsItsMeaning : Type 0
+ReadKeepsItsMeaning = (d : Data) (policy : Policy) → netpol_of d ≡ Ok policy
+    → (policy.key ≡ key_of d) × (rule : Rule) × (policy.rules ≡ rule ∷ []) × MeansTheSame (raw_of d) rule

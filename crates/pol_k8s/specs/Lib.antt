@@ -4,3 +4,6 @@ pub mod Faults
 pub mod Translated
 pub mod Keeps
 pub mod Examples
+pub mod Document
+pub mod Errors
+pub mod Values

@@ -36,7 +36,8 @@ fn one_text(alloc: Global, text: &Text) -> Result<Texts, Memory>
     Items::one(alloc, text.copy(alloc)?)
 }
 
-fn joined(alloc: Global, front: &str, key: &str) -> Result<Text, Memory>
+/// One text behind another.
+pub(crate) fn joined(alloc: Global, front: &str, key: &str) -> Result<Text, Memory>
     ensures { IfOk result (λ text. text ≡ front.now ++ key.now) }
 {
     let mut text = String::from_str(alloc, front)?;
