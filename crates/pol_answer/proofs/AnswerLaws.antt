@@ -141,7 +141,7 @@ rule_line : (number : ℕ) → is_one_line (rule_fault_name number) ≡ true
 rule_line number =
     choose (number == 15) _ _ refl (choose (number == 16) _ _ refl (choose (number == 17) _ _ refl (choose (number == 18) _ _ refl
     (choose (number == 19) _ _ refl (choose (number == 20) _ _ refl (choose (number == 21) _ _ refl (choose (number == 22) _ _ refl
-    (choose (number == 23) _ _ refl refl))))))))
+    (choose (number == 23) _ _ refl (choose (number == 26) _ _ refl (choose (number == 27) _ _ refl (choose (number == 28) _ _ refl refl)))))))))))
 
 name_line : (f : LineFault) → is_one_line (line_fault_name f) ≡ true
 name_line line.Json = refl

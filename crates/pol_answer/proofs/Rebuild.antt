@@ -58,7 +58,7 @@ place_by key text =
 abbrev pub read_place : Reader Place
 read_place text =
     let from_name = behind is_dns_byte text in
-    place_by (key_by (before is_dns_byte text) (before is_dns_byte from_name)) (behind is_dns_byte from_name)
+    place_by (key_by (before is_dns_byte text) (before is_name_byte from_name)) (behind is_name_byte from_name)
 
 -- the text is over, or a space follows
 abbrev pub is_over : List ℕ → Bool
@@ -127,6 +127,9 @@ refused_by two text =
     cond (two == 12850) (answer.BadLine (line.Rule (read_rule 22 (drop 17 text)))) (
     cond (two == 12851) (answer.BadLine (line.Rule (read_rule 23 (drop 19 text)))) (
     cond (two == 12852) (answer.BadLine (line.Rule (read_rule 24 (drop 16 text)))) (
+    cond (two == 12854) (answer.BadLine (line.Rule (read_rule 26 (drop 20 text)))) (
+    cond (two == 12855) (answer.BadLine (line.Rule (read_rule 27 (drop 13 text)))) (
+    cond (two == 12856) (answer.BadLine (line.Rule (read_rule 28 (drop 17 text)))) (
     cond (two == 13104) (refused (drop 25 text) fault.DuplicateEndpoint) (
     cond (two == 13105) (refused (drop 23 text) fault.UnknownEndpoint) (
     cond (two == 13106) (refused (drop 21 text) fault.EndpointsFull) (
@@ -136,7 +139,7 @@ refused_by two text =
     cond (two == 13110) (refused (drop 21 text) fault.UnknownPolicy) (
     cond (two == 13111) (refused (drop 27 text) fault.IdentitiesExhausted) (
     cond (two == 13112) (refused (drop 22 text) fault.LocalExhausted) (
-    refused (drop 21 text) fault.ReservedLabel))))))))))))))))))))))))))))))))
+    refused (drop 21 text) fault.ReservedLabel)))))))))))))))))))))))))))))))))))
 
 abbrev pub read_refused : List ℕ → Answer
 read_refused text = refused_by (two_bytes text) text

@@ -1,5 +1,5 @@
 -- Each answer is read again from its text, but for the bytes that are printed as `?`.
-use Rattle.std.proofs.Common.{◌≡◌, ◌≢◌, codes, ne_eqb, ℕ, suc, ◌<◌, ◌≤◌, Bool, true, false, cond, ◌&&◌, ◌==◌, nat_le, List, [], ◌∷◌, ◌++◌, length, drop, Option, Some, None, IsTrue, refl, sym, ap, subst, ◌∙◌, arith, append_assoc, length-append, eqb-true}
+use Rattle.std.proofs.Common.{◌≡◌, ◌≢◌, codes, ne_eqb, ℕ, suc, ◌<◌, ◌≤◌, Bool, true, false, cond, ◌&&◌, ◌||◌, ◌==◌, nat_le, List, [], ◌∷◌, ◌++◌, length, drop, Option, Some, None, IsTrue, refl, sym, ap, subst, ◌∙◌, arith, append_assoc, length-append, eqb-true}
 use Rattle.std.specs.Fmt.{decimal}
 use Rattle.std.specs.List.{flat_map, list_all}
 use Rattle.std.proofs.lemmas.Bool.{eqb-false, false≢true, leb-true}
@@ -16,12 +16,14 @@ use Rattle.pol_model.specs.declared.answer.Trace.{Trace}
 use Rattle.pol_rule.specs.declared.policy.Place.{Place}
 use Rattle.pol_rule.specs.declared.policy.Section.{Section}
 use Rattle.pol_rule.specs.declared.policy.Section.TheVariants as section
+use Rattle.pol_script.proofs.KeyNames.{name_bytes}
 use Rattle.pol_script.proofs.ScriptLaws.{both_parts}
 use Rattle.pol_script.specs.declared.line_fault.LineFault.{LineFault}
 use Rattle.pol_script.specs.declared.line_fault.LineFault.TheVariants as line
 use Rattle.pol_script.specs.Lines.{newline}
+use Rattle.pol_script.specs.Names.{is_applied_name}
 use Rattle.pol_answer.specs.Faults.{fault_name, rule_fault_name}
-use Rattle.pol_answer.specs.Shown.{shown, shown_fault, shown_document, is_u64, is_applied_key, is_read_place, is_read_slot, is_read_entry, is_read_fault, is_read_identity, has_read_parts}
+use Rattle.pol_answer.specs.Shown.{shown, shown_fault, shown_document, is_u64, is_applied_key, is_read_place, is_read_slot, is_read_entry, is_read_fault, is_read_identity, is_rule_number, has_read_parts}
 use Rattle.pol_answer.specs.Text.{printable_byte, printable, line_fault_text, trace_text, word_text, section_text, entry_text, at_text, place_text, more_places, places_text, full_slot_text, full_text, identity_text, fault_place_text, answer_words, text_of}
 use Rattle.pol_answer.specs.declared.answer.Answer.{Answer}
 use Rattle.pol_answer.specs.declared.answer.Answer.TheVariants as answer
@@ -126,7 +128,7 @@ place_shape p s = simp append_assoc
 record PlaceParts (p : Place) : Type 0 where
   cluster : (length p.key.namespace == 0) ≡ p.key.cluster_wide
   namespace : list_all is_dns_byte p.key.namespace ≡ true
-  name : list_all is_dns_byte p.key.name ≡ true
+  name : list_all is_name_byte p.key.name ≡ true
   rule : is_u64 p.rule ≡ true
   entry : is_u64 p.entry ≡ true
 
@@ -134,12 +136,12 @@ place_parts : (p : Place) → is_read_place p ≡ true → PlaceParts p
 place_parts p ok =
     let both = both_parts (is_applied_key p.key && is_u64 p.rule) (is_u64 p.entry) ok in
     let front = both_parts (is_applied_key p.key) (is_u64 p.rule) both.0 in
-    let key = both_parts (is_dns_name p.key.name) (cond p.key.cluster_wide (length p.key.namespace == 0) (is_dns_name p.key.namespace)) front.0 in
+    let key = both_parts (is_applied_name p.key.name) (cond p.key.cluster_wide (length p.key.namespace == 0) (is_dns_name p.key.namespace)) front.0 in
     let space = key_parts p.key.cluster_wide p.key.namespace key.1 in
     record {
       cluster = space.0;
       namespace = space.1;
-      name = (both_parts (has_name_length p.key.name) (list_all is_dns_byte p.key.name) key.0).1;
+      name = name_bytes p.key.name key.0;
       rule = front.1;
       entry = both.1;
     }
@@ -156,8 +158,8 @@ place_is p s ok _ =
       place_shape p s,
       before_is is_dns_byte p.key.namespace (47 ∷ at_name) parts.namespace refl,
       after_is is_dns_byte p.key.namespace (47 ∷ at_name) parts.namespace refl,
-      before_is is_dns_byte p.key.name (35 ∷ at_rule) parts.name refl,
-      after_is is_dns_byte p.key.name (35 ∷ at_rule) parts.name refl,
+      before_is is_name_byte p.key.name (35 ∷ at_rule) parts.name refl,
+      after_is is_name_byte p.key.name (35 ∷ at_rule) parts.name refl,
       number_is p.rule (46 ∷ at_section) parts.rule refl,
       past_number_is p.rule (46 ∷ at_section) parts.rule refl,
       which.0,
@@ -218,7 +220,7 @@ rule_at n rule (Some at) small ok =
     let which = section_is at.0 (91 ∷ at_entry) refl in
     rw (number_is rule (46 ∷ at_section) small refl, past_number_is rule (46 ∷ at_section) small refl, which.0, which.1, number_is at.1 (93 ∷ []) ok refl) refl
 
--- a number from 15 to 24 is one of them
+-- a number from one to another is one of those between
 one_more_number : (P : ℕ → Type 0) (k n : ℕ) → P k → (k < n → P n) → k ≤ n → P n
 one_more_number P k n here later low = by (k == n) refl
   where
@@ -229,8 +231,8 @@ one_more_number P k n here later low = by (k == n) refl
 abbrev OfRule : List ℕ → ℕ → Type 0
 OfRule place n = read_refused (rule_fault_name n ++ 32 ∷ 35 ∷ place) ≡ answer.BadLine (line.Rule (read_rule n place))
 
-of_rule : (place : List ℕ) (n : ℕ) → 15 ≤ n → n ≤ 24 → OfRule place n
-of_rule place n low high =
+of_any_policy : (place : List ℕ) (n : ℕ) → 15 ≤ n → n ≤ 24 → OfRule place n
+of_any_policy place n low high =
     let P = OfRule place in
     one_more_number P 15 n refl (λ above15.
     one_more_number P 16 n refl (λ above16.
@@ -242,6 +244,22 @@ of_rule place n low high =
     one_more_number P 22 n refl (λ above22.
     one_more_number P 23 n refl (λ above23.
     let last : n ≡ 24 = omega arith in subst P (sym last) refl) (omega arith)) (omega arith)) (omega arith)) (omega arith)) (omega arith)) (omega arith)) (omega arith)) (omega arith)) low
+
+of_network : (place : List ℕ) (n : ℕ) → 26 ≤ n → n ≤ 28 → OfRule place n
+of_network place n low high =
+    let P = OfRule place in
+    one_more_number P 26 n refl (λ above26.
+    one_more_number P 27 n refl (λ above27.
+    let last : n ≡ 28 = omega arith in subst P (sym last) refl) (omega arith)) low
+
+of_rule_where : (any : Bool) (place : List ℕ) (n : ℕ) → (nat_le 15 n && nat_le n 24) ≡ any → (any || (nat_le 26 n && nat_le n 28)) ≡ true → OfRule place n
+of_rule_where true place n of_any is =
+    let bounds = both_parts (nat_le 15 n) (nat_le n 24) of_any in of_any_policy place n (leb-true 15 n bounds.0) (leb-true n 24 bounds.1)
+of_rule_where false place n of_any is =
+    let bounds = both_parts (nat_le 26 n) (nat_le n 28) is in of_network place n (leb-true 26 n bounds.0) (leb-true n 28 bounds.1)
+
+of_rule : (place : List ℕ) (n : ℕ) → is_rule_number n ≡ true → OfRule place n
+of_rule place n is = of_rule_where (nat_le 15 n && nat_le n 24) place n refl is
 
 -- ---- answers
 
@@ -302,11 +320,10 @@ fault_is (line.Doc (doc.UnknownMember path)) ok = refl
 fault_is (line.Doc (doc.Unsupported name)) ok = refl
 fault_is (line.Doc (doc.WrongShape path)) ok = refl
 fault_is (line.Rule g) ok =
-    let last = both_parts (nat_le 15 g.number && nat_le g.number 24 && is_u64 g.rule) (is_read_entry g.«at») ok in
-    let numbers = both_parts (nat_le 15 g.number && nat_le g.number 24) (is_u64 g.rule) last.0 in
-    let bounds = both_parts (nat_le 15 g.number) (nat_le g.number 24) numbers.0 in
+    let last = both_parts (is_rule_number g.number && is_u64 g.rule) (is_read_entry g.«at») ok in
+    let numbers = both_parts (is_rule_number g.number) (is_u64 g.rule) last.0 in
     rw (rule_shape g.rule g.«at»)
-    (of_rule (rule_place g.rule g.«at») g.number (leb-true 15 g.number bounds.0) (leb-true g.number 24 bounds.1)
+    (of_rule (rule_place g.rule g.«at») g.number numbers.0
     ∙ ap (λ fault. answer.BadLine (line.Rule fault)) (rule_at g.number g.rule g.«at» numbers.1 last.1))
 fault_is line.BadLabel ok = refl
 fault_is line.DuplicateLabelKey ok = refl

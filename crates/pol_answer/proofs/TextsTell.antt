@@ -7,6 +7,8 @@ use Rattle.pol_json.specs.Texts.{has_name_length, is_dns_byte, is_dns_name, is_n
 use Rattle.pol_model.specs.declared.answer.FullSlot.{FullSlot}
 use Rattle.pol_rule.specs.declared.policy.Place.{Place}
 use Rattle.pol_script.specs.Lines.{lines_of, ended, newline, is_newline, is_one_line}
+use Rattle.pol_script.specs.Names.{is_applied_name}
+use Rattle.pol_script.proofs.KeyNames.{all_weaker, name_bytes}
 use Rattle.pol_script.proofs.ScriptLaws.{both_parts, is_other}
 use Rattle.pol_answer.specs.Shown.{shown, is_u64, is_applied_key, is_read_place, is_read_slot, has_read_parts}
 use Rattle.pol_answer.specs.Text.{answer_words, texts_of, has_plain_key, has_plain_name, has_plain_names}
@@ -37,8 +39,8 @@ plain_namespace false text is = plain_dns text is
 
 pub plain_key : (place : Place) → is_applied_key place.key ≡ true → has_plain_key place ≡ true
 plain_key place is =
-    let names = both_parts (is_dns_name place.key.name) (cond place.key.cluster_wide (length place.key.namespace == 0) (is_dns_name place.key.namespace)) is in
-    both_true (plain_namespace place.key.cluster_wide place.key.namespace names.1) (plain_dns place.key.name names.0)
+    let names = both_parts (is_applied_name place.key.name) (cond place.key.cluster_wide (length place.key.namespace == 0) (is_dns_name place.key.namespace)) is in
+    both_true (plain_namespace place.key.cluster_wide place.key.namespace names.1) (plain_text is_name_byte place.key.name refl (name_bytes place.key.name names.0))
 
 plain_place : (place : Place) → is_read_place place ≡ true → has_plain_key place ≡ true
 plain_place place is =
@@ -52,13 +54,6 @@ plain_slot : (slot : FullSlot) → is_read_slot slot ≡ true → has_plain_name
 plain_slot slot is =
     let numbers = both_parts (is_name slot.name && is_u64 slot.revision) (is_u64 slot.count) is in
     plain_name slot (both_parts (is_name slot.name) (is_u64 slot.revision) numbers.0).0
-
--- a weaker test holds of each as well
-pub all_weaker : {A : Type 0} (one two : A → Bool) → ((x : A) → one x ≡ true → two x ≡ true) → (xs : List A) → list_all one xs ≡ true → list_all two xs ≡ true
-all_weaker one two weaker [] all = refl
-all_weaker one two weaker (x ∷ xs) all =
-    let parts = both_parts (one x) (list_all one xs) all in
-    both_true (weaker x parts.0) (all_weaker one two weaker xs parts.1)
 
 pub plain : (a : Answer) → IsTrue (has_read_parts a) → IsTrue (has_plain_names a)
 plain (answer.Committed revision identity) is = refl

@@ -29,7 +29,7 @@ doc_fault_name (doc.UnknownMember path) = codes "13 unknown-member"
 doc_fault_name (doc.Unsupported name) = codes "14 unsupported"
 doc_fault_name (doc.WrongShape path) = codes "25 wrong-shape"
 
--- a rule's fault, by its number: 15 to 23, and every other number as 24
+-- a rule's fault, by its number: 15 to 23 and, of a NetworkPolicy alone, 26 to 28; and every other number as 24
 abbrev pub rule_fault_name : ℕ → List ℕ
 rule_fault_name number =
     if number == 15 then codes "15 no-selector"
@@ -41,7 +41,10 @@ rule_fault_name number =
     else (if number == 21 then codes "21 bad-port"
     else (if number == 22 then codes "22 bad-protocol"
     else (if number == 23 then codes "23 too-many-ports"
-    else codes "24 empty-ports"))))))))
+    else (if number == 26 then codes "26 bad-policy-type"
+    else (if number == 27 then codes "27 bad-peer"
+    else (if number == 28 then codes "28 bad-end-port"
+    else codes "24 empty-ports")))))))))))
 
 -- a line's fault
 abbrev pub line_fault_name : LineFault → List ℕ

@@ -1,6 +1,6 @@
 -- What the text of an answer tells: all of it, but for the bytes of names that are printed as `?`. And which answers
 -- have names, keys and fault numbers such as reading gives, and numbers of 64 bits.
-use Rattle.std.specs.Prelude.{ℕ, ◌^◌, ◌==◌, ◌&&◌, nat_le, nat_lt, Bool, true, if◌then◌else◌, length, Option, None, Some}
+use Rattle.std.specs.Prelude.{ℕ, ◌^◌, ◌==◌, ◌&&◌, ◌||◌, nat_le, nat_lt, Bool, true, if◌then◌else◌, length, Option, None, Some}
 use Rattle.std.specs.List.{list_all}
 use Rattle.pol_json.specs.Texts.{is_name, is_dns_name}
 use Rattle.pol_json.specs.declared.fault.DocFault.{DocFault}
@@ -10,6 +10,7 @@ use Rattle.pol_rule.specs.declared.fault.RuleFault.{RuleFault}
 use Rattle.pol_rule.specs.declared.policy.Place.{Place}
 use Rattle.pol_rule.specs.declared.policy.PolicyKey.{PolicyKey}
 use Rattle.pol_rule.specs.declared.policy.Section.{Section}
+use Rattle.pol_script.specs.Names.{is_applied_name}
 use Rattle.pol_script.specs.declared.line_fault.LineFault.{LineFault}
 use Rattle.pol_script.specs.declared.line_fault.LineFault.TheVariants as line
 use Rattle.pol_answer.specs.Text.{printable}
@@ -50,7 +51,7 @@ is_u64 number = nat_lt number (2 ^ 64)
 -- the key of a policy that was applied: a cluster-wide one has no namespace, any other has one
 abbrev pub is_applied_key : PolicyKey → Bool
 is_applied_key key =
-    is_dns_name key.name && (if key.cluster_wide then length key.namespace == 0 else is_dns_name key.namespace)
+    is_applied_name key.name && (if key.cluster_wide then length key.namespace == 0 else is_dns_name key.namespace)
 
 abbrev pub is_read_place : Place → Bool
 is_read_place place = is_applied_key place.key && is_u64 place.rule && is_u64 place.entry
@@ -62,10 +63,12 @@ abbrev pub is_read_entry : Option (Section × ℕ) → Bool
 is_read_entry None = true
 is_read_entry (Some at) = is_u64 at.1
 
--- a rule's fault has one of the numbers 15 to 24
+-- the number of a rule's fault: 15 to 24 and, of a NetworkPolicy alone, 26 to 28
+abbrev pub is_rule_number : ℕ → Bool
+is_rule_number number = (nat_le 15 number && nat_le number 24) || (nat_le 26 number && nat_le number 28)
+
 abbrev pub is_read_rule_fault : RuleFault → Bool
-is_read_rule_fault fault =
-    nat_le 15 fault.number && nat_le fault.number 24 && is_u64 fault.rule && is_read_entry fault.«at»
+is_read_rule_fault fault = is_rule_number fault.number && is_u64 fault.rule && is_read_entry fault.«at»
 
 abbrev pub is_read_fault : LineFault → Bool
 is_read_fault (line.Rule fault) = is_read_rule_fault fault

@@ -52,14 +52,17 @@ pub fn answer_examples()
         ≡ codes "refused 10 not-policy\nrefused 11 no-name\nrefused 12 no-spec\nrefused 13 unknown-member spec.a?b\nrefused 14 unsupported toFQDNs\nrefused 25 wrong-shape spec.ingress[0]\n" }
     ensures rules { texts_of (answer.BadLine (line.Rule (record { number = 17; rule = 0; «at» = None })) ∷ answer.BadLine (line.Rule (record { number = 18; rule = 2; «at» = Some (section.EgressDeny, 12) })) ∷ [])
         ≡ codes "refused 17 bad-selector #0\nrefused 18 bad-cidr #2.egressDeny[12]\n" }
+    ensures networks { texts_of (answer.BadLine (line.Rule (record { number = 26; rule = 0; «at» = None })) ∷ answer.BadLine (line.Rule (record { number = 27; rule = 0; «at» = Some (section.Ingress, 0) })) ∷ [])
+        ≡ codes "refused 26 bad-policy-type #0\nrefused 27 bad-peer #0.ingress[0]\n" }
     ensures requests { text_of (answer.Refused (record { revision = 65280; fault = request.IdentitiesExhausted })) ≡ codes "refused 37 identities-exhausted at 65280\n" }
 {}
 
 /// The numbers and names of the faults of rules, of requests, and of lines that are told by no more ('profile').
 pub fn fault_names()
-    ensures rules { map rule_fault_name (15 ∷ 16 ∷ 17 ∷ 18 ∷ 19 ∷ 20 ∷ 21 ∷ 22 ∷ 23 ∷ 24 ∷ [])
+    ensures rules { map rule_fault_name (15 ∷ 16 ∷ 17 ∷ 18 ∷ 19 ∷ 20 ∷ 21 ∷ 22 ∷ 23 ∷ 24 ∷ 26 ∷ 27 ∷ 28 ∷ [])
         ≡ codes "15 no-selector" ∷ codes "16 combining" ∷ codes "17 bad-selector" ∷ codes "18 bad-cidr" ∷ codes "19 except-outside"
-        ∷ codes "20 unknown-entity" ∷ codes "21 bad-port" ∷ codes "22 bad-protocol" ∷ codes "23 too-many-ports" ∷ codes "24 empty-ports" ∷ [] }
+        ∷ codes "20 unknown-entity" ∷ codes "21 bad-port" ∷ codes "22 bad-protocol" ∷ codes "23 too-many-ports" ∷ codes "24 empty-ports"
+        ∷ codes "26 bad-policy-type" ∷ codes "27 bad-peer" ∷ codes "28 bad-end-port" ∷ [] }
     ensures requests { map fault_name (request.DuplicateEndpoint ∷ request.UnknownEndpoint ∷ request.EndpointsFull ∷ request.DuplicateIdentityName
         ∷ request.UnknownIdentityName ∷ request.AddressTaken ∷ request.UnknownPolicy ∷ request.IdentitiesExhausted ∷ request.LocalExhausted ∷ request.ReservedLabel ∷ [])
         ≡ codes "30 duplicate-endpoint" ∷ codes "31 unknown-endpoint" ∷ codes "32 endpoints-full" ∷ codes "33 duplicate-identity-name"

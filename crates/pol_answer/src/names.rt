@@ -78,6 +78,9 @@ fn rule_fault_name(number: u8) -> &'static str
         21 => "21 bad-port",
         22 => "22 bad-protocol",
         23 => "23 too-many-ports",
+        26 => "26 bad-policy-type",
+        27 => "27 bad-peer",
+        28 => "28 bad-end-port",
         _ => "24 empty-ports",
     }
 }

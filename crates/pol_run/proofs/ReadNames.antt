@@ -7,13 +7,14 @@ use Rattle.pol_model.specs.declared.request.Request.{Request}
 use Rattle.pol_model.specs.declared.request.Request.TheVariants.{AddEndpoint, Apply}
 use Rattle.pol_rule.specs.declared.policy.PolicyKey.{PolicyKey}
 use Rattle.pol_script.proofs.ReadNames.{BringsNamed, HasKeyForm, asked_named}
+use Rattle.pol_script.specs.Names.{is_applied_name}
 use Rattle.pol_script.specs.Reading.{reading_of}
 use Rattle.pol_script.specs.declared.command.Command.TheVariants as command
 use Rattle.pol_run.specs.Spots.{Reading}
 use Rattle.pol_run.specs.Told.{has_read_names}
 
-key_by : (wide : Bool) (name namespace : List ℕ) → is_dns_name name ≡ true → (wide ≡ false → is_dns_name namespace ≡ true) → (wide ≡ true → namespace ≡ [])
-    → (is_dns_name name && cond wide (length namespace == 0) (is_dns_name namespace)) ≡ true
+key_by : (wide : Bool) (name namespace : List ℕ) → is_applied_name name ≡ true → (wide ≡ false → is_dns_name namespace ≡ true) → (wide ≡ true → namespace ≡ [])
+    → (is_applied_name name && cond wide (length namespace == 0) (is_dns_name namespace)) ≡ true
 key_by true name namespace own spaced wide = both_true own (ap (λ (text : List ℕ). length text == 0) (wide refl))
 key_by false name namespace own spaced wide = both_true own (spaced refl)
 

@@ -8,10 +8,11 @@ use Rattle.pol_answer.specs.declared.answer.Answer.TheVariants as answer
 use Rattle.pol_answer.proofs.AnswerLaws.{read_again}
 use Rattle.pol_answer.proofs.Cutting.{head}
 use Rattle.pol_answer.proofs.Rebuilt.{tells}
-use Rattle.pol_answer.proofs.TextsTell.{all_weaker, plain}
+use Rattle.pol_answer.proofs.TextsTell.{plain}
 use Rattle.pol_mapkey.specs.declared.Word.TheVariants.{Allowed, DeniedByRule, DeniedByDefault}
 use Rattle.pol_model.specs.declared.options.Options.{Options}
 use Rattle.pol_model.specs.declared.request.Request.{Request}
+use Rattle.pol_script.proofs.KeyNames.{all_weaker}
 use Rattle.pol_script.proofs.ScriptLaws.{both_parts}
 use Rattle.pol_script.specs.Lines.{ended, lines_of}
 use Rattle.pol_script.specs.declared.command.Command.TheVariants as command

@@ -5,3 +5,4 @@ pub mod ScriptLaws
 pub mod LeastUnknown
 pub mod ToldUnknown
 pub mod ReadNames
+pub mod KeyNames

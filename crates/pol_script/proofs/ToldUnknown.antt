@@ -9,12 +9,16 @@ use Rattle.pol_script.specs.declared.op.Op.{Op}
 use Rattle.pol_script.specs.declared.op.Op.TheVariants as op
 use Rattle.pol_json.specs.Document.{read_document}
 use Rattle.pol_json.specs.Members.{present, text_at}
+use Rattle.pol_json.specs.Network.{is_network_policy}
+use Rattle.pol_k8s.specs.Document.{netpol_of}
+use Rattle.pol_k8s.specs.declared.fault.NetFault.{NetFault}
+use Rattle.pol_k8s.specs.declared.fault.NetFault.TheVariants as net
 use Rattle.pol_labels.specs.LabelText.{read_label}
 use Rattle.pol_labels.specs.Order.{label_set_of}
 use Rattle.pol_addr.specs.Address.{read_addr}
 use Rattle.pol_model.specs.declared.request.Remote.TheVariants as remote
 use Rattle.pol_sanitize.specs.Sanitized.{sanitized_of}
-use Rattle.pol_script.specs.Commands.{address_of, labels_of, make, policy_of, remote_of}
+use Rattle.pol_script.specs.Commands.{address_of, cilium_policy_of, labels_of, make, net_fault, network_policy_of, policy_of, remote_of}
 use Rattle.pol_script.specs.Forms.{Form, read_as, word_among}
 use Rattle.pol_script.specs.Members.{Takes, Value, given, known, one_of, read_optional, value_of}
 use Rattle.pol_script.specs.Reading.{is_object, json_of, object_of, op_of, read_object, read_rows, reading_of}
@@ -88,10 +92,21 @@ labels_never texts =
 address_never : (text : List ℕ) → Never (address_of text)
 address_never text = or_fault (read_addr text) fault.BadAddress (λ name e. cc)
 
-policy_never : (document : Data) → Never (policy_of document)
-policy_never document =
+cilium_policy_never : (document : Data) → Never (cilium_policy_of document)
+cilium_policy_never document =
     then (fault_as fault.Doc (read_document document)) (λ raw. fault_as fault.Rule (sanitized_of raw))
     (of_kind fault.Doc (read_document document) (λ f name e. cc)) (λ raw. of_kind fault.Rule (sanitized_of raw) (λ f name e. cc))
+
+net_other : (f : NetFault) → IsOther (net_fault f)
+net_other (net.Doc f) = λ name e. cc
+net_other (net.Rule f) = λ name e. cc
+
+policy_never_where : (is_network : Bool) (document : Data) → Never (cond is_network (network_policy_of document) (cilium_policy_of document))
+policy_never_where true document = of_kind net_fault (netpol_of document) net_other
+policy_never_where false document = cilium_policy_never document
+
+policy_never : (document : Data) → Never (policy_of document)
+policy_never document = policy_never_where (is_network_policy document) document
 
 remote_never : (number : Option ℕ) (text : Option (List ℕ)) → Never (remote_of number text)
 remote_never (Some number) text = fine (remote.Identity number)

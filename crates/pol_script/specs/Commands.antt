@@ -4,6 +4,10 @@ use Rattle.pol_addr.specs.declared.address.Addr.{Addr}
 use Rattle.pol_addr.specs.Address.{read_addr}
 use Rattle.serde_json.specs.Data.{Data}
 use Rattle.pol_json.specs.Document.{read_document}
+use Rattle.pol_json.specs.Network.{is_network_policy}
+use Rattle.pol_k8s.specs.Document.{netpol_of, network_key}
+use Rattle.pol_k8s.specs.declared.fault.NetFault.{NetFault}
+use Rattle.pol_k8s.specs.declared.fault.NetFault.TheVariants as net
 use Rattle.pol_labels.specs.declared.label.Label.{Label}
 use Rattle.pol_labels.specs.Order.{label_set_of}
 use Rattle.pol_labels.specs.LabelText.{read_label}
@@ -19,6 +23,8 @@ use Rattle.pol_rule.specs.declared.policy.PolicyKey.{PolicyKey}
 use Rattle.pol_sanitize.specs.Sanitized.{sanitized_of}
 use Rattle.pol_script.specs.declared.command.Command.{Command}
 use Rattle.pol_script.specs.declared.command.Command.TheVariants as command
+use Rattle.pol_script.specs.declared.kind.PolicyKind.{PolicyKind}
+use Rattle.pol_script.specs.declared.kind.PolicyKind.TheVariants as kind
 use Rattle.pol_script.specs.declared.line_fault.LineFault.{LineFault}
 use Rattle.pol_script.specs.declared.line_fault.LineFault.TheVariants as fault
 use Rattle.pol_script.specs.declared.op.Op.{Op}
@@ -47,19 +53,34 @@ address_of text = ok_or (read_addr text) fault.BadAddress
 
 -- ---- policies
 
-abbrev pub policy_of : Data → Result Policy LineFault
-policy_of document = do
+-- of a document of Cilium's
+abbrev pub cilium_policy_of : Data → Result Policy LineFault
+cilium_policy_of document = do
   raw ← fault_as fault.Doc (read_document document)
   fault_as fault.Rule (sanitized_of raw)
+
+abbrev pub net_fault : NetFault → LineFault
+net_fault (net.Doc found) = fault.Doc found
+net_fault (net.Rule found) = fault.Rule found
+
+-- of a NetworkPolicy of Kubernetes
+abbrev pub network_policy_of : Data → Result Policy LineFault
+network_policy_of document = fault_as net_fault (netpol_of document)
+
+-- the policy of a document, or its first fault: of a NetworkPolicy where it has that version and kind
+abbrev pub policy_of : Data → Result Policy LineFault
+policy_of document = if is_network_policy document then network_policy_of document else cilium_policy_of document
 
 -- the namespace of a policy that names none (Kubernetes, "Namespaces")
 abbrev pub default_namespace : List ℕ
 default_namespace = codes "default"
 
--- the key of a policy; a cluster-wide one has no namespace, whatever is named
-abbrev pub key_of : Bool → Option (List ℕ) → List ℕ → PolicyKey
-key_of cluster_wide namespace name =
-    record { cluster_wide = cluster_wide; namespace = if cluster_wide then [] else unwrap_or namespace default_namespace; name = name }
+-- the key of a policy of this kind; a cluster-wide one has no namespace, whatever is named
+abbrev pub key_of : PolicyKind → Option (List ℕ) → List ℕ → PolicyKey
+key_of kind.Namespaced namespace name =
+    record { cluster_wide = false; namespace = unwrap_or namespace default_namespace; name = name }
+key_of kind.ClusterWide namespace name = record { cluster_wide = true; namespace = []; name = name }
+key_of kind.Network namespace name = network_key (unwrap_or namespace default_namespace) name
 
 -- ---- queries
 
@@ -92,8 +113,7 @@ make op.Identity = λ name labels session.
     labels_of labels >>= λ set. Ok (commit session (request.AddIdentity name set))
 make op.RemoveIdentity = λ name session. Ok (commit session (request.RemoveIdentity name))
 make op.Apply = λ document session. policy_of document >>= λ policy. Ok (commit session (request.Apply policy))
-make op.Delete = λ cluster_wide namespace name session.
-    Ok (commit session (request.Remove (key_of cluster_wide namespace name)))
+make op.Delete = λ kind namespace name session. Ok (commit session (request.Remove (key_of kind namespace name)))
 make op.Mode = λ mode session. Ok (commit session (request.SetMode mode))
 make op.Verdict = make_query false
 make op.Trace = make_query true

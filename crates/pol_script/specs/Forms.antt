@@ -1,5 +1,5 @@
 -- The forms of the members of a line, and what a value of each form reads as ('profile').
-use Rattle.std.specs.Prelude.{ℕ, ◌&&◌, nat_le, Bool, true, false, if◌then◌else◌, List, [], ◌∷◌, codes, Option, None, Some, option_and_then}
+use Rattle.std.specs.Prelude.{ℕ, ◌&&◌, nat_le, Bool, if◌then◌else◌, List, [], ◌∷◌, codes, Option, None, Some, option_and_then}
 use Rattle.std.specs.Str.{bytes_eq, str_eq_ignore_ascii_case}
 use Rattle.serde_json.specs.Data.{Data}
 use Rattle.serde_json.specs.Find.{as_array, as_number, as_str, as_u64}
@@ -12,6 +12,8 @@ use Rattle.pol_ports.specs.declared.Direction.TheVariants.{Ingress, Egress}
 use Rattle.pol_ports.specs.declared.Proto.{Proto}
 use Rattle.pol_ports.specs.declared.Proto.TheVariants.{Tcp, Udp, Sctp}
 use Rattle.pol_script.specs.Steps.{only, each}
+use Rattle.pol_script.specs.declared.kind.PolicyKind.{PolicyKind}
+use Rattle.pol_script.specs.declared.kind.PolicyKind.TheVariants as kind
 
 -- ---- words
 
@@ -20,9 +22,13 @@ abbrev pub word_among : {A : Type 0} → List (List ℕ × A) → List ℕ → O
 word_among [] text = None
 word_among (word ∷ words) text = if bytes_eq text word.0 then Some word.1 else word_among words text
 
--- the kinds of policies: whether it is the cluster-wide one
-abbrev pub kinds : List (List ℕ × Bool)
-kinds = (codes "CiliumNetworkPolicy", false) ∷ (codes "CiliumClusterwideNetworkPolicy", true) ∷ []
+-- the kinds of policies
+abbrev pub kinds : List (List ℕ × PolicyKind)
+kinds =
+    (codes "CiliumNetworkPolicy", kind.Namespaced)
+    ∷ (codes "CiliumClusterwideNetworkPolicy", kind.ClusterWide)
+    ∷ (codes "NetworkPolicy", kind.Network)
+    ∷ []
 
 -- Cilium, "Policy Enforcement Modes"
 abbrev pub modes : List (List ℕ × Mode)
@@ -59,7 +65,7 @@ Read a_name = List ℕ
 Read a_text = List ℕ
 Read texts = List (List ℕ)
 Read anything = Data
-Read a_kind = Bool
+Read a_kind = PolicyKind
 Read a_mode = Mode
 Read a_direction = Direction
 Read a_protocol = Proto

@@ -6,8 +6,11 @@ use Rattle.pol_labels.specs.declared.label.LabelError.{LabelError}
 use Rattle.pol_labels.specs.declared.label.LabelError.TheVariants as label
 use Rattle.pol_labels.specs.declared.label_set.SetError.{SetError}
 use Rattle.pol_labels.specs.declared.label_set.SetError.TheVariants as labels
+use Rattle.pol_k8s.specs.declared.fault.NetError.{NetError}
+use Rattle.pol_k8s.specs.declared.fault.NetError.TheVariants as network
 use Rattle.pol_sanitize.specs.declared.fault.SanitizeError.{SanitizeError}
 use Rattle.pol_sanitize.specs.declared.fault.SanitizeError.TheVariants as rules
+use Rattle.pol_script.specs.Commands.{net_fault}
 use Rattle.pol_script.specs.declared.line_fault.LineFault.{LineFault}
 use Rattle.pol_script.specs.declared.line_fault.LineFault.TheVariants as fault
 use Rattle.pol_script.specs.declared.line_fault.LineError.{LineError}
@@ -38,6 +41,10 @@ of_document doc.Memory = error.Memory
 abbrev pub of_rules : SanitizeError → LineError
 of_rules (rules.Fault found) = error.Fault (fault.Rule found)
 of_rules rules.Memory = error.Memory
+
+abbrev pub of_network : NetError → LineError
+of_network (network.Fault found) = error.Fault (net_fault found)
+of_network network.Memory = error.Memory
 
 abbrev pub of_label : LabelError → LineError
 of_label label.Bad = error.Fault fault.BadLabel

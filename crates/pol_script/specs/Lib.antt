@@ -7,3 +7,4 @@ pub mod Commands
 pub mod Reading
 pub mod Lines
 pub mod Unknown
+pub mod Names

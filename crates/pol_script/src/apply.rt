@@ -1,18 +1,20 @@
 //! Lines that apply a policy, and lines that delete one.
 ghost use Rattle.serde_json.specs.View.{view};
-ghost use Rattle.pol_script.specs.Commands.{default_namespace, key_of, policy_of};
+ghost use Rattle.pol_script.specs.Commands.{cilium_policy_of, key_of, network_policy_of, policy_of};
 ghost use Rattle.pol_script.specs.Gives.{Reads};
 ghost use Rattle.pol_script.specs.Reading.{read_op};
-ghost use Rattle.std.specs.Prelude.{◌≡◌, if◌then◌else◌, [], IfOk, option_map, unwrap_or};
+ghost use Rattle.std.specs.Prelude.{◌≡◌, true, false, [], IfOk, option_map};
 
 use crate::endpoint::session_of;
+use crate::kind::PolicyKind;
 use crate::members::{
     check_known, needed_kind, needed_name, needed_value, optional_name, optional_session,
 };
 use crate::op::Op;
 use crate::{Command, LineError};
 use pol_data::{Memory, Text};
-use pol_json::read_policy;
+use pol_json::{is_network_policy, read_policy};
+use pol_k8s::{network_key, read_netpol};
 use pol_model::Request;
 use pol_rule::{Policy, PolicyKey};
 use pol_sanitize::sanitize;
@@ -22,12 +24,31 @@ use std::alloc::Global;
 /// The namespace of a policy that names none (Kubernetes, "Namespaces").
 const DEFAULT_NAMESPACE: &str = "default";
 
-/// What the policy of a document says, or its first fault.
-fn policy_of(alloc: Global, document: &Value) -> Result<Policy, LineError>
-    ensures { Reads (λ policy. policy) result (policy_of (view document.now)) }
+/// What a document of Cilium's says, or its first fault.
+fn cilium_policy_of(alloc: Global, document: &Value) -> Result<Policy, LineError>
+    ensures { Reads (λ policy. policy) result (cilium_policy_of (view document.now)) }
 {
     let raw = read_policy(alloc, document)?;
     Ok(sanitize(alloc, &raw)?)
+}
+
+/// What the document of a NetworkPolicy says, or its first fault.
+fn network_policy_of(alloc: Global, document: &Value) -> Result<Policy, LineError>
+    ensures { Reads (λ policy. policy) result (network_policy_of (view document.now)) }
+{
+    Ok(read_netpol(alloc, document)?)
+}
+
+/// What the policy of a document says, or its first fault. A document of the version and the kind of a
+/// NetworkPolicy is read as one, and every other as one of Cilium's.
+fn policy_of(alloc: Global, document: &Value) -> Result<Policy, LineError>
+    ensures { Reads (λ policy. policy) result (policy_of (view document.now)) }
+{
+    if is_network_policy(document) {
+        network_policy_of(alloc, document)
+    } else {
+        cilium_policy_of(alloc, document)
+    }
 }
 
 /// The command of a line that applies a policy.
@@ -44,36 +65,48 @@ pub(crate) fn read_apply(alloc: Global, value: &Value) -> Result<Command, LineEr
     })
 }
 
-fn namespace_of(alloc: Global, cluster_wide: bool, named: Option<&str>) -> Result<Text, Memory>
-    ensures { IfOk result (λ namespace. namespace ≡ (if cluster_wide then [] else unwrap_or (option_map (λ text. text.now) named.entry) default_namespace)) }
+fn namespaced_key(alloc: Global, namespace: &str, name: &str) -> Result<PolicyKey, Memory>
+    ensures { IfOk result (λ key. key ≡ record { cluster_wide = false; namespace = namespace.now; name = name.now }) }
 {
-    if cluster_wide {
-        return Ok(Text::empty(alloc));
-    }
-    Text::from_str(alloc, named.unwrap_or(DEFAULT_NAMESPACE))
+    Ok(PolicyKey {
+        cluster_wide: false,
+        namespace: Text::from_str(alloc, namespace)?,
+        name: Text::from_str(alloc, name)?,
+    })
 }
 
-/// The key of a policy. A cluster-wide one has no namespace, whatever is named.
+fn cluster_wide_key(alloc: Global, name: &str) -> Result<PolicyKey, Memory>
+    ensures { IfOk result (λ key. key ≡ record { cluster_wide = true; namespace = []; name = name.now }) }
+{
+    Ok(PolicyKey {
+        cluster_wide: true,
+        namespace: Text::empty(alloc),
+        name: Text::from_str(alloc, name)?,
+    })
+}
+
+/// The key of a policy of this kind. A cluster-wide one has no namespace, whatever is named.
 fn key_of(
     alloc: Global,
-    cluster_wide: bool,
+    kind: PolicyKind,
     namespace: Option<&str>,
     name: &str,
 ) -> Result<PolicyKey, Memory>
-    ensures { IfOk result (λ key. key ≡ key_of cluster_wide (option_map (λ text. text.now) namespace.entry) name.now) }
+    ensures { IfOk result (λ key. key ≡ key_of kind (option_map (λ text. text.now) namespace.entry) name.now) }
 {
-    Ok(PolicyKey {
-        cluster_wide,
-        namespace: namespace_of(alloc, cluster_wide, namespace)?,
-        name: Text::from_str(alloc, name)?,
-    })
+    let namespace = namespace.unwrap_or(DEFAULT_NAMESPACE);
+    match kind {
+        PolicyKind::Namespaced => namespaced_key(alloc, namespace, name),
+        PolicyKind::ClusterWide => cluster_wide_key(alloc, name),
+        PolicyKind::Network => network_key(alloc, namespace, name),
+    }
 }
 
 /// The command of a line that deletes a policy.
 pub(crate) fn read_delete(alloc: Global, value: &Value) -> Result<Command, LineError>
     ensures { Reads (λ command. command) result (read_op Op.Delete (view value.now)) }
 {
-    let cluster_wide = needed_kind(alloc, value, "kind")?;
+    let kind = needed_kind(alloc, value, "kind")?;
     let namespace = optional_name(alloc, value, "namespace")?;
     let name = needed_name(alloc, value, "name")?;
     let session = optional_session(alloc, value)?;
@@ -84,6 +117,6 @@ pub(crate) fn read_delete(alloc: Global, value: &Value) -> Result<Command, LineE
     )?;
     Ok(Command::Commit {
         session: session_of(session),
-        request: Request::Remove(key_of(alloc, cluster_wide, namespace, name)?),
+        request: Request::Remove(key_of(alloc, kind, namespace, name)?),
     })
 }

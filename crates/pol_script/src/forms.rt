@@ -7,6 +7,7 @@ ghost use Rattle.serde_json.specs.View.{view};
 ghost use Rattle.pol_json.specs.Build.{text_of};
 ghost use Rattle.pol_script.specs.Forms.{a_kind, a_name, a_text, a_mode, a_direction, a_protocol, whole, texts, word_among, kinds, modes, directions, protocol_of, read_as};
 
+use crate::kind::PolicyKind;
 use pol_json::is_name;
 use pol_model::Mode;
 use pol_ports::{Direction, Proto};
@@ -36,18 +37,19 @@ pub(crate) fn as_name(value: &Value) -> Option<&str>
     if is_name(text) { Some(text) } else { None }
 }
 
-fn kind_named(text: &str) -> Option<bool>
+fn kind_named(text: &str) -> Option<PolicyKind>
     ensures { result ≡ word_among kinds text.now }
 {
     match text {
-        "CiliumNetworkPolicy" => Some(false),
-        "CiliumClusterwideNetworkPolicy" => Some(true),
+        "CiliumNetworkPolicy" => Some(PolicyKind::Namespaced),
+        "CiliumClusterwideNetworkPolicy" => Some(PolicyKind::ClusterWide),
+        "NetworkPolicy" => Some(PolicyKind::Network),
         _ => None,
     }
 }
 
-/// Whether the kind of a policy is the cluster-wide one; none where it is no kind of policy.
-pub(crate) fn as_kind(value: &Value) -> Option<bool>
+/// A kind of policies.
+pub(crate) fn as_kind(value: &Value) -> Option<PolicyKind>
     ensures { result ≡ read_as a_kind (view value.now) }
 {
     kind_named(value.as_str()?)

@@ -11,6 +11,7 @@ ghost use Rattle.pol_rule.specs.declared.policy.Policy.{Policy};
 ghost use Rattle.pol_script.specs.Commands.{make};
 ghost use Rattle.pol_script.specs.Lines.{newline, lines_of, ended, is_one_line};
 ghost use Rattle.pol_script.specs.Members.{given};
+ghost use Rattle.pol_script.specs.Names.{is_applied_name};
 ghost use Rattle.pol_script.specs.Reading.{object_of, op_of, reading_of};
 ghost use Rattle.pol_script.specs.Table.{rows};
 ghost use Rattle.pol_script.specs.Unknown.{is_unknown, HasLeastUnknown, IsLeastUnknown};
@@ -48,14 +49,17 @@ pub fn the_least_unknown_member_is_told()
 {}
 
 /// The names that a line asks for have their forms: an endpoint's name is a name of the script, and the key of a policy
-/// is that of a document that is read.
+/// is that of a document that is read, with `networkpolicy/` in front of the name of a NetworkPolicy, which is of a
+/// namespace.
 pub fn names_have_their_forms()
     ensures endpoint { (line : List ℕ) (session : ℕ) (name : List ℕ) (labels : List Label) (address : Addr)
         → reading_of line ≡ Ok (Commit session (AddEndpoint name labels address)) → IsTrue (is_name name) }
     ensures policy { (line : List ℕ) (session : ℕ) (policy : Policy) → reading_of line ≡ Ok (Commit session (Apply policy))
-        → IsTrue (is_dns_name policy.key.name) }
+        → IsTrue (is_applied_name policy.key.name) }
     ensures namespace { (line : List ℕ) (session : ℕ) (policy : Policy) → reading_of line ≡ Ok (Commit session (Apply policy))
         → policy.key.cluster_wide ≡ false → IsTrue (is_dns_name policy.key.namespace) }
     ensures cluster_wide { (line : List ℕ) (session : ℕ) (policy : Policy) → reading_of line ≡ Ok (Commit session (Apply policy))
         → policy.key.cluster_wide ≡ true → policy.key.namespace ≡ [] }
+    ensures of_cilium { (line : List ℕ) (session : ℕ) (policy : Policy) → reading_of line ≡ Ok (Commit session (Apply policy))
+        → policy.key.cluster_wide ≡ true → IsTrue (is_dns_name policy.key.name) }
 {}

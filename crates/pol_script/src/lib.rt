@@ -8,6 +8,7 @@ mod apply;
 mod command;
 mod endpoint;
 mod forms;
+mod kind;
 mod labels;
 pub mod laws;
 mod line;

@@ -1,11 +1,12 @@
 //! What a line of the script is refused for.
 
 ghost use Rattle.std.specs.Prelude.{◌≡◌};
-ghost use Rattle.pol_script.specs.Gives.{of_document, of_label, of_labels, of_rules};
+ghost use Rattle.pol_script.specs.Gives.{of_document, of_label, of_labels, of_network, of_rules};
 ghost use Rattle.pol_script.specs.declared.line_fault.LineError.TheVariants.{Memory as WantOfMemory};
 
 use pol_data::{Memory, Text};
 use pol_json::{DocError, DocFault};
+use pol_k8s::{NetError, NetFault};
 use pol_labels::{LabelError, SetError};
 use pol_rule::RuleFault;
 use pol_sanitize::SanitizeError;
@@ -25,7 +26,7 @@ pub enum LineFault {
     UnknownField(Text),
     /// 10 to 14 and 25: the policy document has a fault.
     Doc(DocFault),
-    /// 15 to 24: a rule of the policy has a fault.
+    /// 15 to 24, and 26 to 28: a rule of the policy has a fault, or a part of a NetworkPolicy has.
     Rule(RuleFault),
     /// 39: a label text is bad.
     BadLabel,
@@ -80,6 +81,18 @@ impl From<SanitizeError> for LineError {
         match error {
             SanitizeError::Fault(fault) => LineError::Fault(LineFault::Rule(fault)),
             SanitizeError::Memory => LineError::Memory,
+        }
+    }
+}
+
+impl From<NetError> for LineError {
+    ghost from_gives = { λ inner error. error ≡ of_network inner };
+
+    fn from(error: NetError) -> LineError {
+        match error {
+            NetError::Fault(NetFault::Doc(fault)) => LineError::Fault(LineFault::Doc(fault)),
+            NetError::Fault(NetFault::Rule(fault)) => LineError::Fault(LineFault::Rule(fault)),
+            NetError::Memory => LineError::Memory,
         }
     }
 }

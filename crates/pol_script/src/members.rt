@@ -15,6 +15,7 @@ use crate::forms::{
     as_direction, as_identity, as_kind, as_mode, as_name, as_port, as_protocol, as_session,
     as_text, as_texts,
 };
+use crate::kind::PolicyKind;
 use crate::{LineError, LineFault};
 use pol_data::Text;
 use pol_json::present;
@@ -87,8 +88,12 @@ pub(crate) fn needed_value<'v>(
     or_bad(alloc, member, present(value, member))
 }
 
-/// Whether the kind of a policy, which has to be there, is the cluster-wide one.
-pub(crate) fn needed_kind(alloc: Global, value: &Value, member: &str) -> Result<bool, LineError>
+/// A kind of policies that has to be there.
+pub(crate) fn needed_kind(
+    alloc: Global,
+    value: &Value,
+    member: &str,
+) -> Result<PolicyKind, LineError>
     ensures { Reads (λ read. read) result (value_of needed a_kind member.now (view value.now)) }
 {
     or_bad(alloc, member, present(value, member).and_then(as_kind))

@@ -1,5 +1,5 @@
 -- Commands that are read again from the values that write them: what each member must meet is put in for its test.
-use Rattle.std.proofs.Common.{◌≡◌, ℕ, List, [], ◌∷◌, codes, true, false, Ok, refl}
+use Rattle.std.proofs.Common.{◌≡◌, ℕ, List, [], ◌∷◌, ◌++◌, codes, true, false, Ok, refl}
 use Rattle.pol_json.specs.Texts.{is_name}
 use Rattle.pol_model.specs.declared.options.Mode.{Mode}
 use Rattle.pol_model.specs.declared.options.Mode.TheVariants.{Default, Always, Never}
@@ -12,7 +12,7 @@ use Rattle.pol_ports.specs.declared.Proto.TheVariants.{Tcp, Udp, Sctp}
 use Rattle.pol_script.specs.Forms.{is_within}
 use Rattle.pol_script.specs.Reading.{read_object}
 use Rattle.pol_script.specs.declared.command.Command.TheVariants as command
-use Rattle.script_examples.specs.Printed.{delete_line, is_session, line_in, mode_line, named_line, query_line, wide_delete_line}
+use Rattle.script_examples.specs.Printed.{delete_line, is_session, line_in, mode_line, named_line, network_delete_line, query_line, wide_delete_line}
 use Rattle.script_examples.specs.Values.{text}
 
 pub sync_again : (session : ℕ) → is_session session ≡ true → read_object (line_in session ((codes "op", text (codes "sync")) ∷ [])) ≡ Ok (command.Sync session)
@@ -34,6 +34,11 @@ remove_identity_again session name fits named = rw (named, fits) refl
 pub delete_again : (session : ℕ) (namespace name : List ℕ) → is_session session ≡ true → is_name namespace ≡ true → is_name name ≡ true
     → read_object (delete_line session namespace name) ≡ Ok (command.Commit session (request.Remove (record { cluster_wide = false; namespace = namespace; name = name })))
 delete_again session namespace name fits within named = rw (within, named, fits) refl
+
+pub delete_network_again : (session : ℕ) (namespace name : List ℕ) → is_session session ≡ true → is_name namespace ≡ true → is_name name ≡ true
+    → read_object (network_delete_line session namespace name)
+    ≡ Ok (command.Commit session (request.Remove (record { cluster_wide = false; namespace = namespace; name = codes "networkpolicy/" ++ name })))
+delete_network_again session namespace name fits within named = rw (within, named, fits) refl
 
 pub delete_wide_again : (session : ℕ) (name : List ℕ) → is_session session ≡ true → is_name name ≡ true
     → read_object (wide_delete_line session name) ≡ Ok (command.Commit session (request.Remove (record { cluster_wide = true; namespace = []; name = name })))

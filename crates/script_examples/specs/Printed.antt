@@ -39,15 +39,21 @@ named_line op session name = line_in session ((codes "name", text name) ∷ (cod
 abbrev pub mode_line : ℕ → Mode → Data
 mode_line session mode = line_in session ((codes "enable", text (mode_text mode)) ∷ (codes "op", text (codes "mode")) ∷ [])
 
--- a `delete` of a policy in a namespace, and of a cluster-wide one
-abbrev pub delete_line : ℕ → List ℕ → List ℕ → Data
-delete_line session namespace name =
+-- a `delete` of a policy of this kind in a namespace, and of a cluster-wide one
+abbrev delete_of : List ℕ → ℕ → List ℕ → List ℕ → Data
+delete_of kind session namespace name =
     line_in session
-    ((codes "kind", text (codes "CiliumNetworkPolicy"))
+    ((codes "kind", text kind)
     ∷ (codes "name", text name)
     ∷ (codes "namespace", text namespace)
     ∷ (codes "op", text (codes "delete"))
     ∷ [])
+
+abbrev pub delete_line : ℕ → List ℕ → List ℕ → Data
+delete_line session namespace name = delete_of (codes "CiliumNetworkPolicy") session namespace name
+
+abbrev pub network_delete_line : ℕ → List ℕ → List ℕ → Data
+network_delete_line session namespace name = delete_of (codes "NetworkPolicy") session namespace name
 
 abbrev pub wide_delete_line : ℕ → List ℕ → Data
 wide_delete_line session name =

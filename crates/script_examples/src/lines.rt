@@ -1,5 +1,5 @@
 //! What lines of the script ask, and what they are refused for, on small lines.
-ghost use Rattle.std.specs.Prelude.{◌≡◌, ℕ, List, [], ◌∷◌, codes, true, false, Ok, Err};
+ghost use Rattle.std.specs.Prelude.{◌≡◌, ℕ, List, [], ◌∷◌, ◌++◌, codes, true, false, Ok, Err};
 ghost use Rattle.serde_json.specs.Data.{unsigned, null, number};
 ghost use Rattle.pol_json.specs.Texts.{is_name};
 ghost use Rattle.pol_model.specs.declared.options.Mode.{Mode};
@@ -13,7 +13,7 @@ ghost use Rattle.pol_script.specs.Reading.{read_object};
 ghost use Rattle.pol_script.specs.declared.command.Command.TheVariants as command;
 ghost use Rattle.pol_script.specs.declared.line_fault.LineFault.TheVariants as fault;
 ghost use Rattle.script_examples.specs.Answers.{own, wide};
-ghost use Rattle.script_examples.specs.Printed.{delete_line, is_session, line_in, mode_line, named_line, query_line, wide_delete_line};
+ghost use Rattle.script_examples.specs.Printed.{delete_line, is_session, line_in, mode_line, named_line, network_delete_line, query_line, wide_delete_line};
 ghost use Rattle.script_examples.specs.Values.{fields, items, text};
 
 /// A `delete` takes each name of the script, also one that no policy can have; a namespace that isn't named is `default`,
@@ -29,8 +29,12 @@ pub fn deletes_name_policies()
         ≡ Err (fault.BadField (codes "namespace")) }
     ensures bad_name { read_object (fields ((codes "kind", text (codes "CiliumNetworkPolicy")) ∷ (codes "name", text (codes "a b")) ∷ (codes "op", text (codes "delete")) ∷ []))
         ≡ Err (fault.BadField (codes "name")) }
-    ensures bad_kind { read_object (fields ((codes "kind", text (codes "NetworkPolicy")) ∷ (codes "name", text (codes "a b")) ∷ (codes "op", text (codes "delete")) ∷ []))
+    ensures bad_kind { read_object (fields ((codes "kind", text (codes "networkPolicy")) ∷ (codes "name", text (codes "a b")) ∷ (codes "op", text (codes "delete")) ∷ []))
         ≡ Err (fault.BadField (codes "kind")) }
+    ensures network { read_object (fields ((codes "kind", text (codes "NetworkPolicy")) ∷ (codes "name", text (codes "p")) ∷ (codes "op", text (codes "delete")) ∷ []))
+        ≡ Ok (command.Commit 1 (request.Remove (own (codes "networkpolicy/p")))) }
+    ensures network_by_its_key { read_object (fields ((codes "kind", text (codes "CiliumNetworkPolicy")) ∷ (codes "name", text (codes "networkpolicy/p")) ∷ (codes "op", text (codes "delete")) ∷ []))
+        ≡ Ok (command.Commit 1 (request.Remove (own (codes "networkpolicy/p")))) }
 {}
 
 /// A member that is lacking or of another form is told before one of another name, and that before what the members hold;
@@ -69,6 +73,9 @@ pub fn commands_are_read_again()
         → read_object (named_line (codes "remove-identity") session name) ≡ Ok (command.Commit session (request.RemoveIdentity name)) }
     ensures delete { (session : ℕ) (namespace name : List ℕ) → is_session session ≡ true → is_name namespace ≡ true → is_name name ≡ true
         → read_object (delete_line session namespace name) ≡ Ok (command.Commit session (request.Remove (record { cluster_wide = false; namespace = namespace; name = name }))) }
+    ensures delete_network { (session : ℕ) (namespace name : List ℕ) → is_session session ≡ true → is_name namespace ≡ true → is_name name ≡ true
+        → read_object (network_delete_line session namespace name)
+        ≡ Ok (command.Commit session (request.Remove (record { cluster_wide = false; namespace = namespace; name = codes "networkpolicy/" ++ name }))) }
     ensures delete_wide { (session : ℕ) (name : List ℕ) → is_session session ≡ true → is_name name ≡ true
         → read_object (wide_delete_line session name) ≡ Ok (command.Commit session (request.Remove (record { cluster_wide = true; namespace = []; name = name }))) }
     ensures verdict { (session : ℕ) (endpoint : List ℕ) (dir : Direction) (identity : ℕ) (proto : Proto) (port : ℕ)

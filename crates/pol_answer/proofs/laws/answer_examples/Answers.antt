@@ -26,6 +26,10 @@ pub returns-clause-rules : goal.returns-clause-rules
 unfolding digits
 returns-clause-rules c = refl
 
+pub returns-clause-networks : goal.returns-clause-networks
+unfolding digits
+returns-clause-networks c = refl
+
 pub returns-clause-requests : goal.returns-clause-requests
 unfolding digits
 returns-clause-requests c = refl

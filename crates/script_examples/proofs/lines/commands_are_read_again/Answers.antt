@@ -1,4 +1,4 @@
-use Rattle.script_examples.proofs.ReadAgain.{sync_again, mode_again, remove_endpoint_again, remove_identity_again, delete_again, delete_wide_again, verdict_again, trace_again}
+use Rattle.script_examples.proofs.ReadAgain.{sync_again, mode_again, remove_endpoint_again, remove_identity_again, delete_again, delete_network_again, delete_wide_again, verdict_again, trace_again}
 use Rattle.std.proofs.Common.{refl}
 use Rattle.script_examples.proofs.lines.commands_are_read_again.Goals as goal
 
@@ -19,6 +19,9 @@ returns-clause-remove_identity c = remove_identity_again
 
 pub returns-clause-delete : goal.returns-clause-delete
 returns-clause-delete c = delete_again
+
+pub returns-clause-delete_network : goal.returns-clause-delete_network
+returns-clause-delete_network c = delete_network_again
 
 pub returns-clause-delete_wide : goal.returns-clause-delete_wide
 returns-clause-delete_wide c = delete_wide_again
