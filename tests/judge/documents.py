@@ -4,9 +4,11 @@ import re
 from .rules import ENTITIES, NAMESPACE, NAMESPACE_LABELS, Entry, Peer, Policy, Requirement, Rule, covers, prefix_of
 
 KINDS = ["CiliumNetworkPolicy", "CiliumClusterwideNetworkPolicy"]
+NETWORK_API, NETWORK_KIND, NETWORK_FRONT = "networking.k8s.io/v1", "NetworkPolicy", "networkpolicy/"
 SECTIONS = ["ingress", "ingressDeny", "egress", "egressDeny"]
 PEERS = ["Endpoints", "CIDR", "CIDRSet", "Entities"]
 TEXT, NAME, CIDR, PORT, PROTOCOL, NUMBER, IGNORED = "text", "name", "cidr text", "port text", "protocol text", "number", "ignored"
+PORT_NUMBER = "port number"
 COMMON_LEFT_OUT = ["icmps", "authentication"]
 
 
@@ -30,9 +32,16 @@ TABLE = {
     "cidr set": ({"cidr": CIDR, "except": [CIDR]}, ["cidrGroupRef", "cidrGroupSelector"]),
     "port item": ({"ports": ["port"]}, ["rules", "terminatingTLS", "originatingTLS", "listener", "serverNames"]),
     "port": ({"port": PORT, "protocol": PROTOCOL, "endPort": NUMBER}, []),
+    "network policy": ({"apiVersion": TEXT, "kind": TEXT, "metadata": "metadata", "spec": "network spec", "status": IGNORED}, []),
+    "network spec": ({"podSelector": "selector", "policyTypes": [TEXT], "ingress": ["network ingress"], "egress": ["network egress"]}, []),
+    "network ingress": ({"from": ["network peer"], "ports": ["network port"]}, []),
+    "network egress": ({"to": ["network peer"], "ports": ["network port"]}, []),
+    "network peer": ({"podSelector": "selector", "namespaceSelector": "selector", "ipBlock": "block"}, []),
+    "block": ({"cidr": CIDR, "except": [CIDR]}, []),
+    "network port": ({"port": PORT_NUMBER, "protocol": TEXT, "endPort": NUMBER}, []),
 }
 OTHERS = {"metadata": IGNORED, "match labels": TEXT}
-NEEDED = {"expression": ["key", "operator"], "cidr set": ["cidr"], "port": ["port"]}
+NEEDED = {"expression": ["key", "operator"], "cidr set": ["cidr"], "port": ["port"], "block": ["cidr"]}
 
 
 class Refused(Exception):
@@ -77,7 +86,9 @@ def walk(shape, value, path):
             raise wrong_shape(path)
         for at, item in enumerate(value):
             walk(shape[0], item, f"{path}[{at}]")
-    elif shape == NUMBER:
+    elif shape in (NUMBER, PORT_NUMBER):
+        if shape == PORT_NUMBER and isinstance(value, str):
+            raise left_out("named-port")
         if not is_number(value):
             raise wrong_shape(path)
     elif shape in TABLE:
@@ -112,13 +123,17 @@ def present(value, name):
     return value.get(name) if isinstance(value, dict) else None
 
 
-def check_document(value):
-    kind, metadata = present(value, "kind"), present(value, "metadata")
-    if present(value, "apiVersion") != "cilium.io/v2" or kind not in KINDS:
-        raise Refused("10 not-policy")
-    name = present(metadata, "name")
+def check_name(value):
+    name = present(present(value, "metadata"), "name")
     if not isinstance(name, str) or not name:
         raise Refused("11 no-name")
+
+
+def check_document(value):
+    kind = present(value, "kind")
+    if present(value, "apiVersion") != "cilium.io/v2" or kind not in KINDS:
+        raise Refused("10 not-policy")
+    check_name(value)
     if value.get("spec") is None and value.get("specs") in (None, []):
         raise Refused("12 no-spec")
     walk("policy", value, "")
@@ -134,7 +149,8 @@ class Place:
     """A subject or an entry, where faults are told."""
 
     NAMES = {15: "no-selector", 16: "combining", 17: "bad-selector", 18: "bad-cidr", 19: "except-outside", 20: "unknown-entity",
-             21: "bad-port", 22: "bad-protocol", 23: "too-many-ports", 24: "empty-ports"}
+             21: "bad-port", 22: "bad-protocol", 23: "too-many-ports", 24: "empty-ports", 26: "bad-policy-type",
+             27: "bad-peer", 28: "bad-end-port"}
 
     def __init__(self, rule, at=""):
         self.where, self.found = f"#{rule}{at}", []
@@ -272,11 +288,88 @@ def rule_of(key, number, value):
 
 def policy_key(kind, namespace, name):
     wide = kind == KINDS[1]
-    return (wide, "" if wide else namespace or "default", name)
+    return (wide, "" if wide else namespace or "default", NETWORK_FRONT + name if kind == NETWORK_KIND else name)
+
+
+# ---- what a NetworkPolicy says
+
+def is_network_policy(value):
+    return present(value, "apiVersion") == NETWORK_API and present(value, "kind") == NETWORK_KIND
+
+
+def pod_selector(place, value, front=""):
+    """What a selector asks of the labels of source `k8s` whose keys have this in front."""
+    labels = [(name, "In", [it]) for name, it in (value.get("matchLabels") or {}).items() if it is not None]
+    expressions = [(it["key"], it["operator"], items(it, "values")) for it in items(value, "matchExpressions")]
+    return tuple(pod_requirement(place, front, *it) for it in labels + expressions)
+
+
+def pod_requirement(place, front, key, operator, values):
+    fits = {"In": values, "NotIn": values, "Exists": not values, "DoesNotExist": not values}
+    if not key or ":" in key or not fits.get(operator):
+        place.refuse(17)
+    return Requirement("k8s", front + key, operator, tuple(values))
+
+
+def network_peer(place, namespace, value):
+    pods, namespaces, block = (value.get(it) for it in ("podSelector", "namespaceSelector", "ipBlock"))
+    if (block is None) == (pods is None and namespaces is None):
+        place.refuse(27)
+    of_pods = pod_selector(place, pods or {})
+    of_namespaces = (in_namespace(namespace),) if namespaces is None else (
+        Requirement("k8s", NAMESPACE, "Exists"), *pod_selector(place, namespaces, NAMESPACE_LABELS))
+    if block is not None:
+        return cidr_peer(place, block["cidr"], items(block, "except"))
+    return Peer("labels", selector=(*of_pods, *of_namespaces))
+
+
+def network_port(place, value):
+    first, end, protocol = value.get("port"), value.get("endPort"), value.get("protocol")
+    protocol = "TCP" if protocol is None else protocol
+    if first is not None and not 1 <= first <= 65535 or end is not None and end > 65535:
+        place.refuse(21)
+    if protocol not in ("TCP", "UDP", "SCTP"):
+        place.refuse(22)
+    if end is not None and (first is None or end < first):
+        place.refuse(28)
+    return (protocol, 0, 65535) if first is None else (protocol, first, first if end is None else end)
+
+
+def network_entry(namespace, section, at, value):
+    place = Place(0, f".{section}[{at}]")
+    peers = tuple(network_peer(place, namespace, it) for it in items(value, "from" if section == "ingress" else "to"))
+    ports = tuple(network_port(place, it) for it in items(value, "ports"))
+    place.close()
+    # an entry with neither is for every packet
+    return Entry(peers or None, ports if peers or ports else ((None, 0, 65535),))
+
+
+def read_network_policy(value):
+    check_name(value)
+    if value.get("spec") is None:
+        raise Refused("12 no-spec")
+    walk("network policy", value, "")
+    spec, metadata, place = value["spec"], value["metadata"], Place(0)
+    key = policy_key(NETWORK_KIND, metadata.get("namespace"), metadata["name"])
+    if spec.get("podSelector") is None:
+        place.refuse(15)
+    subject = (*pod_selector(place, spec.get("podSelector") or {}), in_namespace(key[1]))
+    types = items(spec, "policyTypes")
+    if any(it not in ("Ingress", "Egress") for it in types):
+        place.refuse(26)
+    place.close()
+    entries = {section: tuple(network_entry(key[1], section, at, it) for at, it in enumerate(items(spec, section)))
+               for section in ("ingress", "egress")}
+    isolates = {"ingress": "Ingress" in types or not types, "egress": "Egress" in types or not types and bool(entries["egress"])}
+    # a direction that it isolates without an entry has one that covers nothing
+    sections = {section: (entries.get(section) or (Entry(None, ()),)) if isolates.get(section) else () for section in SECTIONS}
+    return Policy(key, (Rule(subject, sections),))
 
 
 def read_policy(value):
     """What the document says; raises `Refused` with its first fault."""
+    if is_network_policy(value):
+        return read_network_policy(value)
     check_document(value)
     metadata = value["metadata"]
     key = policy_key(value["kind"], metadata.get("namespace"), metadata["name"])

@@ -3,7 +3,7 @@ import json
 import re
 from dataclasses import dataclass
 
-from .documents import KINDS, Refused, is_number, policy_key, present, read_policy, shown
+from .documents import KINDS, NETWORK_KIND, Refused, is_number, policy_key, present, read_policy, shown
 from .rules import PROTOCOLS, address_of, label_of
 
 # Of each operation its members, in the order in which they are judged; `?` may be absent.
@@ -53,7 +53,7 @@ FORMS = {
     "name": is_name, "endpoint": is_name, "namespace": is_name, "address": is_text,
     "labels": lambda value: isinstance(value, list) and all(map(is_text, value)),
     "policy": lambda value: True,
-    "kind": lambda value: value in KINDS,
+    "kind": lambda value: value in (*KINDS, NETWORK_KIND),
     "enable": lambda value: value in ("default", "always", "never"),
     "direction": lambda value: value in ("ingress", "egress"),
     "identity": lambda value: is_number(value) and value < 2 ** 32,
