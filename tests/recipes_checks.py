@@ -208,7 +208,7 @@ def fault_of(answer):
     words = answer.split(" ", 3)
     if words[0] == "ok":
         return "ok", ""
-    if words[0] != "refused" or not 12 <= int(words[1]) <= 25:
+    if words[0] != "refused" or not 12 <= int(words[1]) <= 28:
         return None
     if words[1] == "14":
         return words[3], ""
@@ -261,7 +261,7 @@ def faults_of_changes(wrong):
         for words, what in (
             ([], "nothing to change: --add FILE or --remove KIND/NAMESPACE/NAME"),
             (["--add", written("dns.json", DNS)], f"{folder}/dns.json: document 1: shop/dns isn't read: toFQDNs at spec.egress[0]. Nothing can be said of it"),
-            (["--add", written("pod.json", PODS[0])], f"{folder}/pod.json: document 1: a Pod of v1, and --add takes CiliumNetworkPolicy and CiliumClusterwideNetworkPolicy of cilium.io/v2"),
+            (["--add", written("pod.json", PODS[0])], f"{folder}/pod.json: document 1: a Pod of v1, and --add takes CiliumNetworkPolicy and CiliumClusterwideNetworkPolicy of cilium.io/v2, and NetworkPolicy of networking.k8s.io/v1"),
             (
                 ["--add", written("a.yaml", "apiVersion: cilium.io/v2\nkind: CiliumNetworkPolicy\n")],
                 f"{folder}/a.yaml is YAML, which Python's standard library doesn't read: `kubectl create --dry-run=client -o json -f FILE` prints it as JSON, and so does kubectl get with -o json",
@@ -270,7 +270,7 @@ def faults_of_changes(wrong):
             (["--add", f"{folder}/lost"], f"{folder}/lost: No such file or directory"),
             (["--remove", "cnp/shop/lost"], "--remove cnp/shop/lost: the state has no such policy; of its kind it has shop/fine, shop/l7"),
             (["--remove", "ccnp/lost"], "--remove ccnp/lost: the state has no such policy; of its kind it has none"),
-            (["--remove", "pod/shop/web"], "--remove pod/shop/web: it is CiliumNetworkPolicy/NAMESPACE/NAME or CiliumClusterwideNetworkPolicy/NAME; cnp and ccnp do for the kinds"),
+            (["--remove", "pod/shop/web"], "--remove pod/shop/web: it is CiliumNetworkPolicy/NAMESPACE/NAME, CiliumClusterwideNetworkPolicy/NAME or NetworkPolicy/NAMESPACE/NAME; cnp, ccnp and netpol do for the kinds"),
             (["--add", fine, "--state", twice], f"{twice}: document 1, item 2: Pod shop/b: its address 10.0.0.1 is that of shop/a too"),
             (["--add", fine, "--node", "n9"], "--node n9: no pod of the state is on it; there are n1, n2"),
             (["--add", fine, "--strict"], "1 of 2 policies isn't in force: shop/l7: rules at spec.ingress[1].toPorts[0]"),

@@ -1,8 +1,10 @@
 """A change of policies: what is applied and what is removed, and what was in force before."""
+from . import network
 from .policies import CLUSTER_WIDE, NAMESPACED, POLICY_KINDS, Policy
 from .reading import Bad, objects, text_of
 
-SHORT = {"cnp": NAMESPACED, "ccnp": CLUSTER_WIDE}
+SHORT = {"cnp": NAMESPACED, "ccnp": CLUSTER_WIDE, "netpol": network.KIND}
+KINDS = (*POLICY_KINDS, network.KIND)
 
 
 class Change:
@@ -19,10 +21,10 @@ class Change:
 
     def removed(self, text):
         kind, *names = text.split("/")
-        kind = {**SHORT, **{it.lower(): it for it in POLICY_KINDS}}.get(kind.lower())
+        kind = {**SHORT, **{it.lower(): it for it in KINDS}}.get(kind.lower())
         key = (kind, *(["", *names] if kind == CLUSTER_WIDE else names))
         if kind is None or len(key) != 3:
-            raise Bad(f"--remove {text}: it is {NAMESPACED}/NAMESPACE/NAME or {CLUSTER_WIDE}/NAME; cnp and ccnp do for the kinds")
+            raise Bad(f"--remove {text}: it is {NAMESPACED}/NAMESPACE/NAME, {CLUSTER_WIDE}/NAME or {network.KIND}/NAMESPACE/NAME; cnp, ccnp and netpol do for the kinds")
         if key not in self.before:
             names = sorted(it.name for it in self.before.values() if it.kind == kind)
             raise Bad(f"--remove {text}: the state has no such policy; of its kind it has {', '.join(names) or 'none'}")
@@ -45,9 +47,13 @@ class Change:
 def policies_of(name):
     """The policies of a file, each of which policyd has to read."""
     for place, value in objects(text_of(name), name, f"{name}: document"):
-        if value["apiVersion"] != "cilium.io/v2" or value["kind"] not in POLICY_KINDS:
-            raise Bad(f"{place}: a {value['kind']} of {value['apiVersion']}, and --add takes {NAMESPACED} and {CLUSTER_WIDE} of cilium.io/v2")
-        policy = Policy(place, value)
+        api, kind = value["apiVersion"], value["kind"]
+        if (api, kind) == (network.API, network.KIND):
+            policy = network.NetworkPolicy(place, value)
+        elif api == "cilium.io/v2" and kind in POLICY_KINDS:
+            policy = Policy(place, value)
+        else:
+            raise Bad(f"{place}: a {kind} of {api}, and --add takes {NAMESPACED} and {CLUSTER_WIDE} of cilium.io/v2, and {network.KIND} of {network.API}")
         why = policy.why_unread()
         if why:
             raise Bad(f"{place}: {policy.name} isn't read: {why[0]} at {why[1]}. Nothing can be said of it")

@@ -1,6 +1,7 @@
 """The objects of a cluster, as far as the recipes speak of them."""
 import re
 
+from . import network
 from .policies import POLICY_KINDS, Policy
 from .reading import VALUE, Bad, addresses_of, labels_of, member, name_of, objects
 
@@ -102,6 +103,8 @@ class Cluster:
             self.take_service(place, value)
         elif api == "cilium.io/v2" and kind in POLICY_KINDS:
             self.policies.append(Policy(place, value))
+        elif (api, kind) == (network.API, network.KIND):
+            self.policies.append(network.NetworkPolicy(place, value))
         else:
             self.unread[(api, kind)] = self.unread.get((api, kind), 0) + 1
 
@@ -131,8 +134,7 @@ def left_out(cluster):
         more = ", .." if len(names) > NAMED_MOST else ""
         yield f"left out: {reason}: {len(names)} ({', '.join(names[:NAMED_MOST])}{more})"
     for (api, kind), count in sorted(cluster.unread.items()):
-        rules = ", whose rules the verdicts lack" if kind == "NetworkPolicy" else ""
-        yield f"left out: objects of a kind that isn't read: {count} {kind} ({api}){rules}"
+        yield f"left out: objects of a kind that isn't read: {count} {kind} ({api})"
     for name in sorted({it.namespace for it in cluster.live} - {*cluster.namespaces}):
         yield f"note: the namespace {name} isn't in the input, so its pods have none of its labels"
     named = [it.name for it in cluster.policies if it.names_cluster()]

@@ -1,4 +1,5 @@
-"""Which policies policyd doesn't read, and where: the tables of docs/RULES.md, 'Policy documents', walked once more.
+"""Which policies policyd doesn't read, and where: the tables of docs/RULES.md, 'Policy documents' and 'Documents of
+NetworkPolicies', walked once more.
 
 policyd alone decides. This says beforehand, and with the path, what it will refuse: `tests/recipes_checks.py` compares
 it with the answers of every case.
@@ -26,8 +27,15 @@ SHAPES = {
     "set": {"cidr": "cidr", "except": ["cidr"]},
     "item": {"ports": ["port"]},
     "port": {"port": "port text", "protocol": "protocol", "endPort": NUMBER},
+    "network policy": {"apiVersion": TEXT, "kind": TEXT, "metadata": "metadata", "spec": "network spec", "status": ANY},
+    "network spec": {"podSelector": "selector", "policyTypes": [TEXT], "ingress": ["network from"], "egress": ["network to"]},
+    "network from": {"from": ["peer"], "ports": ["network port"]},
+    "network to": {"to": ["peer"], "ports": ["network port"]},
+    "peer": {"podSelector": "selector", "namespaceSelector": "selector", "ipBlock": "block"},
+    "block": {"cidr": "cidr", "except": ["cidr"]},
+    "network port": {"port": "port number", "protocol": TEXT, "endPort": NUMBER},
 }
-NEEDED = {"expression": ("key", "operator"), "set": ("cidr",), "port": ("port",)}
+NEEDED = {"expression": ("key", "operator"), "set": ("cidr",), "port": ("port",), "block": ("cidr",)}
 LEFT_OUT = {
     "rule": "nodeSelector enableDefaultDeny",
     "from": "fromRequires fromNodes fromGroups icmps authentication",
@@ -49,17 +57,22 @@ class Unread(Exception):
 
 def why_unread(document):
     """The first thing that policyd refuses in a policy's document, and its path; None where it reads all."""
+    is_network = is_network_policy(document)
     try:
         name = document["metadata"].get("name")
         if not isinstance(name, str) or not name:
             raise Unread("no-name", "metadata.name")
-        if document.get("spec") is None and document.get("specs") in (None, []):
+        if document.get("spec") is None and (is_network or document.get("specs") in (None, [])):
             raise Unread("no-spec", "spec")
-        walk(document, "policy", "")
-        judge(document)
+        walk(document, "network policy" if is_network else "policy", "")
+        judge_network(document["spec"]) if is_network else judge(document)
     except Unread as found:
         return found.what, found.path
     return None
+
+
+def is_network_policy(document):
+    return document.get("apiVersion") == "networking.k8s.io/v1" and document.get("kind") == "NetworkPolicy"
 
 
 # What the document's members are.
@@ -110,7 +123,9 @@ def visit(value, shape, path):
 def leaf(value, shape, path):
     if shape == ANY:
         return
-    if shape == NUMBER:
+    if shape == "port number" and isinstance(value, str):
+        raise Unread("named-port", path)
+    if shape in (NUMBER, "port number"):
         fits = isinstance(value, int) and not isinstance(value, bool) and 0 <= value < 1 << 64
     else:
         fits = isinstance(value, str) and (shape != NAME or re.fullmatch(r"[a-z0-9.-]{1,253}", value))
@@ -181,6 +196,56 @@ def judge_ports(items, path):
         raise Unread("too-many-ports", path)
     if any(not it for it in items):
         raise Unread("empty-ports", path)
+
+
+# What a NetworkPolicy says.
+
+
+def judge_network(spec):
+    if spec.get("podSelector") is None:
+        raise Unread("no-selector", "spec")
+    judge_pod_selector(spec["podSelector"], "spec.podSelector")
+    if any(it not in ("Ingress", "Egress") for it in spec.get("policyTypes") or []):
+        raise Unread("bad-policy-type", "spec.policyTypes")
+    for section, word in (("ingress", "from"), ("egress", "to")):
+        for at, entry in enumerate(spec.get(section) or []):
+            judge_network_entry(entry.get(word) or [], entry.get("ports") or [], f"spec.{section}[{at}]")
+
+
+def judge_pod_selector(selector, path):
+    keys = [*without_nulls(selector.get("matchLabels") or {}), *(it["key"] for it in selector.get("matchExpressions") or [])]
+    if any(":" in it for it in keys):
+        raise Unread("bad-selector", path)
+    judge_selector(selector, path)
+
+
+def judge_network_entry(listed, ports, path):
+    """The faults of an entry, by their numbers."""
+    for selector in (peer.get(name) for peer in listed for name in ("podSelector", "namespaceSelector")):
+        if selector is not None:
+            judge_pod_selector(selector, path)
+    blocks = [it["ipBlock"] for it in listed if it.get("ipBlock") is not None]
+    judge_blocks(blocks, path)
+    if any(not 1 <= it.get("port", 1) <= 65535 or it.get("endPort", 0) > 65535 for it in map(without_nulls, ports)):
+        raise Unread("bad-port", path)
+    if any(it.get("protocol", "TCP") not in ("TCP", "UDP", "SCTP") for it in map(without_nulls, ports)):
+        raise Unread("bad-protocol", path)
+    for peer in map(without_nulls, listed):
+        if ("ipBlock" in peer) == ("podSelector" in peer or "namespaceSelector" in peer):
+            raise Unread("bad-peer", path)
+    if any("endPort" in it and it["endPort"] < it.get("port", 65536) for it in map(without_nulls, ports)):
+        raise Unread("bad-end-port", path)
+
+
+def judge_blocks(blocks, path):
+    if any(prefix(text) is None for it in blocks for text in [it["cidr"], *(it.get("except") or [])]):
+        raise Unread("bad-cidr", path)
+    if not all(prefix(text).subnet_of(prefix(it["cidr"])) for it in blocks for text in it.get("except") or []):
+        raise Unread("except-outside", path)
+
+
+def without_nulls(value):
+    return {key: it for key, it in value.items() if it is not None}
 
 
 def prefix(text):

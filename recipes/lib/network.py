@@ -1,0 +1,51 @@
+"""NetworkPolicies of Kubernetes as kubectl prints them: which labels they select, and what their entries say."""
+from .policies import NAMESPACE_KEY, Policy, holds, requirements
+from .reading import line_of
+
+API, KIND = "networking.k8s.io/v1", "NetworkPolicy"
+SECTIONS = {"ingress": "Ingress", "egress": "Egress"}
+
+
+class NetworkPolicy(Policy):
+    """A NetworkPolicy. Its name stands in answers as NAMESPACE/networkpolicy/NAME."""
+
+    def __init__(self, place, value):
+        super().__init__(place, value)
+        self.name = f"{self.namespace}/networkpolicy/{self.key[2]}"
+
+    def spec(self):
+        found = self.document.get("spec")
+        return found if isinstance(found, dict) else {}
+
+    def parts(self):
+        return [self]
+
+    def selects(self, labels):
+        """Whether it selects the labels; a selector that isn't read counts as selecting."""
+        try:
+            asked = [("k8s", *it[1:]) for it in requirements(self.spec()["podSelector"], "")]
+            return all(holds(it, labels) for it in [*asked, ("k8s", NAMESPACE_KEY, "In", [self.namespace])])
+        except (AttributeError, KeyError, TypeError, ValueError):
+            return True
+
+    def entries(self):
+        """Its entries, each with its direction, as far as the recipes ask: prefixes and ports, as an entry of Cilium's."""
+        for section, word in (("ingress", "from"), ("egress", "to")):
+            for entry in self.spec().get(section) or []:
+                if section in self.directions() and isinstance(entry, dict):
+                    blocks = [it["ipBlock"] for it in entry.get(word) or [] if it.get("ipBlock") is not None]
+                    yield section, {f"{word}CIDRSet": blocks, "toPorts": [{"ports": list(map(port_of, entry.get("ports") or []))}]}
+
+    def directions(self):
+        """The directions in which it isolates."""
+        listed = self.spec().get("policyTypes")
+        types = listed if isinstance(listed, list) and listed else ["Ingress", *(["Egress"] if self.spec().get("egress") else [])]
+        return {section for section, word in SECTIONS.items() if word in types}
+
+    def names_cluster(self):
+        return False
+
+
+def port_of(value):
+    """A port as Cilium's are written, where 0 is every port."""
+    return {"port": str(value.get("port") or 0), "protocol": value.get("protocol") or "TCP", "endPort": value.get("endPort")}
