@@ -1,5 +1,5 @@
 //! What a slot keeps of the endpoint that it follows.
-ghost use Rattle.std.specs.Prelude.{◌≡◌, ◌⊎◌, IfOk, None, OnErr, OnOk, Some, map};
+ghost use Rattle.std.specs.Prelude.{◌≡◌, ◌≢◌, ◌⊎◌, IfOk, None, OnErr, OnOk, Some, map};
 ghost use Rattle.std.specs.Arc.{arc_value};
 ghost use Rattle.pol_delta.specs.Lists.{told};
 ghost use Rattle.pol_delta.specs.Work.{IsWorkOf, map_of};
@@ -128,19 +128,19 @@ impl Followed {
         self.join(alloc)
     }
 
-    /// Goes on to what was taken of the same endpoint later, and gives that back. Where it is of the revision that is kept,
-    /// nothing is made. The one error is want of memory: then the work is as before, or has gone on, and what is kept leads
-    /// to its map all the same.
-    pub fn go_on(&mut self, alloc: Global, taken: Taken) -> Result<Taken, Memory>
-        requires may { MayApply self.old.work (arc_value taken.filters) taken.sets taken.moves }
-        ensures same { IfOk result (λ again. again ≡ taken) }
-        ensures kept { OnOk result (self.new.kept ≡ taken.revision) }
-        ensures joined { OnOk result (self.new.behind ≡ None) }
+    /// Goes on to what was taken of the same endpoint later, and gives that back, also after the one error, which is want of
+    /// memory. Where it is of the revision that is kept, nothing is made. After the error the work is as before, or has gone
+    /// on, and what is kept leads to its map all the same.
+    pub fn try_go_on(&mut self, alloc: Global, taken: Taken) -> (Taken, Result<(), Memory>)
+        requires may { self.old.kept ≢ taken.revision → MayApply self.old.work (arc_value taken.filters) taken.sets taken.moves }
+        ensures same { result.0 ≡ taken }
+        ensures kept { OnOk result.1 (self.new.kept ≡ taken.revision) }
+        ensures joined { OnOk result.1 (self.new.behind ≡ None) }
         ensures leads { Stays self.old self.new ⊎ GoesOn (arc_value taken.filters) taken.sets taken.revision self.old self.new }
     {
         if self.kept == taken.revision {
-            self.join(alloc)?;
-            return Ok(taken);
+            let joined = self.join(alloc);
+            return (taken, joined);
         }
         let Taken {
             revision,
@@ -155,20 +155,37 @@ impl Followed {
             sets,
             moves,
         };
-        self.go_by(alloc, &changes, revision)?;
+        let went = self.go_by(alloc, &changes, revision);
         let Changes {
             filters,
             sets,
             moves,
         } = changes;
-        Ok(Taken {
+        let taken = Taken {
             revision,
             endpoint,
             filters,
             sets,
             moves,
             addresses,
-        })
+        };
+        (taken, went)
+    }
+
+    /// Goes on to what was taken of the same endpoint later, and gives that back. The one error is want of memory: then the
+    /// work is as before, or has gone on, and what is kept leads to its map all the same.
+    pub fn go_on(&mut self, alloc: Global, taken: Taken) -> Result<Taken, Memory>
+        requires may { MayApply self.old.work (arc_value taken.filters) taken.sets taken.moves }
+        ensures same { IfOk result (λ again. again ≡ taken) }
+        ensures kept { OnOk result (self.new.kept ≡ taken.revision) }
+        ensures joined { OnOk result (self.new.behind ≡ None) }
+        ensures leads { Stays self.old self.new ⊎ GoesOn (arc_value taken.filters) taken.sets taken.revision self.old self.new }
+    {
+        let (taken, went) = self.try_go_on(alloc, taken);
+        match went {
+            Ok(()) => Ok(taken),
+            Err(_) => Err(Memory),
+        }
     }
 
     /// The map was published: no change leads on from it. It takes no memory.
