@@ -1,0 +1,15 @@
+pub mod Choices
+pub mod Counting
+pub mod AtHistory
+pub mod Unlimited
+pub mod RowsKept
+pub mod Begun
+pub mod Looking
+pub mod Committing
+pub mod Kept
+pub mod Taking
+pub mod Tables
+pub mod Reporting
+pub mod Works
+pub mod Changed
+pub mod Finishing

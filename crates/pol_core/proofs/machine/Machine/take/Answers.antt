@@ -1,0 +1,31 @@
+use Rattle.std.proofs.Common.{subst}
+use Rattle.pol_history.specs.declared.machine.Event.TheVariants as step
+use Rattle.pol_history.specs.Machine.{Machine, endpoint_in}
+use Rattle.pol_repo.specs.Repository.{state_in}
+use Rattle.pol_core.specs.Parts.{by_slot}
+use Rattle.pol_core.specs.Stands.{Kept, Stands, StepsTo, Stored, kept_of, options_in, options_of}
+use Rattle.pol_core.proofs.Begun.{stands_after}
+use Rattle.pol_core.proofs.Taking.{since_within, take_steps}
+use Rattle.pol_core.proofs.machine.Machine.take.Goals as goal
+
+pub take-requires-clause-kept : goal.take-requires-clause-kept
+take-requires-clause-kept c =
+    let i = c.self.inside in
+    let k : Kept = kept_of (record { limit = i.limit; repo = i.repo; rows = i.rows.entries; takes = i.takes.entries }) in
+    since_within k c.self.invariant.machine c.self.invariant.stands (endpoint_in c.args.slot (state_in i.repo).endpoints)
+
+pub invariant_of-self : goal.invariant_of-self
+invariant_of-self c =
+    let i = c.self.inside in
+    let k : Kept = kept_of (record { limit = i.limit; repo = i.repo; rows = i.rows.entries; takes = i.takes.entries }) in
+    stands_after (options_of k) c.self.invariant.machine (step.Take c.args.slot)
+    (kept_of (record { limit = i.limit; repo = i.repo; rows = i.rows.entries; takes = c.take.new.takes.entries })) c.take.result
+    (take_steps k c.self.invariant.machine c.self.invariant.stands c.args.slot (by_slot c.take.new.takes) c.take.result c.take.ensures)
+
+pub returns-clause-step : goal.returns-clause-step
+returns-clause-step c =
+    let i = c.self.inside in
+    let k : Kept = kept_of (record { limit = i.limit; repo = i.repo; rows = i.rows.entries; takes = i.takes.entries }) in
+    let new : Stored = record { limit = i.limit; repo = i.repo; rows = i.rows.entries; takes = c.take.new.takes.entries } in
+    subst (λ (s : Stored). (m : Machine) → Stands s m → StepsTo (options_in s) m (step.Take c.args.slot) new c.take.result) c.self.view_is
+    (λ m stands. take_steps k m stands c.args.slot (by_slot c.take.new.takes) c.take.result c.take.ensures)
