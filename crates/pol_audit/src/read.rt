@@ -2,7 +2,7 @@
 ghost use Rattle.std.specs.Prelude.{◌≡◌, ◌≢◌, ◌<◌, ◌^◌, ◌++◌, ◌∷◌, [], ℕ, List, IsTrue, ◌↔◌, IfOk, IfErr, IfSome, IfNone, length};
 ghost use Rattle.pol_mapkey.specs.Entries.{Entry};
 ghost use Rattle.pol_audit.specs.Tables.{IsTable};
-ghost use Rattle.pol_audit.specs.Text.{IsCause, IsKept, line_of, text_of};
+ghost use Rattle.pol_audit.specs.Text.{AreKept, IsCause, IsKept, line_of, text_of};
 
 use crate::entries::Entries;
 use crate::error::TableError;
@@ -62,6 +62,7 @@ fn next_entry<'a>(table: &[(MapKey, Kind)], bytes: &'a [u8]) -> Option<((MapKey,
 pub fn read_table(alloc: Global, text: &[u8]) -> Result<Entries, TableError>
     requires { length text.now < 2 ^ 32 }
     ensures text { IfOk result (λ table. text_of table ≡ text.now) }
+    ensures kept { IfOk result AreKept }
     ensures cause { IfErr result (IsCause text.now) }
 {
     let mut table = Vec::new(alloc);

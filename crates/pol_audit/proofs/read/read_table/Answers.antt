@@ -32,3 +32,6 @@ loop-rest-preserved c =
       kept = one_kept table new entry inv.kept c.in-Some.ensures.kept made;
       count = omega arith;
     }
+
+pub returns-clause-kept : goal.returns-clause-kept
+returns-clause-kept c = subst AreKept (sym c.from_vec.ensures) c.loop-rest.invariant.kept
