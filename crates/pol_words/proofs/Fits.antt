@@ -1,12 +1,13 @@
 -- From what a parse by clap says to what the words give.
-use Rattle.std.proofs.Common.{◌≡◌, true, List, [], ◌∷◌, Option, None, Some, refl, sym, ap, ◌∙◌, inl, inr}
-use Rattle.std.specs.Prelude.{ok_or, IfOk, IsErrOf}
+use Rattle.std.proofs.Common.{◌≡◌, true, List, [], ◌∷◌, Option, None, Some, Result, Ok, Err, refl, sym, ap, ◌∙◌, inl, inr}
+use Rattle.std.specs.Prelude.{IfOk, IsErrOf}
 use Rattle.clap.specs.Words.{Row, Text, fault_of, is_simple, is_simple_and_free, kind_of, matches_of}
 use Rattle.clap.specs.Kinds.{HasKind, Kinds}
 use Rattle.clap.specs.declared.error.Error.{Error}
 use Rattle.clap.specs.declared.error.kind.ErrorKind.TheVariants as kind
 use Rattle.clap.proofs.OnLiterals.{clap_on_literals}
 use Rattle.pol_words.specs.declared.Words.{Words}
+use Rattle.pol_words.specs.declared.WordsError.{WordsError}
 use Rattle.pol_words.specs.declared.WordsError.TheVariants.{Misfit}
 use Rattle.pol_words.specs.Given.{words_given, words_in, words_without}
 use Rattle.pol_words.specs.Grammar.{grammar}
@@ -39,11 +40,10 @@ pub misfitting : (words : List Text) (error : Error) → HasKind (fault_of gramm
     → words_given words ≡ None
 misfitting words error has other = refused (fault_of grammar words) words error has other
 
--- what is answered where there was no fault
-pub told : (w found : Option Words) → w ≡ found → IfOk (ok_or found Misfit) (λ given. w ≡ Some given)
-told w None is = tt
-told w (Some given) is = is
+-- what is answered for equal to equal
+pub told : (w v : Option Words) (r : Result Words WordsError) → w ≡ v → IfOk r (λ given. v ≡ Some given) → IfOk r (λ given. w ≡ Some given)
+told w v (Ok given) same is = same ∙ is
+told w v (Err error) same is = tt
 
-pub told_none : (w found : Option Words) → w ≡ found → IsErrOf (ok_or found Misfit) Misfit → w ≡ None
-told_none w None is misfit = is
-told_none w (Some given) is misfit = absurd (cc)
+pub told_none : (w v : Option Words) (r : Result Words WordsError) → w ≡ v → (IsErrOf r Misfit → v ≡ None) → IsErrOf r Misfit → w ≡ None
+told_none w v r same none misfit = same ∙ none misfit

@@ -1,5 +1,5 @@
 -- Which lists of words fit the command line, and what they give.
-use Rattle.std.specs.Prelude.{ℕ, Bool, true, false, if◌then◌else◌, List, [], ◌∷◌, codes, Option, None, Some, is_some, option_map, option_and_then}
+use Rattle.std.specs.Prelude.{ℕ, ◌≤◌, Bool, true, false, if◌then◌else◌, List, [], ◌∷◌, codes, Option, None, Some, is_some, option_map, option_and_then}
 use Rattle.std.specs.Str.{bytes_eq}
 use Rattle.std.specs.Str.Parse.{digits_value, without_leading_plus}
 use Rattle.clap.specs.Words.{Row, Text, first_of, fault_of, matches_of}
@@ -9,6 +9,8 @@ use Rattle.pol_model.specs.declared.options.Mode.{Mode}
 use Rattle.pol_model.specs.declared.options.Mode.TheVariants.{Default, Always, Never}
 use Rattle.pol_words.specs.declared.TheConstants.{MAP_MAX}
 use Rattle.pol_words.specs.declared.Words.{Words}
+use Rattle.pol_words.specs.declared.task.Task.{Task}
+use Rattle.pol_words.specs.declared.task.Task.TheVariants.{Play, Generate, Map, Audit}
 use Rattle.pol_words.specs.Grammar.{grammar}
 
 -- the number that a text writes, where it is from the least to the greatest
@@ -36,6 +38,11 @@ abbrev pub if_given : {A : Type 0} → (Text → Option A) → Option Text → O
 if_given read None = Some None
 if_given read (Some text) = option_map Some (read text)
 
+-- whether an option without a value is given
+abbrev pub is_set : Option Text → Bool
+is_set None = false
+is_set (Some text) = bytes_eq text (codes "true")
+
 -- ---- what the option of a name says
 
 abbrev pub workers_in : List Row → Option ℕ
@@ -50,18 +57,44 @@ localhost_in rows = option_and_then localhost_named (first_of (codes "allow-loca
 abbrev pub generate_in : List Row → Option (Option ℕ)
 generate_in rows = if_given (number_in 1 10000) (first_of (codes "generate") rows)
 
+abbrev pub map_in : List Row → Option Text
+map_in rows = first_of (codes "map") rows
+
+abbrev pub audit_in : List Row → Bool
+audit_in rows = is_set (first_of (codes "audit") rows)
+
+-- ---- what is to be done
+
+-- a script is played, unless one of the three others is asked for, and no two of them may be
+abbrev pub task_of : Option ℕ → Option Text → Bool → Option Task
+task_of None None false = Some Play
+task_of (Some rounds) None false = Some (Generate rounds)
+task_of None (Some name) false = Some (Map name)
+task_of None None true = Some Audit
+task_of _ _ _ = None
+
+abbrev pub task_in : List Row → Option Task
+task_in rows = option_and_then (λ rounds. task_of rounds (map_in rows) (audit_in rows)) (generate_in rows)
+
+-- a script that is to be generated has 1 to 10,000 rounds
+abbrev pub IsInRange : Task → Type 0
+IsInRange Play = Unit {0}
+IsInRange (Generate rounds) = (1 ≤ rounds) × (rounds ≤ 10000)
+IsInRange (Map name) = Unit {0}
+IsInRange Audit = Unit {0}
+
 -- ---- all of them
 
-abbrev pub words_of : Option ℕ → Option Mode → Option Bool → Option (Option ℕ) → Option Words
-words_of (Some workers) (Some mode) (Some localhost) (Some generate) = Some (record {
+abbrev pub words_of : Option ℕ → Option Mode → Option Bool → Option Task → Option Words
+words_of (Some workers) (Some mode) (Some localhost) (Some task) = Some (record {
   options = record { mode = mode; localhost = localhost; map_max = Some MAP_MAX };
   workers = workers;
-  generate = generate;
+  task = task;
 })
 words_of _ _ _ _ = None
 
 abbrev pub words_in : List Row → Option Words
-words_in rows = words_of (workers_in rows) (mode_in rows) (localhost_in rows) (generate_in rows)
+words_in rows = words_of (workers_in rows) (mode_in rows) (localhost_in rows) (task_in rows)
 
 abbrev pub words_without : Kinds → List Text → Option Words
 words_without [] words = words_in (matches_of grammar words)

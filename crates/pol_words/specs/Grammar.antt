@@ -1,7 +1,8 @@
--- The command line, as clap reads it: four options, each once at most, and no other word.
+-- The command line, as clap reads it: six options, each once at most, and no other word.
 use Rattle.std.specs.Prelude.{ℕ, true, [], ◌∷◌, codes, Some}
 use Rattle.clap.specs.Words.{App, Rule, Text, new_app, new_rule, with_rule}
 use Rattle.clap.specs.Simple.{on_top}
+use Rattle.clap.specs.declared.builder.action.ArgAction.TheVariants as action
 use Rattle.clap.specs.declared.builder.value_parser.ValueParser.TheVariants as parser
 
 -- `--NAME` with a text
@@ -11,6 +12,10 @@ option name = record (new_rule name) { long = Some name }
 -- `--NAME` with a whole number, from the least to the greatest
 abbrev pub number : Text → ℕ → ℕ → Rule
 number name least greatest = record (option name) { parser = Some (parser.Unsigned least greatest) }
+
+-- `--NAME` without a value
+abbrev pub flag : Text → Rule
+flag name = record (option name) { action = Some action.SetTrue }
 
 -- what the option has where it isn't given
 abbrev pub or_default : Text → Rule → Rule
@@ -24,7 +29,11 @@ abbrev pub grammar : App
 grammar = with_rule
     (with_rule
     (with_rule
+    (with_rule
+    (with_rule
     (with_rule no_options (or_default (codes "2") (number (codes "workers") 0 8)))
     (or_default (codes "default") (option (codes "enable-policy"))))
     (or_default (codes "always") (option (codes "allow-localhost"))))
-    (number (codes "generate") 1 10000)
+    (number (codes "generate") 1 10000))
+    (option (codes "map")))
+    (flag (codes "audit"))

@@ -6,30 +6,34 @@
 
 ghost use Rattle.std.specs.Prelude.{◌≡◌, ◌≤◌, false, map, string_bytes, option_map, None, Some, IfSome, IfOk, IsErrOf};
 ghost use Rattle.clap.specs.Words.{app_of, first_of, found_of, rows_of, rule_of};
-ghost use Rattle.pol_words.specs.Grammar.{option, number, or_default, no_options, grammar};
-ghost use Rattle.pol_words.specs.Given.{number_in, mode_named, localhost_named, workers_in, mode_in, localhost_in, generate_in, words_of, words_in, words_given};
+ghost use Rattle.pol_words.specs.Grammar.{option, number, flag, or_default, no_options, grammar};
+ghost use Rattle.pol_words.specs.Given.{IsInRange, number_in, mode_named, localhost_named, workers_in, mode_in, localhost_in, words_of, words_in, words_given};
 
 use clap::builder::ValueParser;
 use clap::error::ErrorKind;
-use clap::{Arg, ArgMatches, Command};
+use clap::{Arg, ArgAction, ArgMatches, Command};
 use pol_data::Memory;
 use pol_model::{Mode, Options};
 use std::alloc::Global;
 
 pub mod laws;
+mod task;
+
+pub use task::Task;
+use task::task_in;
 
 /// The most entries of a policy map that is published (Cilium, `bpf-policy-map-max`).
 pub const MAP_MAX: u32 = 16_384;
 
 /// What the words of a command line say ('profile').
-#[derive(Clone, Copy, Debug, PartialEq, Eq)]
+#[derive(Debug, Drop, PartialEq, Eq)]
 pub struct Words {
     /// The options of the run. Maps of more than `MAP_MAX` entries aren't published.
     pub options: Options,
     /// How many workers, 0 to 8.
     pub workers: u64,
-    /// The number of the script to generate, 1 to 10,000; `None`: the script is read.
-    pub generate: Option<u32>,
+    /// What is to be done.
+    pub task: Task,
 }
 
 /// Why words give nothing.
@@ -59,6 +63,14 @@ fn number<'a>(alloc: Global, name: &'a str, least: u64, greatest: u64) -> Arg<'a
     option(alloc, name).value_parser(ValueParser::unsigned(least, greatest))
 }
 
+// An option without a value.
+fn flag<'a>(alloc: Global, name: &'a str) -> Arg<'a>
+    ensures rule { rule_of result ≡ flag name.entry.now }
+    ensures local { result.global ≡ false }
+{
+    option(alloc, name).action(ArgAction::SetTrue)
+}
+
 fn or_default<'a>(arg: Arg<'a>, text: &'a str) -> Arg<'a>
     ensures rule { rule_of result ≡ or_default text.entry.now (rule_of arg.entry) }
     ensures local { result.global ≡ arg.entry.global }
@@ -73,7 +85,7 @@ fn no_options<'a>(alloc: Global) -> Command<'a>
     Command::new(alloc, "policyd").no_binary_name(true)
 }
 
-// The command: four options, each once at most.
+// The command: six options, each once at most.
 fn command<'a>(alloc: Global) -> Result<Command<'a>, Memory>
     ensures { IfOk result (λ command. app_of command ≡ grammar) }
 {
@@ -81,11 +93,15 @@ fn command<'a>(alloc: Global) -> Result<Command<'a>, Memory>
     let mode = or_default(option(alloc, "enable-policy"), "default");
     let localhost = or_default(option(alloc, "allow-localhost"), "always");
     let generate = number(alloc, "generate", 1, 10000);
+    let map = option(alloc, "map");
+    let audit = flag(alloc, "audit");
     no_options(alloc)
         .arg(workers)?
         .arg(mode)?
         .arg(localhost)?
-        .arg(generate)
+        .arg(generate)?
+        .arg(map)?
+        .arg(audit)
 }
 
 fn number_in(text: &str, least: u64, greatest: u64) -> Option<u64>
@@ -101,16 +117,6 @@ fn number_in(text: &str, least: u64, greatest: u64) -> Option<u64>
             }
         }
         Err(_) => None,
-    }
-}
-
-fn script_number(text: &str) -> Option<u32>
-    ensures number { result ≡ number_in 1 10000 text.now }
-    ensures range { IfSome result (λ n. (1 ≤ n) × (n ≤ 10000)) }
-{
-    match number_in(text, 1, 10000) {
-        None => None,
-        Some(number) => Some(number as u32),
     }
 }
 
@@ -170,73 +176,78 @@ fn localhost_in(matches: &ArgMatches) -> Option<bool>
     }
 }
 
-// The number of a script, which may be left out.
-fn generate_in(matches: &ArgMatches) -> Option<Option<u32>>
-    ensures given { result ≡ generate_in (rows_of (found_of matches.now)) }
-    ensures range { IfSome result (λ given. IfSome given (λ n. (1 ≤ n) × (n ≤ 10000))) }
-{
-    match text_in(matches, "generate") {
-        None => Some(None),
-        Some(text) => match script_number(text) {
-            None => None,
-            Some(number) => Some(Some(number)),
-        },
-    }
-}
-
 fn words_of(
     workers: Option<u64>,
     mode: Option<Mode>,
     localhost: Option<bool>,
-    generate: Option<Option<u32>>,
+    task: Option<Task>,
 ) -> Option<Words>
-    ensures words { result ≡ words_of workers mode localhost generate }
+    ensures words { result ≡ words_of workers mode localhost task }
     ensures limited { IfSome result (λ given. given.options.map_max ≡ Some MAP_MAX) }
     ensures workers { IfSome result (λ given. Some given.workers ≡ workers) }
-    ensures generate { IfSome result (λ given. Some given.generate ≡ generate) }
+    ensures task { IfSome result (λ given. Some given.task ≡ task) }
 {
-    match (workers, mode, localhost, generate) {
-        (Some(workers), Some(mode), Some(localhost), Some(generate)) => Some(Words {
-            options: Options {
-                mode,
-                localhost,
-                map_max: Some(MAP_MAX),
-            },
-            workers,
-            generate,
-        }),
+    match (workers, mode, localhost) {
+        (Some(workers), Some(mode), Some(localhost)) => match task {
+            None => None,
+            Some(task) => Some(Words {
+                options: Options {
+                    mode,
+                    localhost,
+                    map_max: Some(MAP_MAX),
+                },
+                workers,
+                task,
+            }),
+        },
         _ => None,
     }
 }
 
-fn words_in(matches: &ArgMatches) -> Option<Words>
-    ensures given { result ≡ words_in (rows_of (found_of matches.now)) }
-    ensures limited { IfSome result (λ given. given.options.map_max ≡ Some MAP_MAX) }
-    ensures workers { IfSome result (λ given. given.workers ≤ 8) }
-    ensures rounds { IfSome result (λ given. IfSome given.generate (λ n. (1 ≤ n) × (n ≤ 10000))) }
+fn words_in(alloc: Global, matches: &ArgMatches) -> Result<Option<Words>, Memory>
+    ensures given { IfOk result (λ found. found ≡ words_in (rows_of (found_of matches.now))) }
+    ensures limited { IfOk result (λ found. IfSome found (λ given. given.options.map_max ≡ Some MAP_MAX)) }
+    ensures workers { IfOk result (λ found. IfSome found (λ given. given.workers ≤ 8)) }
+    ensures rounds { IfOk result (λ found. IfSome found (λ given. IsInRange given.task)) }
 {
     let workers = workers_in(matches);
-    let generate = generate_in(matches);
-    words_of(workers, mode_in(matches), localhost_in(matches), generate)
+    let task = task_in(alloc, matches)?;
+    Ok(words_of(workers, mode_in(matches), localhost_in(matches), task))
+}
+
+// What the matches give, or that they give nothing.
+fn words_found(alloc: Global, matches: &ArgMatches) -> Result<Words, WordsError>
+    ensures given { IfOk result (λ given. words_in (rows_of (found_of matches.now)) ≡ Some given) }
+    ensures misfit { IsErrOf result WordsError.Misfit → words_in (rows_of (found_of matches.now)) ≡ None }
+    ensures limited { IfOk result (λ given. given.options.map_max ≡ Some MAP_MAX) }
+    ensures workers { IfOk result (λ given. given.workers ≤ 8) }
+    ensures rounds { IfOk result (λ given. IsInRange given.task) }
+{
+    match words_in(alloc, matches) {
+        Ok(Some(given)) => Ok(given),
+        Ok(None) => Err(WordsError::Misfit),
+        Err(Memory) => Err(WordsError::Memory),
+    }
 }
 
 /// What the words behind the program's name give. `Misfit` comes exactly where they don't fit the command:
 /// `[--workers 0..8] [--enable-policy default|always|never] [--allow-localhost always|policy]
-/// [--generate 1..10000]`, with both ends of each range. The defaults are 2, `default`, `always` and no script
-/// to generate ('profile').
+/// [--generate 1..10000] [--map NAME] [--audit]`, with both ends of each range, or more than one of the last three stands
+/// among them. The defaults are 2, `default` and `always`; where none of the last three stands there, a script is to be
+/// played ('profile').
 pub fn read_words(alloc: Global, words: &[String]) -> Result<Words, WordsError>
     ensures given { IfOk result (λ given. words_given (map string_bytes words.now) ≡ Some given) }
     ensures misfit { IsErrOf result WordsError.Misfit → words_given (map string_bytes words.now) ≡ None }
     ensures limited { IfOk result (λ given. given.options.map_max ≡ Some MAP_MAX) }
     ensures workers { IfOk result (λ given. given.workers ≤ 8) }
-    ensures rounds { IfOk result (λ given. IfSome given.generate (λ n. (1 ≤ n) × (n ≤ 10000))) }
+    ensures rounds { IfOk result (λ given. IsInRange given.task) }
 {
     let command = match command(alloc) {
         Ok(command) => command,
         Err(Memory) => return Err(WordsError::Memory),
     };
     match command.try_get_matches_from(words) {
-        Ok(matches) => words_in(&matches).ok_or(WordsError::Misfit),
+        Ok(matches) => words_found(alloc, &matches),
         Err(error) => match error.kind() {
             ErrorKind::OutOfMemory => Err(WordsError::Memory),
             _ => Err(WordsError::Misfit),

@@ -1,1 +1,2 @@
 pub mod ScriptRun
+pub mod Tables

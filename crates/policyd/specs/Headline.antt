@@ -1,13 +1,17 @@
 -- What the program promises of what it wrote, and how it ended.
-use Rattle.std.specs.Prelude.{◌≡◌, ℕ, List, length, Option, Some}
+use Rattle.std.specs.Prelude.{◌≡◌, ℕ, Bool, not, if◌then◌else◌, List, length, Option, Some}
 use Rattle.std.specs.Io.KnownBytes.{Appends}
 use Rattle.std.specs.List.{zip}
 use Rattle.pol_base.specs.Bytes.{AppendsPart}
 use Rattle.pol_answer.specs.Text.{texts_of}
 use Rattle.pol_answer.specs.declared.answer.Answer.{Answer}
+use Rattle.pol_compare.specs.declared.finding.Finding.{Finding}
+use Rattle.pol_compare.specs.Finding.{IsFinding, is_same}
+use Rattle.pol_compare.specs.Text.{finding_text}
 use Rattle.pol_history.specs.declared.event.HistoryEvent.{HistoryEvent}
 use Rattle.pol_generated.specs.HistoryOfRounds.{IsHistoryOfRounds}
 use Rattle.pol_history.specs.Legal.{IsLegal}
+use Rattle.pol_maps.specs.AtEnd.{is_live, map_text}
 use Rattle.pol_model.specs.declared.options.Options.{Options}
 use Rattle.pol_placed.specs.HistoryOfRun.{IsHistoryOf}
 use Rattle.pol_script.specs.Lines.{lines_of}
@@ -56,3 +60,29 @@ pub record LeavesRounds (options : Options) (rounds : ℕ) (last : Option (List 
   pub seen : last ≡ Some history
   pub legal : IsLegal options history
   pub holds : IsHistoryOfRounds options rounds history
+
+-- What was written is the map of the endpoint of the name at the end of the script, and the status is 0; or that none of the
+-- name is live there, and it is 1.
+pub record WritesMap (options : Options) (name : List ℕ) (old new : Option (List ℕ)) (script : List ℕ) (status : ℕ) : Type 0 where
+  pub written : Appends old new (map_text options name script)
+  pub marked : status ≡ (if is_live options name script then 0 else 1)
+
+-- the line tells what is found of the text, and is marked where it isn't that two tables say the same
+pub record TellsFinding (text line : List ℕ) (marked : Bool) : Type 0 where
+  pub finding : Finding
+  pub is_finding : IsFinding text finding
+  pub told : line ≡ finding_text finding
+  pub mark : marked ≡ not (is_same finding)
+
+-- what was written tells what is found of the two tables of the text, and the status is 0 where they say the same, else 1
+pub record WritesFinding (old new : Option (List ℕ)) (text : List ℕ) (status : ℕ) : Type 0 where
+  pub finding : Finding
+  pub is_finding : IsFinding text finding
+  pub written : Appends old new (finding_text finding)
+  pub marked : status ≡ (if is_same finding then 0 else 1)
+
+-- what was written is the first part of that
+pub record WritesPartOfFinding (old new : Option (List ℕ)) (text : List ℕ) : Type 0 where
+  pub finding : Finding
+  pub is_finding : IsFinding text finding
+  pub written : AppendsPart old new (finding_text finding)

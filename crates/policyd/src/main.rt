@@ -1,8 +1,8 @@
 //! `policyd` reads a script from standard input, one JSON object a line, and writes one answer a line to
 //! standard output.
 //!
-//! `play` does all of it over any source and sink: `source` reads a script and answers it, and `generate` writes the
-//! summary of one that is made. The lines are played by `pol_lines`. What `play` promises is stated in its contract,
+//! `play` does all of it over any source and sink: `source` reads a script and answers it, `generate` writes the summary of
+//! one that is made, `map` the map that a script leaves an endpoint with, and `audit` how two tables differ. The lines are played by `pol_lines`. What `play` promises is stated in its contract,
 //! over the definitions of `pol_run`.
 #![tactic(auto)]
 
@@ -10,15 +10,18 @@ ghost use Rattle.std.specs.Prelude.{◌≡◌};
 ghost use Rattle.std.specs.IoError.{error_kind};
 ghost use Rattle.policyd.specs.Ends.{status_without_words};
 
+mod audit;
 #[cfg(test)]
 mod gates;
 mod generate;
+mod map;
 mod play;
 mod played;
 mod source;
 mod status;
 #[cfg(test)]
 mod tests;
+mod text;
 
 use play::play;
 use pol_base::{IoSink, IoSource};

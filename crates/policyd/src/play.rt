@@ -4,25 +4,31 @@ ghost use Rattle.std.specs.Io.KnownBytes.{Appends, IsAtEnd, Keeps};
 ghost use Rattle.pol_base.specs.Faults.{Rose, DidNotRise};
 ghost use Rattle.pol_base.specs.Bytes.{AppendsPart, ConsumesSome};
 ghost use Rattle.pol_words.specs.Given.{words_given};
+ghost use Rattle.pol_maps.specs.AtEnd.{map_text};
 ghost use Rattle.pol_summary.specs.Summary.{summary};
 ghost use Rattle.policyd.specs.Script.{is_too_long, fits_limits};
-ghost use Rattle.policyd.specs.Headline.{LeavesHistory, LeavesRounds, WritesRun, WritesPartOfRun};
+ghost use Rattle.policyd.specs.Headline.{LeavesHistory, LeavesRounds, WritesFinding, WritesMap, WritesPartOfFinding, WritesPartOfRun, WritesRun};
 ghost use Rattle.policyd.specs.Ends.{is_answered, has_read_all, is_silent, status_number};
-ghost use Rattle.policyd.specs.Task.{generates, reads_with};
+ghost use Rattle.policyd.specs.Task.{audits, generates, maps, reads_source, reads_with, without_limit};
 
+use crate::audit::play_audit;
 use crate::generate::play_generated;
+use crate::map::play_map;
 use crate::played::Played;
 use crate::source::play_source;
 use crate::status::Status;
 use pol_base::{Sink, Source};
+use pol_model::Options;
 use pol_pool::{Gate, OpenGate};
-use pol_words::{WordsError, read_words};
+use pol_words::{Task, Words, WordsError, read_words};
 use std::alloc::Global;
 use std::sync::Wait;
 use std::thread::Threads;
 
 /// Reads a script from the source, answers its lines, and then writes all answers to the sink. With `--generate`
-/// it plays a generated script instead, and writes its summary; the source isn't read then.
+/// it plays a generated script instead, and writes its summary; the source isn't read then. With `--map NAME` the requests
+/// of the script are committed in their order, and the map of the endpoint of that name at the end is written as a table.
+/// With `--audit` two tables are read in place of a script, and compared by what they say.
 ///
 /// Words that don't fit are status `Usage`, and nothing is read then. The whole source is read before a line is
 /// answered (`Read`, `TooLong`), and nothing is written before each line is (`Write`). Want of memory may come at
@@ -43,12 +49,12 @@ pub fn play<R: Threads + Wait + Sync, S: Source, K: Sink>(
     ensures not_read { IsTrue (is_some (generates (map string_bytes words.now))) → source.new ≡ source.old }
     ensures read { result.status ≡ Status.Read → Rose (S.faults source.old) (S.faults source.new) }
     ensures write { result.status ≡ Status.Write → Rose (K.faults sink.old) (K.faults sink.new) }
-    ensures too_long { result.status ≡ Status.TooLong → IsTrue (is_some (reads_with (map string_bytes words.now)))
+    ensures too_long { result.status ≡ Status.TooLong → IsTrue (reads_source (map string_bytes words.now))
         × IfSome (S.left source.old) (λ script. IsTrue (is_too_long script)) }
-    ensures within { IsTrue (has_read_all result.status) → IsTrue (is_some (reads_with (map string_bytes words.now)))
+    ensures within { IsTrue (has_read_all result.status) → IsTrue (reads_source (map string_bytes words.now))
         → IfSome (S.left source.old) (λ script. IsTrue (fits_limits script)) }
     ensures taken { ConsumesSome (S.left source.old) (S.left source.new) }
-    ensures at_end { IsTrue (has_read_all result.status) → IsTrue (is_some (reads_with (map string_bytes words.now)))
+    ensures at_end { IsTrue (has_read_all result.status) → IsTrue (reads_source (map string_bytes words.now))
         → IsAtEnd (S.left source.new) }
     ensures silent { IsTrue (is_silent result.status) → Keeps (K.written sink.old) (K.written sink.new) }
     ensures run { IsTrue (is_answered result.status) → IfSome (reads_with (map string_bytes words.now)) (λ options.
@@ -68,7 +74,21 @@ pub fn play<R: Threads + Wait + Sync, S: Source, K: Sink>(
         × Appends (K.written sink.old) (K.written sink.new) (summary task.options task.rounds)) }
     ensures summary_part { result.status ≡ Status.Write → IfSome (generates (map string_bytes words.now)) (λ task.
         AppendsPart (K.written sink.old) (K.written sink.new) (summary task.options task.rounds)) }
-    ensures complete { IsTrue (is_some (reads_with (map string_bytes words.now)))
+    ensures map { IsTrue (is_answered result.status) → IfSome (maps (map string_bytes words.now)) (λ task.
+        IfSome (S.left source.old) (λ script.
+        WritesMap task.options task.name (K.written sink.old) (K.written sink.new) script (status_number result.status))) }
+    ensures map_part { result.status ≡ Status.Write → IfSome (maps (map string_bytes words.now)) (λ task.
+        IfSome (S.left source.old) (λ script.
+        AppendsPart (K.written sink.old) (K.written sink.new) (map_text task.options task.name script))) }
+    ensures audit { IsTrue (is_answered result.status) → IsTrue (audits (map string_bytes words.now))
+        → IfSome (S.left source.old) (λ text.
+        WritesFinding (K.written sink.old) (K.written sink.new) text (status_number result.status)) }
+    ensures audit_part { result.status ≡ Status.Write → IsTrue (audits (map string_bytes words.now))
+        → IfSome (S.left source.old) (λ text.
+        WritesPartOfFinding (K.written sink.old) (K.written sink.new) text) }
+    ensures no_last_map { IsTrue (is_some (maps (map string_bytes words.now))) → result.last ≡ None }
+    ensures no_last_audit { IsTrue (audits (map string_bytes words.now)) → result.last ≡ None }
+    ensures complete { IsTrue (reads_source (map string_bytes words.now))
         → DidNotRise (S.faults source.old) (S.faults source.new)
         → DidNotRise (K.faults sink.old) (K.faults sink.new)
         → IsSomeAnd (S.left source.old) (λ script. IsTrue (fits_limits script))
@@ -96,12 +116,12 @@ pub fn play_gated<R: Threads + Wait + Sync, S: Source, K: Sink, G: Gate + Sync>(
     ensures not_read { IsTrue (is_some (generates (map string_bytes words.now))) → source.new ≡ source.old }
     ensures read { result.status ≡ Status.Read → Rose (S.faults source.old) (S.faults source.new) }
     ensures write { result.status ≡ Status.Write → Rose (K.faults sink.old) (K.faults sink.new) }
-    ensures too_long { result.status ≡ Status.TooLong → IsTrue (is_some (reads_with (map string_bytes words.now)))
+    ensures too_long { result.status ≡ Status.TooLong → IsTrue (reads_source (map string_bytes words.now))
         × IfSome (S.left source.old) (λ script. IsTrue (is_too_long script)) }
-    ensures within { IsTrue (has_read_all result.status) → IsTrue (is_some (reads_with (map string_bytes words.now)))
+    ensures within { IsTrue (has_read_all result.status) → IsTrue (reads_source (map string_bytes words.now))
         → IfSome (S.left source.old) (λ script. IsTrue (fits_limits script)) }
     ensures taken { ConsumesSome (S.left source.old) (S.left source.new) }
-    ensures at_end { IsTrue (has_read_all result.status) → IsTrue (is_some (reads_with (map string_bytes words.now)))
+    ensures at_end { IsTrue (has_read_all result.status) → IsTrue (reads_source (map string_bytes words.now))
         → IsAtEnd (S.left source.new) }
     ensures silent { IsTrue (is_silent result.status) → Keeps (K.written sink.old) (K.written sink.new) }
     ensures run { IsTrue (is_answered result.status) → IfSome (reads_with (map string_bytes words.now)) (λ options.
@@ -121,7 +141,21 @@ pub fn play_gated<R: Threads + Wait + Sync, S: Source, K: Sink, G: Gate + Sync>(
         × Appends (K.written sink.old) (K.written sink.new) (summary task.options task.rounds)) }
     ensures summary_part { result.status ≡ Status.Write → IfSome (generates (map string_bytes words.now)) (λ task.
         AppendsPart (K.written sink.old) (K.written sink.new) (summary task.options task.rounds)) }
-    ensures complete { IsTrue (is_some (reads_with (map string_bytes words.now)))
+    ensures map { IsTrue (is_answered result.status) → IfSome (maps (map string_bytes words.now)) (λ task.
+        IfSome (S.left source.old) (λ script.
+        WritesMap task.options task.name (K.written sink.old) (K.written sink.new) script (status_number result.status))) }
+    ensures map_part { result.status ≡ Status.Write → IfSome (maps (map string_bytes words.now)) (λ task.
+        IfSome (S.left source.old) (λ script.
+        AppendsPart (K.written sink.old) (K.written sink.new) (map_text task.options task.name script))) }
+    ensures audit { IsTrue (is_answered result.status) → IsTrue (audits (map string_bytes words.now))
+        → IfSome (S.left source.old) (λ text.
+        WritesFinding (K.written sink.old) (K.written sink.new) text (status_number result.status)) }
+    ensures audit_part { result.status ≡ Status.Write → IsTrue (audits (map string_bytes words.now))
+        → IfSome (S.left source.old) (λ text.
+        WritesPartOfFinding (K.written sink.old) (K.written sink.new) text) }
+    ensures no_last_map { IsTrue (is_some (maps (map string_bytes words.now))) → result.last ≡ None }
+    ensures no_last_audit { IsTrue (audits (map string_bytes words.now)) → result.last ≡ None }
+    ensures complete { IsTrue (reads_source (map string_bytes words.now))
         → DidNotRise (S.faults source.old) (S.faults source.new)
         → DidNotRise (K.faults sink.old) (K.faults sink.new)
         → IsSomeAnd (S.left source.old) (λ script. IsTrue (fits_limits script))
@@ -133,25 +167,34 @@ pub fn play_gated<R: Threads + Wait + Sync, S: Source, K: Sink, G: Gate + Sync>(
     match read_words(alloc, words) {
         Err(WordsError::Misfit) => Played::only(Status::Usage),
         Err(WordsError::Memory) => Played::only(Status::Memory),
-        Ok(given) => match given.generate {
-            None => play_source(
-                rt,
+        Ok(
+            Words {
+                options,
+                workers,
+                task,
+            },
+        ) => match task {
+            Task::Play => play_source(rt, alloc, options, workers as u32, gate, source, sink),
+            Task::Generate(n) => play_generated(rt, alloc, options, workers as u32, gate, n, sink),
+            Task::Map(name) => Played::only(play_map(
                 alloc,
-                given.options,
-                given.workers as u32,
-                gate,
+                without_limit(options),
+                name.as_str(),
                 source,
                 sink,
-            ),
-            Some(n) => play_generated(
-                rt,
-                alloc,
-                given.options,
-                given.workers as u32,
-                gate,
-                n,
-                sink,
-            ),
+            )),
+            Task::Audit => Played::only(play_audit(alloc, source, sink)),
         },
+    }
+}
+
+// A map that is written has no limit.
+fn without_limit(options: Options) -> Options
+    ensures { result ≡ without_limit options }
+{
+    Options {
+        mode: options.mode,
+        localhost: options.localhost,
+        map_max: None,
     }
 }

@@ -69,8 +69,8 @@ pub fn play_source<R: Threads + Wait + Sync, S: Source, K: Sink, G: Gate + Sync>
     }
 }
 
-// The whole script, within the limits.
-fn script_of<S: Source>(alloc: Global, source: &mut S) -> Result<Vec<u8>, Status>
+/// All that the source gives, within the limits.
+pub(crate) fn script_of<S: Source>(alloc: Global, source: &mut S) -> Result<Vec<u8>, Status>
     ensures no_usage { IsErrOf result Status.Usage → ⊥ }
     ensures read { IsErrOf result Status.Read → Rose (S.faults source.old) (S.faults source.new) }
     ensures too_long { IsErrOf result Status.TooLong
@@ -179,7 +179,8 @@ fn any_marked(answers: &[Answer]) -> bool
     answers.iter().any(|answer| is_marked_answer(answer))
 }
 
-fn end_of(marked: bool) -> Status
+/// How a run ends whose output was written.
+pub(crate) fn end_of(marked: bool) -> Status
     ensures answered { IsTrue (is_answered result) }
     ensures status { status_number result ≡ (if marked then 1 else 0) }
 {

@@ -1,12 +1,8 @@
-use Rattle.std.proofs.Common.{◌≡◌, ◌∙◌, ap, subst, sym, map, [], Some}
-use Rattle.std.specs.Prelude.{Result, IfOk, IsErrOf}
+use Rattle.std.proofs.Common.{◌≡◌, ◌∙◌, ap, subst, map, []}
 use Rattle.std.specs.String.{string_bytes}
 use Rattle.clap.specs.Words.{App, fault_of, found_of, is_simple, is_simple_and_free, matches_of, rows_of}
 use Rattle.clap.specs.Kinds.{HasKind}
-use Rattle.pol_words.specs.declared.Words.{Words}
-use Rattle.pol_words.specs.declared.WordsError.{WordsError}
-use Rattle.pol_words.specs.declared.WordsError.TheVariants.{Misfit}
-use Rattle.pol_words.specs.Given.{words_given}
+use Rattle.pol_words.specs.Given.{words_given, words_in}
 use Rattle.pol_words.proofs.Fits.{simple, simple_and_free, fitting, misfitting, told, told_none}
 use Rattle.pol_words.proofs.read_words.Goals as goal
 
@@ -18,9 +14,8 @@ returns-in-Ok-try_get_matches_from-clause-given c =
     let none = subst (λ (app : App). fault_of app words ≡ []) is (parse.kinds (ap is_simple_and_free is ∙ simple_and_free)) in
     let rows = subst (λ (app : App). rows_of (found_of c.in-Ok-try_get_matches_from.matches) ≡ matches_of app words) is
     (parse.matches (ap is_simple is ∙ simple)).0 in
-    let given = fitting words (rows_of (found_of c.in-Ok-try_get_matches_from.matches)) none rows ∙ sym c.words_in.ensures.given in
-    subst (λ (r : Result Words WordsError). IfOk r (λ found. words_given words ≡ Some found)) (sym c.ok_or.ensures.value)
-    (told (words_given words) c.words_in.result given)
+    let fits = fitting words (rows_of (found_of c.in-Ok-try_get_matches_from.matches)) none rows in
+    told (words_given words) (words_in (rows_of (found_of c.in-Ok-try_get_matches_from.matches))) c.words_found.result fits c.words_found.ensures.given
 
 pub returns-in-Ok-try_get_matches_from-clause-misfit : goal.returns-in-Ok-try_get_matches_from-clause-misfit
 returns-in-Ok-try_get_matches_from-clause-misfit c =
@@ -30,9 +25,8 @@ returns-in-Ok-try_get_matches_from-clause-misfit c =
     let none = subst (λ (app : App). fault_of app words ≡ []) is (parse.kinds (ap is_simple_and_free is ∙ simple_and_free)) in
     let rows = subst (λ (app : App). rows_of (found_of c.in-Ok-try_get_matches_from.matches) ≡ matches_of app words) is
     (parse.matches (ap is_simple is ∙ simple)).0 in
-    let given = fitting words (rows_of (found_of c.in-Ok-try_get_matches_from.matches)) none rows ∙ sym c.words_in.ensures.given in
-    λ misfit. told_none (words_given words) c.words_in.result given
-    (subst (λ (r : Result Words WordsError). IsErrOf r Misfit) c.ok_or.ensures.value misfit)
+    let fits = fitting words (rows_of (found_of c.in-Ok-try_get_matches_from.matches)) none rows in
+    told_none (words_given words) (words_in (rows_of (found_of c.in-Ok-try_get_matches_from.matches))) c.words_found.result fits c.words_found.ensures.misfit
 
 pub returns : goal.returns
 returns c =

@@ -1,0 +1,4 @@
+use Rattle.pol_compare.proofs.tables.audited.Given as goal
+
+abbrev pub ghosts-audit_over : goal.ghosts-audit_over
+ghosts-audit_over a = record { name = a.blank.name; parts = a.blank.parts }
