@@ -12,3 +12,4 @@ pub mod TakenBack
 pub mod Untried
 pub mod Judged
 pub mod Sharing
+pub mod Filed

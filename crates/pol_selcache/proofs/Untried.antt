@@ -109,7 +109,7 @@ unfolding IsStrictlySortedBy
 ascends_from_strict [] sorted = tt
 ascends_from_strict (x ∷ xs) sorted = (every-weaker (λ y. nat_cmp x y ≡ Less) (λ y. x < y) (λ y less. less_from x y less) xs sorted.0, ascends_from_strict xs sorted.1)
 
-take_next : (ns : List ℕ) (i n : ℕ) → slice_get ns i ≡ Some n → take (i + 1) ns ≡ take i ns ++ n ∷ []
+pub take_next : (ns : List ℕ) (i n : ℕ) → slice_get ns i ≡ Some n → take (i + 1) ns ≡ take i ns ++ n ∷ []
 take_next ns i n at = (let on : i + 1 ≡ suc i = omega arith in ap (λ k. take k ns) on) ∙ by ns i at
   where
     by : (ks : List ℕ) (j : ℕ) → slice_get ks j ≡ Some n → take (suc j) ks ≡ take j ks ++ n ∷ []

@@ -3,6 +3,7 @@ pub mod Held
 pub mod Plan
 pub mod Cache
 pub mod Tried
+pub mod ByHeading
 pub mod Planned
 pub mod Moving
 pub mod Told

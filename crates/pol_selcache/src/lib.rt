@@ -5,6 +5,7 @@
 #![tactic(auto)]
 
 mod add;
+mod by_heading;
 mod cache;
 mod find;
 mod ids;

@@ -6,6 +6,7 @@ ghost use Rattle.pol_changes.specs.Log.{newest};
 ghost use Rattle.pol_model.specs.Ascending.{Ascends};
 ghost use Rattle.pol_model.specs.Selects.{set_at};
 ghost use Rattle.pol_selcache.specs.Live.{AreExact, is_live, label_selectors, rows_without};
+ghost use Rattle.pol_selcache.specs.ByHeading.{IsByHeading};
 ghost use Rattle.pol_selcache.specs.Held.{steps_of};
 ghost use Rattle.pol_selcache.specs.Plan.{change_to, is_empty, changed, changes_for, plan_for};
 ghost use Rattle.pol_selcache.specs.Cache.{IsPlanFor, IsSound, MayPlan, carried, with_room};
@@ -15,6 +16,7 @@ ghost use Rattle.pol_selcache.specs.Planned.{planned_in, planned_of};
 ghost use Rattle.pol_selcache.specs.Tried.{of_numbers};
 
 use crate::SelectorCache;
+use crate::by_heading::ByHeading;
 use crate::ids::{in_both, set_of_slice};
 use crate::judge::selected_of;
 use crate::made::{Made, shared};
@@ -103,21 +105,47 @@ fn plan_one<L: Ledger>(
     }))
 }
 
+/// The same, where each number that comes or goes may stand under its headings: those alone are judged that the peer may
+/// select.
+fn plan_next<L: Ledger>(
+    alloc: Global,
+    number: u64,
+    row: &Row,
+    come: &ByHeading<'_>,
+    gone: &ByHeading<'_>,
+    identities: &Identities,
+    last: &mut Option<Made>,
+    steps: &mut Steps<L>,
+) -> Result<Option<Planned>, Memory>
+    requires come { IsByHeading identities.now come.now }
+    requires gone { IsByHeading identities.now gone.now }
+    requires moving { Moving identities.now come.now.numbers.now gone.now.numbers.now row.now.peer (arc_value row.now.set) }
+    ensures change { IfOk result (λ change. option_map planned_of change ≡ change_to (set_at (rows_without gone.now.numbers.now identities.now) row.now.peer) (live_of number row.now)) }
+    ensures cost { steps.new ≤ steps.old + steps_of row.now.peer * length come.now.numbers.now }
+{
+    let come = come.tried_for(alloc, &row.peer)?;
+    let gone = gone.tried_for(alloc, &row.peer)?;
+    let change = plan_one(alloc, number, row, &come, &gone, identities, last, steps)?;
+    Ok(change)
+}
+
 /// The same of each selector of these numbers.
 fn plan_each<L: Ledger>(
     alloc: Global,
     table: &Selectors,
     tried: &[u64],
-    come: &IdSet,
-    gone: &IdSet,
+    come: &ByHeading<'_>,
+    gone: &ByHeading<'_>,
     identities: &Identities,
     steps: &mut Steps<L>,
 ) -> Result<Vec<Planned>, Memory>
-    requires moving { AllByRecursion (λ s. Moving identities.now come.now gone.now s.peer s.set) table.now }
+    requires come { IsByHeading identities.now come.now }
+    requires gone { IsByHeading identities.now gone.now }
+    requires moving { AllByRecursion (λ s. Moving identities.now come.now.numbers.now gone.now.numbers.now s.peer s.set) table.now }
     requires live { AllByRecursion (λ n. is_live n table.now ≡ true) tried.now }
     requires ascend { Ascends tried.now }
-    ensures changes { IfOk result (λ changes. planned_in changes.items ≡ changes_for (rows_without gone.now identities.now) (of_numbers tried.now table.now)) }
-    ensures cost { steps.new ≤ steps.old + label_selectors table.now * length come.now }
+    ensures changes { IfOk result (λ changes. planned_in changes.items ≡ changes_for (rows_without gone.now.numbers.now identities.now) (of_numbers tried.now table.now)) }
+    ensures cost { steps.new ≤ steps.old + label_selectors table.now * length come.now.numbers.now }
 {
     let mut changes = Vec::with_capacity(alloc, tried.len())?;
     let mut near = 0;
@@ -125,7 +153,7 @@ fn plan_each<L: Ledger>(
     for number in tried {
         let (row, next) = table.row_near(*number, near);
         near = next;
-        let change = plan_one(
+        let change = plan_next(
             alloc, *number, row, come, gone, identities, &mut last, steps,
         )?;
         push_some(&mut changes, change)?;
@@ -133,8 +161,8 @@ fn plan_each<L: Ledger>(
     Ok(changes)
 }
 
-/// The same of each selector. Only those are tried that stand under a heading of a number that comes or goes: no other
-/// peer selects it.
+/// The same of each selector. Only those are tried that stand under a heading of a number that comes or goes, and each for
+/// those of the numbers alone that stand under its own: no other peer selects the number.
 fn plan_all<L: Ledger>(
     alloc: Global,
     table: &Selectors,
@@ -149,8 +177,10 @@ fn plan_all<L: Ledger>(
 {
     let headings = headings_of(alloc, come, gone, identities)?;
     let numbers = tried(alloc, table, &headings)?;
+    let come = ByHeading::new(alloc, come, identities)?;
+    let gone = ByHeading::new(alloc, gone, identities)?;
     let numbers = numbers.as_slice();
-    let changes = plan_each(alloc, table, numbers, come, gone, identities, steps)?;
+    let changes = plan_each(alloc, table, numbers, &come, &gone, identities, steps)?;
     Ok(changes)
 }
 

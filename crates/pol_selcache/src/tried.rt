@@ -16,7 +16,11 @@ use pol_sets::IdSet;
 use std::alloc::Global;
 
 /// Adds the headings of all peers that select the number.
-fn add_number(headings: &mut Headings, number: u32, identities: &Identities) -> Result<(), Memory>
+pub(crate) fn add_number(
+    headings: &mut Headings,
+    number: u32,
+    identities: &Identities,
+) -> Result<(), Memory>
     ensures all { OnOk result (HasAllAt identities.now headings.new number) }
     ensures kept { OnOk result (AreKept headings.old headings.new) }
 {

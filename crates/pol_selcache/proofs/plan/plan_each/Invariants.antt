@@ -7,5 +7,5 @@ use Rattle.pol_selcache.proofs.plan.plan_each.Given as goal
 
 abbrev pub invariant-loop-number : goal.invariant-loop-number
 invariant-loop-number g l =
-    (planned_in l.changes.items ≡ changes_for (rows_without l.gone l.identities) (of_numbers (take l.number-index l.tried) l.table))
-    × (l.steps ≤ l.initial.steps + label_selectors (of_numbers (take l.number-index l.tried) l.table) * length l.come)
+    (planned_in l.changes.items ≡ changes_for (rows_without l.gone.numbers.now l.identities) (of_numbers (take l.number-index l.tried) l.table))
+    × (l.steps ≤ l.initial.steps + label_selectors (of_numbers (take l.number-index l.tried) l.table) * length l.come.numbers.now)
