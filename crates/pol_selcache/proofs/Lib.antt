@@ -13,3 +13,4 @@ pub mod Untried
 pub mod Judged
 pub mod Sharing
 pub mod Filed
+pub mod Between

@@ -1,10 +1,10 @@
 -- Which numbers lists have, and that a list that ascends is fixed by them.
-use Rattle.std.proofs.Common.{◌≡◌, ℕ, ◌==◌, ◌<◌, ◌&&◌, ◌||◌, Bool, true, false, not, List, [], ◌∷◌, ◌++◌, filter, length, refl, sym, ap, ◌∙◌, subst, arith}
+use Rattle.std.proofs.Common.{◌≡◌, ℕ, ◌==◌, ◌<◌, ◌&&◌, ◌||◌, Bool, true, false, not, cond, nat_lt, List, [], ◌∷◌, ◌++◌, filter, length, refl, sym, ap, ◌∙◌, subst, arith}
 use Rattle.std.specs.List.{Contains}
 use Rattle.std.specs.List.Sorted.{IsStrictlySortedBy}
 use Rattle.std.specs.Ordering.{nat_cmp}
-use Rattle.std.specs.declared.cmp.Ordering.TheVariants.{Less}
-use Rattle.std.proofs.lemmas.Bool.{cond-true, eqb-true, eq-eqb, lt-ltb}
+use Rattle.std.specs.declared.cmp.Ordering.TheVariants.{Less, Equal, Greater}
+use Rattle.std.proofs.lemmas.Bool.{cond-true, eqb-true, eq-eqb, lt-ltb, ltb-true}
 use Rattle.std.proofs.lemmas.Cmp.{nat_cmp_total}
 use Rattle.std.proofs.lemmas.List.Folds.{list_any-append}
 use Rattle.std.proofs.lemmas.Map.Views.{any-filter_same}
@@ -18,6 +18,14 @@ use Rattle.pol_changes.specs.Ids.{has, without}
 -- ---- order
 above : (x y : ℕ) → x < y → nat_cmp x y ≡ Less
 above x y below = cond-true _ Less _ (lt-ltb x y below)
+
+pub less_is : (x y : ℕ) → nat_cmp x y ≡ Less → x < y
+less_is x y less = by (nat_lt x y) refl (x == y) less
+  where
+    by : (b : Bool) → nat_lt x y ≡ b → (e : Bool) → cond b Less (cond e Equal Greater) ≡ Less → x < y
+    by true is e less = ltb-true x y is
+    by false is true less = absurd (let wrong : ⊥ = cc in wrong)
+    by false is false less = absurd (let wrong : ⊥ = cc in wrong)
 
 pub strict_from_ascends : (xs : List ℕ) → Ascends xs → IsStrictlySortedBy nat_cmp xs
 unfolding IsStrictlySortedBy

@@ -1,10 +1,10 @@
 -- The selectors that aren't tried don't change, and those that are come in the order of their numbers.
-use Rattle.std.proofs.Common.{zero, suc, ◌≡◌, ℕ, ◌+◌, ◌*◌, ◌==◌, ◌<◌, ◌≤◌, ◌&&◌, ◌||◌, not, Bool, true, false, cond, nat_lt, List, [], ◌∷◌, ◌++◌, length, take, slice_get, Some, None, refl, sym, ap, subst, ◌∙◌, arith}
+use Rattle.std.proofs.Common.{zero, suc, ◌≡◌, ℕ, ◌+◌, ◌*◌, ◌==◌, ◌<◌, ◌≤◌, ◌&&◌, ◌||◌, not, Bool, true, false, cond, List, [], ◌∷◌, ◌++◌, length, take, slice_get, Some, None, refl, sym, ap, subst, ◌∙◌, arith}
 use Rattle.std.specs.List.{AllByRecursion, cons_option, list_any}
 use Rattle.std.specs.List.Sorted.{IsStrictlySortedBy}
 use Rattle.std.specs.Ordering.{nat_cmp}
-use Rattle.std.specs.declared.cmp.Ordering.TheVariants.{Less, Equal, Greater}
-use Rattle.std.proofs.lemmas.Bool.{cond-true, cond-false, eq-eqb, eqb-true, false_from_ne_true, ltb-true, ne_eqb, or_right}
+use Rattle.std.specs.declared.cmp.Ordering.TheVariants.{Less}
+use Rattle.std.proofs.lemmas.Bool.{cond-true, cond-false, eq-eqb, eqb-true, false_from_ne_true, ne_eqb, or_right}
 use Rattle.std.proofs.lemmas.List.Elements.{filter_map-append}
 use Rattle.std.proofs.lemmas.Option.{same_Some, slice_get-get_or}
 use Rattle.std.specs.Prelude.{slice_index}
@@ -27,7 +27,7 @@ use Rattle.pol_selcache.specs.Plan.{change_to, changes_for}
 use Rattle.pol_selcache.specs.Tried.{of_numbers}
 use Rattle.pol_selectors.proofs.LiveLists.{AllAbove, numbers}
 use Rattle.pol_selcache.proofs.Moves.{gained_is, lost_is}
-use Rattle.pol_selcache.proofs.Numbers.{has-append}
+use Rattle.pol_selcache.proofs.Numbers.{has-append, less_is}
 use Rattle.pol_selcache.proofs.Planning.{labels-cons, stands}
 use Rattle.pol_selcache.proofs.RowSets.{has-held, has-set_without}
 
@@ -93,21 +93,10 @@ module _ (rows : List IdentityRow) (come gone ns : List ℕ) (headings : List He
           rest ∙ ap (λ o. cons_option o (changes_for (rows_without gone rows) live)) (sym (stays rows come gone headings all_come all_gone s moving.0 untried))
 
 -- ---- one number after another
-less_from : (x y : ℕ) → nat_cmp x y ≡ Less → x < y
-less_from x y is = by (nat_lt x y) refl
-  where
-    by : (b : Bool) → nat_lt x y ≡ b → x < y
-    by true less = ltb-true x y less
-    by false other = absurd (let at : cond false Less (cond (x == y) Equal Greater) ≡ Less = ap (λ b. cond b Less (cond (x == y) Equal Greater)) (sym other) ∙ is in last (x == y) at)
-      where
-        last : (b : Bool) → cond b Equal Greater ≡ Less → ⊥
-        last true wrong = cc
-        last false wrong = cc
-
 pub ascends_from_strict : (xs : List ℕ) → IsStrictlySortedBy nat_cmp xs → Ascends xs
 unfolding IsStrictlySortedBy
 ascends_from_strict [] sorted = tt
-ascends_from_strict (x ∷ xs) sorted = (every-weaker (λ y. nat_cmp x y ≡ Less) (λ y. x < y) (λ y less. less_from x y less) xs sorted.0, ascends_from_strict xs sorted.1)
+ascends_from_strict (x ∷ xs) sorted = (every-weaker (λ y. nat_cmp x y ≡ Less) (λ y. x < y) (λ y less. less_is x y less) xs sorted.0, ascends_from_strict xs sorted.1)
 
 pub take_next : (ns : List ℕ) (i n : ℕ) → slice_get ns i ≡ Some n → take (i + 1) ns ≡ take i ns ++ n ∷ []
 take_next ns i n at = (let on : i + 1 ≡ suc i = omega arith in ap (λ k. take k ns) on) ∙ by ns i at

@@ -3,8 +3,9 @@ ghost use Rattle.std.specs.Prelude.{◌≡◌, ℕ, ◌≤◌, ◌&&◌, ◌||�
 ghost use Rattle.std.specs.List.Sorted.{IsStrictlySortedBy};
 ghost use Rattle.std.specs.Ordering.{nat_cmp};
 ghost use Rattle.pol_sets.specs.IdSet.{IsIdSet};
-ghost use Rattle.pol_changes.specs.Ids.{has, without};
+ghost use Rattle.pol_changes.specs.Ids.{has};
 
+use crate::stretches::moved_numbers;
 use pol_data::Memory;
 use pol_sets::IdSet;
 use std::alloc::Global;
@@ -53,19 +54,6 @@ fn found_in(alloc: Global, numbers: &[u32], set: &IdSet) -> Result<Vec<u32>, Mem
         .collect(alloc)
 }
 
-/// Those of the numbers that the set has not, in memory that has room for so many more.
-fn missing_in(alloc: Global, numbers: &[u32], set: &IdSet, more: usize) -> Result<Vec<u32>, Memory>
-    ensures { IfOk result (λ missing. missing.items ≡ without numbers.now set.now) }
-{
-    let mut missing = Vec::with_capacity(alloc, numbers.len().saturating_add(more))?;
-    for number in numbers {
-        if !set.contains(*number) {
-            missing.push(*number)?;
-        }
-    }
-    Ok(missing)
-}
-
 /// The numbers of both sets. It takes no memory where the first has one number at most.
 pub(crate) fn in_both(alloc: Global, numbers: &IdSet, others: &IdSet) -> Result<IdSet, Memory>
     ensures { IfOk result (λ set. set ≡ filter (λ number. has number others.now) numbers.now) }
@@ -80,7 +68,8 @@ pub(crate) fn in_both(alloc: Global, numbers: &IdSet, others: &IdSet) -> Result<
     }
 }
 
-/// The set with the numbers that it gained and without those that it lost.
+/// The set with the numbers that it gained and without those that it lost. The stretches between them are copied as they
+/// are.
 pub(crate) fn moved(
     alloc: Global,
     set: &IdSet,
@@ -90,8 +79,6 @@ pub(crate) fn moved(
     ensures members { IfOk result (λ after. (number : ℕ) → has number after ≡ ((has number set.now && not (has number lost.now)) || has number gained.now)) }
     ensures set { IfOk result (λ after. IsIdSet after) }
 {
-    let mut numbers = missing_in(alloc, set.as_slice(), lost, gained.len())?;
-    numbers.extend_from_slice(gained.as_slice())?;
-    let after = set_of_vec(numbers)?;
-    Ok(after)
+    let numbers = moved_numbers(alloc, set.as_slice(), gained.as_slice(), lost.as_slice())?;
+    Ok(IdSet::from_ascending(numbers))
 }

@@ -13,6 +13,7 @@ mod judge;
 pub mod laws;
 mod made;
 mod plan;
+mod stretches;
 mod tried;
 
 pub use cache::SelectorCache;
