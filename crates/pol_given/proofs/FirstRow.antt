@@ -14,12 +14,13 @@ use Rattle.pol_sets.specs.declared.sets.SetRow.{SetRow}
 use Rattle.pol_sets.specs.Sets.{is_row_of, set_given}
 use Rattle.pol_changes.specs.Sets.{IsMove}
 use Rattle.pol_changes.proofs.IdLemmas.{nothing_ascends}
-use Rattle.pol_given.specs.PeerRow.{Ascend, move_of_row, row_now}
+use Rattle.pol_given.specs.PeerRow.{Ascend, IsMoveOf, IsMoveOfRow, move_now, placed_row}
 use Rattle.pol_given.specs.Told.{IsTold}
+use Rattle.pol_given.specs.declared.rows.PlacedRow.{PlacedRow}
 
 -- one row before the others
-pub put_row : (b : Bool) (row : SetRow) (found : Option SetRow) (value : Bor SetRow) (old : Option (Bor SetRow)) → value.now ≡ row
-    → row_now old ≡ found → row_now (cond b (Some value) old) ≡ cond b (Some row) found
+pub put_row : (b : Bool) (row : SetRow) (found : Option SetRow) (value : PlacedRow) (old : Option PlacedRow) → value.row.now ≡ row
+    → placed_row old ≡ found → placed_row (cond b (Some value) old) ≡ cond b (Some row) found
 put_row true row found value old same rest = ap Some same
 put_row false row found value old same rest = rest
 
@@ -45,15 +46,20 @@ Found s moves found = MatchOption found ((m : Move) → Contains moves m → (m.
 found_at : (s : ℕ) (moves : List Move) (found : Option Move) → find (λ (m : Move). m.selector == s) moves ≡ found → Found s moves found
 found_at s moves found e = subst (Found s moves) e (find-gives (λ (m : Move). m.selector == s) moves)
 
-module _ (was is : List SetRow) (moves : List Move) (p : Peer) (told : IsTold was is moves p) where
-  pub move_found : (m : Move) → Some m ≡ move_of_row moves (find (is_row_of p) is) → IsMove (set_given was p) (set_given is p) m
-  move_found m found =
-      let at : Some m ≡ find (λ (m : Move). m.selector == told.row.selector) moves = found ∙ ap (move_of_row moves) told.first in
-      let one = found_at told.row.selector moves (Some m) (sym at) in
-      told.exact m one.0 (eqb-true m.selector told.row.selector one.1)
+-- the first move of a selector is one of it
+pub first_is : (s : ℕ) (moves : List Move) (found : Option (Bor Move)) → move_now found ≡ find (λ (m : Move). m.selector == s) moves → IsMoveOf moves s found
+first_is s moves None e = λ m there own.
+    both_ways (m.selector == s) (found_at s moves None (sym e) m there) (eq-eqb m.selector s own)
+first_is s moves (Some m) e =
+    let one = found_at s moves (Some m.now) (sym e) in
+    (one.0, eqb-true m.now.selector s one.1)
 
-  pub some_found : None ≡ move_of_row moves (find (is_row_of p) is) → ⊥
-  some_found none =
-      let at : None ≡ find (λ (m : Move). m.selector == told.row.selector) moves = none ∙ ap (move_of_row moves) told.first in
-      let missed = found_at told.row.selector moves None (sym at) told.move told.there in
-      both_ways (told.move.selector == told.row.selector) missed (eq-eqb told.move.selector told.row.selector told.own)
+module _ (was is : List SetRow) (moves : List Move) (p : Peer) (told : IsTold was is moves p) where
+  of_row : (found : Option (Bor Move)) → IsMoveOfRow moves (find (is_row_of p) is) found → IsMoveOf moves told.row.selector found
+  of_row found is_of = subst (λ (row : Option SetRow). IsMoveOfRow moves row found) told.first is_of
+
+  pub move_found : (m : Bor Move) → IsMoveOfRow moves (find (is_row_of p) is) (Some m) → IsMove (set_given was p) (set_given is p) m.now
+  move_found m is_of = (let one = of_row (Some m) is_of in told.exact m.now one.0 one.1)
+
+  pub some_found : IsMoveOfRow moves (find (is_row_of p) is) None → ⊥
+  some_found none = of_row None none told.move told.there told.own

@@ -17,6 +17,7 @@ use Rattle.pol_l4.specs.declared.filter.Filter.{Filter}
 use Rattle.pol_distill.proofs.RawLists.{filter_entries}
 use Rattle.pol_given.specs.Balance.{GoesOn}
 use Rattle.pol_given.specs.Given.{given_by, kind_of, of_numbers}
+use Rattle.pol_given.specs.PeerRow.{IsStill}
 use Rattle.pol_given.specs.declared.staying.Moved.{Moved}
 use Rattle.pol_given.proofs.Balanced.{goes_on, moved_on, stays_on}
 
@@ -39,6 +40,15 @@ module _ (E : ℕ → List Entry) (was is : Peer → List ℕ) (p : Peer) where
       let are : is p ≡ peer_numbers is p = sym (ap (λ b. cond b (0 ∷ []) (is p)) own) in
       subst (λ ids. OnOk r (OnOf E ids (peer_numbers is p) old new)) were
       (subst (λ ids. OnOk r (OnOf E (was p) ids old new)) are (moved_on E (was p) (is p) m ascend_was ascend_is exact old new r come gone))
+
+  -- another peer, where no move moves anything
+  pub still_stays : is_all p ≡ false → IsStrictlySortedBy nat_cmp (was p) → IsStrictlySortedBy nat_cmp (is p) → (m : Move) → IsMove (was p) (is p) m → IsStill m
+      → (out : Moved) → OnOf E (peer_numbers was p) (peer_numbers is p) out out
+  still_stays own ascend_was ascend_is m exact still out =
+      let nothing : (ids : List ℕ) → ids ≡ [] → (es : List Entry) → es ≡ es ++ flat_map E ids = λ ids none es.
+      sym (ap (λ l. es ++ flat_map E l) none ∙ append-nil es) in
+      let done : Result ℕ ℕ = Ok 0 in
+      own_stays own ascend_was ascend_is m exact out out done (nothing m.gained still.0 out.come.items) (nothing m.lost still.1 out.gone.items)
 
 -- one peer more
 pub peer_more : (E : ℕ → List Entry) (f g : Peer → List ℕ) (peers : List Peer) (i : ℕ) (p : Peer) (old mid new : Moved) → i < length peers → get_or peers i p ≡ p

@@ -233,6 +233,6 @@ pub fn given(
 ) -> Result<Vec<(MapKey, Kind)>, Memory>
     ensures { IfOk result (λ raw. (q : OneKey) (k : OneKind) → times raw.items q k ≡ times (raw_of filters.now rows.now) q k) }
 {
-    let index = PeerRows::new(alloc, rows)?;
+    let index = PeerRows::new(alloc, rows, &[], true)?;
     all_given(alloc, filters, &index)
 }

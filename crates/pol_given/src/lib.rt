@@ -6,6 +6,7 @@
 
 mod entries;
 mod keys;
+mod moves;
 mod pairs;
 mod rows;
 mod staying;

@@ -9,13 +9,13 @@ ghost use Rattle.pol_given.specs.PeerRow.{Ascend};
 ghost use Rattle.pol_given.specs.Told.{PeersTold, StandsAt, Stays};
 
 use crate::entries::{push_filter, push_filters};
+use crate::moves::PeerMoves;
 use crate::rows::PeerRows;
 use crate::staying::{Moved, stays};
 use pol_data::Memory;
 use pol_l4::Filter;
 use pol_mapkey::{Kind, MapKey};
 use pol_ports::Direction;
-use pol_sets::Move;
 use std::alloc::Global;
 
 /// The greatest stamp. A filter with a greater one is none of these; no proof needs that.
@@ -34,6 +34,20 @@ fn stands_at(one: &Filter, other: &Filter) -> bool
     ensures { IsTrue result → StandsAt one.now other.now }
 {
     one.stamp == other.stamp && one.place == other.place
+}
+
+/// Whether each filter stands where the other list has one, so that none comes or goes. It tells what is worth a table; no
+/// proof needs it.
+pub(crate) fn all_stand(old: &[Filter], new: &[Filter]) -> bool {
+    if old.len() != new.len() {
+        return false;
+    }
+    for i in 0..old.len() {
+        if i >= new.len() || !stands_at(&old[i], &new[i]) {
+            return false;
+        }
+    }
+    true
 }
 
 /// Appends the entries of the filters from this one on that have a greater stamp, and tells where they end.
@@ -69,7 +83,7 @@ fn pair(
     from: usize,
     was: &PeerRows<'_>,
     is: &PeerRows<'_>,
-    moves: &[Move],
+    moves: &PeerMoves<'_>,
 ) -> Result<usize, Memory>
     requires within { from ≤ length others.now }
     requires stays { (other : OneFilter) → Contains others.now other → StandsAt one.now other → (one.now ≡ other) × PeersTold was.now is.now moves.now other.peers }
@@ -96,7 +110,7 @@ pub(crate) fn walk(
     new: &[Filter],
     was: &PeerRows<'_>,
     is: &PeerRows<'_>,
-    moves: &[Move],
+    moves: &PeerMoves<'_>,
 ) -> Result<(), Memory>
     requires stays { Stays was.now is.now moves.now old.now new.now }
     requires before { AllByRecursion Ascend was.now }

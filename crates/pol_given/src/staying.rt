@@ -1,15 +1,16 @@
 //! What comes and goes of a filter that stays.
-ghost use Rattle.std.specs.Prelude.{◌≡◌, ◌++◌, OnOk, find, ◌==◌};
+ghost use Rattle.std.specs.Prelude.{◌≡◌, ◌++◌, OnOk, find};
 ghost use Rattle.std.specs.List.{AllByRecursion, flat_map};
 ghost use Rattle.pol_model.specs.PolicyMap.{peer_numbers};
 ghost use Rattle.pol_sets.specs.Sets.{is_row_of, set_given};
 ghost use Rattle.pol_given.specs.Balance.{GoesOn};
 ghost use Rattle.pol_given.specs.Given.{given_by, of_numbers};
-ghost use Rattle.pol_given.specs.PeerRow.{Ascend, move_now, move_of_row};
+ghost use Rattle.pol_given.specs.PeerRow.{Ascend, IsMoveOfRow};
 ghost use Rattle.pol_given.specs.Told.{IsTold, PeersTold};
 
 use crate::entries::{kind_of, push_ids};
 use crate::keys::ports_keys;
+use crate::moves::PeerMoves;
 use crate::rows::PeerRows;
 use pol_data::Memory;
 use pol_l4::Filter;
@@ -49,24 +50,12 @@ fn push_move(
     push_ids(&mut out.gone, &keys, kind, change.lost.as_slice())
 }
 
-/// The first move of the selector.
-fn move_of<'a>(moves: &'a [Move], selector: u64) -> Option<&'a Move>
-    ensures { move_now result ≡ find (λ m. m.selector == selector) moves.now }
-{
-    for i in 0..moves.len() {
-        if moves[i].selector == selector {
-            return Some(&moves[i]);
-        }
-    }
-    None
-}
-
-/// The move of a peer's first row.
-fn move_at<'a>(rows: &PeerRows<'_>, moves: &'a [Move], peer: &Peer) -> Option<&'a Move>
-    ensures { move_now result ≡ move_of_row moves.now (find (is_row_of peer.now) rows.now) }
+/// A move of a peer's first row.
+fn move_at<'a>(rows: &PeerRows<'_>, moves: &PeerMoves<'a>, peer: &Peer) -> Option<&'a Move>
+    ensures { IsMoveOfRow moves.now (find (is_row_of peer.now) rows.now) result }
 {
     match rows.row_of(peer) {
-        Some(row) => move_of(moves, row.selector),
+        Some(found) => moves.of(found.row.selector, found.place),
         None => None,
     }
 }
@@ -80,7 +69,7 @@ fn peer_stays(
     peer: &Peer,
     was: &PeerRows<'_>,
     is: &PeerRows<'_>,
-    moves: &[Move],
+    moves: &PeerMoves<'_>,
 ) -> Result<(), Memory>
     requires told { IsTold was.now is.now moves.now peer.now }
     requires before { AllByRecursion Ascend was.now }
@@ -88,6 +77,9 @@ fn peer_stays(
     ensures { OnOk result (GoesOn (of_numbers dir one.now (peer_numbers (set_given was.now) peer.now)) (of_numbers dir one.now (peer_numbers (set_given is.now) peer.now)) out.old out.new) }
 {
     if selects_every_number(peer) {
+        return Ok(());
+    }
+    if moves.are_still() {
         return Ok(());
     }
     match move_at(is, moves, peer) {
@@ -104,7 +96,7 @@ fn peers_stay(
     peers: &[Peer],
     was: &PeerRows<'_>,
     is: &PeerRows<'_>,
-    moves: &[Move],
+    moves: &PeerMoves<'_>,
 ) -> Result<(), Memory>
     requires told { AllByRecursion (IsTold was.now is.now moves.now) peers.now }
     requires before { AllByRecursion Ascend was.now }
@@ -125,7 +117,7 @@ pub(crate) fn stays(
     one: &Filter,
     was: &PeerRows<'_>,
     is: &PeerRows<'_>,
-    moves: &[Move],
+    moves: &PeerMoves<'_>,
 ) -> Result<(), Memory>
     requires told { PeersTold was.now is.now moves.now one.now.peers }
     requires before { AllByRecursion Ascend was.now }

@@ -11,7 +11,8 @@ ghost use Rattle.pol_given.specs.Told.{Stays};
 
 use crate::entries::given;
 use crate::keys::every_key;
-use crate::pairs::walk;
+use crate::moves::PeerMoves;
+use crate::pairs::{all_stand, walk};
 use crate::rows::{PeerRows, sets_ascend};
 use crate::staying::Moved;
 use pol_data::Memory;
@@ -73,7 +74,7 @@ fn push_walks(
     was_rows: &PeerRows<'_>,
     is: &Filters,
     is_rows: &PeerRows<'_>,
-    moves: &[Move],
+    moves: &PeerMoves<'_>,
 ) -> Result<(), Memory>
     requires ingress { Stays was_rows.now is_rows.now moves.now was.now.ingress is.now.ingress }
     requires egress { Stays was_rows.now is_rows.now moves.now was.now.egress is.now.egress }
@@ -121,6 +122,17 @@ pub fn replaced(
     })
 }
 
+/// Whether no filter comes or goes. It tells what is worth a table; no proof needs it.
+fn stand_both(was: &Filters, is: &Filters) -> bool {
+    all_stand(was.ingress.as_slice(), is.ingress.as_slice())
+        && all_stand(was.egress.as_slice(), is.egress.as_slice())
+}
+
+/// Whether the new rows are asked for: where a filter comes, or a move isn't empty.
+fn asks_new(stand: bool, moves: &PeerMoves<'_>) -> bool {
+    !stand || !moves.are_still()
+}
+
 /// What comes and goes between two lists of filters of which something is enforced.
 fn walked(
     alloc: Global,
@@ -136,13 +148,15 @@ fn walked(
 {
     sets_ascend(was_rows);
     sets_ascend(is_rows);
-    let old = PeerRows::new(alloc, was_rows)?;
-    let new = PeerRows::new(alloc, is_rows)?;
+    let told = PeerMoves::new(moves);
+    let stand = stand_both(was, is);
+    let old = PeerRows::new(alloc, was_rows, &[], !stand)?;
+    let new = PeerRows::new(alloc, is_rows, moves, asks_new(stand, &told))?;
     let mut out = Moved {
         come: Vec::new(alloc),
         gone: Vec::new(alloc),
     };
-    push_walks(alloc, &mut out, was, &old, is, &new, moves)?;
+    push_walks(alloc, &mut out, was, &old, is, &new, &told)?;
     push_others(&mut out, was, is)?;
     Ok(out)
 }

@@ -1,5 +1,6 @@
 use Rattle.std.proofs.Common.{List, ◌++◌, sym, subst}
 use Rattle.pol_sets.specs.Sets.{set_given}
+use Rattle.pol_sets.specs.declared.sets.Move.{Move}
 use Rattle.pol_sets.specs.declared.sets.SetRow.{SetRow}
 use Rattle.pol_given.specs.Balance.{Leads}
 use Rattle.pol_given.specs.Given.{of_filters, of_no_filter}
@@ -10,13 +11,15 @@ use Rattle.pol_given.proofs.turns.walked.Goals as goal
 
 pub push_walks-requires-clause-ingress : goal.push_walks-requires-clause-ingress
 push_walks-requires-clause-ingress c =
-    subst (λ (rows : List SetRow). Stays rows c.in_ok-new.new c.args.moves.now c.args.was.now.ingress c.args.is.now.ingress) (sym c.in_ok-old.ensures)
-    (subst (λ (rows : List SetRow). Stays c.args.was_rows.now rows c.args.moves.now c.args.was.now.ingress c.args.is.now.ingress) (sym c.in_ok-new.ensures) c.requires.ingress)
+    subst (λ (moves : List Move). Stays c.in_ok-old.old c.in_ok-new.new moves c.args.was.now.ingress c.args.is.now.ingress) (sym c.new-told.ensures)
+    (subst (λ (rows : List SetRow). Stays rows c.in_ok-new.new c.args.moves.now c.args.was.now.ingress c.args.is.now.ingress) (sym c.in_ok-old.ensures)
+    (subst (λ (rows : List SetRow). Stays c.args.was_rows.now rows c.args.moves.now c.args.was.now.ingress c.args.is.now.ingress) (sym c.in_ok-new.ensures) c.requires.ingress))
 
 pub push_walks-requires-clause-egress : goal.push_walks-requires-clause-egress
 push_walks-requires-clause-egress c =
-    subst (λ (rows : List SetRow). Stays rows c.in_ok-new.new c.args.moves.now c.args.was.now.egress c.args.is.now.egress) (sym c.in_ok-old.ensures)
-    (subst (λ (rows : List SetRow). Stays c.args.was_rows.now rows c.args.moves.now c.args.was.now.egress c.args.is.now.egress) (sym c.in_ok-new.ensures) c.requires.egress)
+    subst (λ (moves : List Move). Stays c.in_ok-old.old c.in_ok-new.new moves c.args.was.now.egress c.args.is.now.egress) (sym c.new-told.ensures)
+    (subst (λ (rows : List SetRow). Stays rows c.in_ok-new.new c.args.moves.now c.args.was.now.egress c.args.is.now.egress) (sym c.in_ok-old.ensures)
+    (subst (λ (rows : List SetRow). Stays c.args.was_rows.now rows c.args.moves.now c.args.was.now.egress c.args.is.now.egress) (sym c.in_ok-new.ensures) c.requires.egress))
 
 pub returns : goal.returns
 returns c =

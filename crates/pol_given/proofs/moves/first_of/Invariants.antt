@@ -1,5 +1,5 @@
 use Rattle.std.proofs.Common.{◌≡◌, ◌==◌, drop, find}
-use Rattle.pol_given.proofs.staying.move_of.Given as goal
+use Rattle.pol_given.proofs.moves.first_of.Given as goal
 
 -- no move in front is of the selector
 abbrev pub invariant-loop-i : goal.invariant-loop-i

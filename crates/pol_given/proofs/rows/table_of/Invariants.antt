@@ -1,6 +1,6 @@
 use Rattle.std.proofs.Common.{drop}
 use Rattle.pol_given.specs.PeerRow.{IsIndexOf}
-use Rattle.pol_given.proofs.rows.PeerRows.new.Given as goal
+use Rattle.pol_given.proofs.rows.table_of.Given as goal
 
 -- the table of the rows gone through, from the last one on
 abbrev pub invariant-loop-i : goal.invariant-loop-i
