@@ -1,6 +1,7 @@
 pub mod Kept
 pub mod Counting
 pub mod Below
+pub mod NoDenies
 pub mod Gathered
 pub mod Walk
 pub mod Deduped
@@ -12,3 +13,4 @@ pub mod Unaffected
 pub mod Settled
 pub mod Listing
 pub mod Sized
+pub mod Resized

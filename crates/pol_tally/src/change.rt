@@ -18,25 +18,30 @@ use crate::affected::affected;
 use crate::cells::Side;
 use crate::differences::changes_at;
 use crate::lists::{lower_all, raise_all, settle_all};
-use crate::sizes::{Changed, resized};
+use crate::sizes::Changed;
 use crate::tally::Tally;
 use pol_data::Memory;
 use pol_edits::ChangeList;
 use pol_mapkey::{Kind, MapKey};
 use std::alloc::Global;
 
-/// What differs between the maps before and after the change that is under way.
+/// What differs between the maps before and after the change that is under way, and the size of the map after it.
 fn listed(
     alloc: Global,
     tally: &Tally,
+    size: u64,
     come: &[(MapKey, Kind)],
     gone: &[(MapKey, Kind)],
-) -> Result<ChangeList, Memory>
-    ensures { IfOk result (λ list. ListsAffected (cells_of tally.now) (λ q k. times come.now q k + times gone.now q k) list) }
+) -> Result<Changed, Memory>
+    ensures list { IfOk result (λ changed. ListsAffected (cells_of tally.now) (λ q k. times come.now q k + times gone.now q k) changed.list) }
+    ensures size { IfOk result (λ changed. changed.size + clear_count changed.list ≡ size + new_count (times_on before (cells_of tally.now)) changed.list) }
 {
     let keys = affected(alloc, tally, come, gone)?;
-    let changes = changes_at(alloc, tally, &keys)?;
-    Ok(ChangeList::from_vec(changes))
+    let (changes, size) = changes_at(alloc, tally, size, &keys)?;
+    Ok(Changed {
+        list: ChangeList::from_vec(changes),
+        size,
+    })
 }
 
 /// Counts what comes and goes for the side after the change, lists what differs, and tells the map's size then. After an
@@ -56,9 +61,8 @@ fn staged(
 {
     raise_all(tally, come)?;
     lower_all(tally, gone);
-    let list = listed(alloc, tally, come, gone)?;
-    let size = resized(tally, size, &list)?;
-    Ok(Changed { list, size })
+    let changed = listed(alloc, tally, size, come, gone)?;
+    Ok(changed)
 }
 
 /// Lets a side stand for both, wherever something came or went. It takes no memory.

@@ -1,12 +1,13 @@
 //! What differs between the maps before and after a change.
-ghost use Rattle.std.specs.Prelude.{◌≡◌, ◌++◌, IfOk, OnOk};
+ghost use Rattle.std.specs.Prelude.{◌≡◌, ◌+◌, ◌++◌, IfOk, OnOk};
 ghost use Rattle.pol_edits.specs.Changes.{difference_at};
 ghost use Rattle.pol_tally.specs.declared.cells.Side.TheVariants.{Before, After};
 ghost use Rattle.pol_tally.specs.Affected.{change_at, changes_at};
 ghost use Rattle.pol_tally.specs.Counted.{cells_of, times_on};
+ghost use Rattle.pol_tally.specs.Sizes.{clear_count, new_count};
 
-use crate::cells::Side;
-use crate::reading::kind_at;
+use crate::reading::kinds_at;
+use crate::sizes::resized;
 use crate::tally::Tally;
 use pol_data::Memory;
 use pol_edits::Change;
@@ -36,22 +37,23 @@ fn push_change(
     }
 }
 
-/// What differs at these keys.
+/// What differs at these keys, and the size of the map after the change. A size at the end of its type counts as want of
+/// memory.
 pub(crate) fn changes_at(
     alloc: Global,
     tally: &Tally,
+    size: u64,
     keys: &[MapKey],
-) -> Result<Vec<Change>, Memory>
-    ensures { IfOk result (λ changes. changes.items ≡ changes_at (times_on Before (cells_of tally.now)) (times_on After (cells_of tally.now)) keys.now) }
+) -> Result<(Vec<Change>, u64), Memory>
+    ensures changes { IfOk result (λ made. made.0.items ≡ changes_at (times_on Before (cells_of tally.now)) (times_on After (cells_of tally.now)) keys.now) }
+    ensures size { IfOk result (λ made. made.1 + clear_count made.0.items ≡ size + new_count (times_on Before (cells_of tally.now)) made.0.items) }
 {
     let mut changes = Vec::new(alloc);
+    let mut grown = size;
     for key in keys {
-        push_change(
-            &mut changes,
-            *key,
-            kind_at(tally, Side::Before, key),
-            kind_at(tally, Side::After, key),
-        )?;
+        let (before, after) = kinds_at(tally, key);
+        push_change(&mut changes, *key, before, after)?;
+        grown = resized(grown, before, after)?;
     }
-    Ok(changes)
+    Ok((changes, grown))
 }

@@ -1,14 +1,10 @@
 //! The size of a map after a change.
-ghost use Rattle.std.specs.Prelude.{◌≡◌, ◌+◌, ◌<◌, ◌^◌, IfOk};
-ghost use Rattle.pol_tally.specs.declared.cells.Side.TheVariants.{Before as before};
-ghost use Rattle.pol_tally.specs.Counted.{cells_of, times_on};
-ghost use Rattle.pol_tally.specs.Sizes.{clear_count, is_clear, is_new, new_count};
+ghost use Rattle.std.specs.Prelude.{IfOk};
+ghost use Rattle.pol_tally.specs.Sizes.{Resizes};
 
-use crate::cells::Side;
-use crate::reading::kind_at;
-use crate::tally::Tally;
 use pol_data::Memory;
-use pol_edits::{Change, ChangeList};
+use pol_edits::ChangeList;
+use pol_mapkey::Kind;
 
 /// What a change makes of a map.
 #[derive(Drop)]
@@ -19,51 +15,15 @@ pub struct Changed {
     pub size: u64,
 }
 
-/// Whether the key is cleared.
-fn is_clear(change: &Change) -> bool
-    ensures { result ≡ is_clear change.now }
+/// The size of a map after a key that had the one kind has the other. A size at the end of its type counts as want of
+/// memory.
+pub(crate) fn resized(size: u64, before: Option<Kind>, after: Option<Kind>) -> Result<u64, Memory>
+    ensures { IfOk result (Resizes before after size) }
 {
-    match change {
-        Change::Set(_, _) => false,
-        Change::Clear(_) => true,
+    match (before, after) {
+        (None, Some(_)) => size.checked_add(1).ok_or(Memory),
+        (Some(_), None) => size.checked_sub(1).ok_or(Memory),
+        (None, None) => Ok(size),
+        (Some(_), Some(_)) => Ok(size),
     }
-}
-
-/// Whether a key is set that had no entry.
-fn is_new(tally: &Tally, change: &Change) -> bool
-    ensures { result ≡ is_new (times_on before (cells_of tally.now)) change.now }
-{
-    match change {
-        Change::Set(key, _) => kind_at(tally, Side::Before, key).is_none(),
-        Change::Clear(_) => false,
-    }
-}
-
-/// How many keys are cleared.
-fn clear_count(changes: &[Change]) -> u64
-    ensures small { result < 2 ^ 63 }
-    ensures count { result ≡ clear_count changes.now }
-{
-    changes.iter().filter(|change| is_clear(change)).count() as u64
-}
-
-/// How many keys are set that had no entry.
-fn new_count(tally: &Tally, changes: &[Change]) -> u64
-    ensures small { result < 2 ^ 63 }
-    ensures count { result ≡ new_count (times_on before (cells_of tally.now)) changes.now }
-{
-    changes
-        .iter()
-        .filter(|change| is_new(tally, change))
-        .count() as u64
-}
-
-/// The size of the map after the change that is under way. A size at the end of its type counts as want of memory.
-pub(crate) fn resized(tally: &Tally, size: u64, list: &ChangeList) -> Result<u64, Memory>
-    ensures { IfOk result (λ after. after + clear_count list.now ≡ size + new_count (times_on before (cells_of tally.now)) list.now) }
-{
-    let new = new_count(tally, list.as_slice());
-    let gone = clear_count(list.as_slice());
-    let more = size.checked_add(new).ok_or(Memory)?;
-    more.checked_sub(gone).ok_or(Memory)
 }

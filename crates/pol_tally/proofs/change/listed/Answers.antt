@@ -14,16 +14,16 @@ from_vec-requires c =
         keys = c.in_ok-keys.keys.items;
         ascends = c.in_ok-keys.ensures.ascends;
         gathered = c.in_ok-keys.ensures.gathers;
-        made = c.in_ok-changes.ensures ∙ ap (changes_at (times_on Before cells) (times_on After cells)) c.deref.ensures.value;
+        made = c.in_ok-changes.ensures.changes ∙ ap (changes_at (times_on Before cells) (times_on After cells)) c.deref.ensures.value;
       });
     }
 
-pub returns : goal.returns
-returns c =
+pub returns-clause-list : goal.returns-clause-list
+returns-clause-list c =
     let cells = cells_of c.args.tally.now in
     record {
       keys = c.in_ok-keys.keys.items;
       ascends = c.in_ok-keys.ensures.ascends;
       gathered = c.in_ok-keys.ensures.gathers;
-      made = c.from_vec.ensures ∙ c.in_ok-changes.ensures ∙ ap (changes_at (times_on Before cells) (times_on After cells)) c.deref.ensures.value;
+      made = c.from_vec.ensures ∙ c.in_ok-changes.ensures.changes ∙ ap (changes_at (times_on Before cells) (times_on After cells)) c.deref.ensures.value;
     }

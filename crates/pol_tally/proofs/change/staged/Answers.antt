@@ -21,8 +21,8 @@ returns-clause-before c = λ q k.
     whole_before (times c.args.come.now q k) (times c.args.gone.now q k) (cells_of c.args.tally.now q k) (cells_of c.lower_all.new.tally q k)
     (c.lower_all.ensures q k ∙ ap (lowered (times c.args.gone.now q k)) (c.in_ok-raise_all.ensures.ok q k))
 
-pub returns-in_err-list-clause-before : goal.returns-in_err-list-clause-before
-returns-in_err-list-clause-before c = λ q k.
+pub returns-in_err-changed-clause-before : goal.returns-in_err-changed-clause-before
+returns-in_err-changed-clause-before c = λ q k.
     whole_before (times c.args.come.now q k) (times c.args.gone.now q k) (cells_of c.args.tally.now q k) (cells_of c.lower_all.new.tally q k)
     (c.lower_all.ensures q k ∙ ap (lowered (times c.args.gone.now q k)) (c.in_ok-raise_all.ensures.ok q k))
 
