@@ -4,3 +4,4 @@ pub mod Givers
 pub mod Giving
 pub mod Lists
 pub mod Kept
+pub mod Laws

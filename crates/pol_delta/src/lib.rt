@@ -8,6 +8,7 @@ mod changes;
 mod copies;
 mod givers;
 mod giving;
+pub mod laws;
 mod turned;
 mod work;
 
