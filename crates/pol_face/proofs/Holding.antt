@@ -5,31 +5,26 @@ use Rattle.std.specs.FinMap as finite
 use Rattle.std.specs.Cmp.Lexicographic.{bytes_decides}
 use Rattle.indexmap.specs.IndexMap.{IndexMap, get}
 use Rattle.std.proofs.lemmas.Bool.Decides.{eqb_tells, nat_tests}
-use Rattle.std.proofs.lemmas.List.Sums.{count_by-le-length}
 use Rattle.pol_addr.specs.declared.address.Addr.{Addr}
 use Rattle.pol_addresses.specs.AddressTable.{AddressTable, number_in}
 use Rattle.pol_data.specs.contracts.text.TextPartialEq.TheImpl as text
 use Rattle.pol_edits.specs.declared.change.Change.{Change}
-use Rattle.pol_edits.specs.Changes.{changed, kind_after, set_count}
+use Rattle.pol_edits.specs.Changes.{changed}
 use Rattle.pol_mapkey.specs.Entries.{Entry as MapEntry}
 use Rattle.pol_mapkey.specs.MapKey.{key_cmp}
 use Rattle.pol_mapkey.specs.declared.Kind.{Kind}
 use Rattle.pol_trie.specs.PolicyMap.{PolicyMap}
-use Rattle.std.specs.Prelude.{is_some}
 use Rattle.pol_history.specs.declared.event.EndpointId.{EndpointId}
 use Rattle.pol_history.specs.Content.{BoardRow, PublishedMap, if_of, with_change, with_row}
 use Rattle.pol_face.specs.declared.row.Row.{Row}
 use Rattle.pol_face.specs.declared.row.Shown.{Shown}
 use Rattle.pol_face.specs.Rows.{ChangesMap, Holds, HoldsMap, HoldsRow, IsHeld, IsMap, IsShownFirst, IsShownLess, IsShownMore, Leads, row_with, table_in}
 
-pub sets-few : (changes : List Change) → set_count changes ≤ length changes
-sets-few changes = count_by-le-length (λ c. is_some (kind_after c)) changes
-
 no_length : {X : Type 0} (xs : List X) → length xs ≡ 0 → xs ≡ []
 no_length [] none = refl
 no_length (x ∷ xs) none = absurd (omega (arith, none))
 
-no_entries : finite.entries (finite.empty {X = Kind} {R = key_cmp}) ≡ []
+pub no_entries : finite.entries (finite.empty {X = Kind} {R = key_cmp}) ≡ []
 no_entries =
     no_length (finite.entries (finite.empty {X = Kind} {R = key_cmp}))
     (sym (finite.len-entries (finite.empty {X = Kind} {R = key_cmp})) ∙ finite.len-empty key_cmp Kind)

@@ -1,5 +1,5 @@
 -- How a face's rows stand for the content of a board.
-use Rattle.std.specs.Prelude.{⊤, ◌≡◌, ℕ, ◌⊎◌, Bool, true, false, List, [], Option, None, Some}
+use Rattle.std.specs.Prelude.{⊤, ◌≡◌, ℕ, ◌+◌, ◌≤◌, ◌⊎◌, Bool, true, false, List, [], Option, None, Some}
 use Rattle.std.specs.Arc.{arc_value}
 use Rattle.std.specs.FinMap as finite
 use Rattle.indexmap.specs.IndexMap.{IndexMap, get}
@@ -7,7 +7,7 @@ use Rattle.pol_addr.specs.declared.address.Addr.{Addr}
 use Rattle.pol_addresses.specs.AddressTable.{AddressTable, number_in}
 use Rattle.pol_data.specs.contracts.text.TextPartialEq.TheImpl as text
 use Rattle.pol_edits.specs.declared.change.Change.{Change}
-use Rattle.pol_edits.specs.Changes.{changed}
+use Rattle.pol_edits.specs.Changes.{IsAscending, changed, set_count}
 use Rattle.pol_mapkey.specs.Entries.{Entry as MapEntry}
 use Rattle.pol_model.specs.declared.request.Remote.{Remote}
 use Rattle.pol_model.specs.declared.request.Remote.TheVariants.{Identity, Address}
@@ -72,6 +72,15 @@ pub record ChangesMap (changes : List Change) (addresses : AddressTable) (revisi
 abbrev pub row_with : ℕ → ℕ → PublishedMap → BoardRow → BoardRow
 row_with commits revision map row =
     record { added = row.added; report = Some (record { revision = revision; commits = commits; published = Some revision }); map = Some map }
+
+-- A trie has room for what the changes set, where each key stands once among them. What they clear needs none.
+abbrev pub HasRoom : Option Shown → List Change → Type 0
+HasRoom None changes = IsAscending changes → set_count changes ≤ 1000000
+HasRoom (Some shown) changes = shown.whole ≡ true → IsAscending changes → finite.len shown.trie + set_count changes ≤ 1000000
+
+abbrev pub RowHasRoom : Option Row → List Change → Type 0
+RowHasRoom None changes = ⊤
+RowHasRoom (Some row) changes = HasRoom row.map changes
 
 -- all changes were made
 pub record IsShownMore (old new : Shown) (changes : List Change) (addresses : AddressTable) (revision : ℕ) : Type 0 where

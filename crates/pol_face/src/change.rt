@@ -1,6 +1,8 @@
 //! What an event changes in the rows of a face.
 ghost use Rattle.std.specs.Prelude.{◌≡◌, ◌+◌, ◌<◌, ◌≤◌, ◌^◌, ◌++◌, ◌∷◌, [], None, Some, Option, List, ℕ, OnOk, OnErr};
 ghost use Rattle.std.specs.Arc.{arc_value};
+ghost use Rattle.indexmap.specs.IndexMap.{get};
+ghost use Rattle.pol_data.specs.contracts.text.TextPartialEq.TheImpl as text;
 ghost use Rattle.pol_model.specs.declared.options.Options.{Options};
 ghost use Rattle.pol_history.specs.declared.event.HistoryEvent.{HistoryEvent as OneEvent};
 ghost use Rattle.pol_history.specs.Commits.{revision_of};
@@ -8,7 +10,8 @@ ghost use Rattle.pol_history.specs.Content.{BoardRow, PublishedMap, added_row, c
 ghost use Rattle.pol_history.specs.Reports.{published_before};
 ghost use Rattle.pol_book.specs.Asked.{id_of};
 ghost use Rattle.pol_face.specs.Changes.{Tells, commit_count};
-ghost use Rattle.pol_face.specs.Rows.{ChangesMap, Holds, HoldsRow, IsHeld, row_with};
+ghost use Rattle.pol_face.specs.Rows.{ChangesMap, HasRoom, Holds, HoldsRow, IsHeld, RowHasRoom, row_with};
+ghost use Rattle.pol_face.specs.Room.{HaveRoom};
 
 use crate::row::{Row, Rows, show_map};
 use pol_addresses::Addresses;
@@ -91,6 +94,7 @@ fn publish_row(
     changes: &ChangeList,
     addresses: &Arc<Addresses>,
 ) -> Result<(), Memory>
+    requires room { HasRoom row.old.map changes.now }
     ensures ok { OnOk result ((held : BoardRow) (new : PublishedMap) → IsHeld row.old held → (held.added ≡ added → ChangesMap changes.now (arc_value addresses.now) revision held.map new) → HoldsRow (Some row.new) (if_of added (row_with commits revision new) (Some held))) }
     ensures err { OnErr result ((held : BoardRow) → IsHeld row.old held → IsHeld row.new held) }
 {
@@ -142,6 +146,7 @@ fn publish(
     changes: &ChangeList,
     addresses: &Arc<Addresses>,
 ) -> Result<(), Memory>
+    requires room { RowHasRoom (get text.ghosts.eq rows.old name.now) changes.now }
     ensures ok { OnOk result ((live : List ℕ → Option BoardRow) (new : PublishedMap) → Holds rows.old live
         → ((held : BoardRow) → live name.now ≡ Some held → held.added ≡ added → ChangesMap changes.now (arc_value addresses.now) revision held.map new)
         → Holds rows.new (with_change (id_of name.now added) (row_with commits revision new) live)) }
@@ -171,7 +176,8 @@ pub(crate) fn take_in(
     commits: u64,
     change: &Change,
 ) -> Result<(), Memory>
-    requires room { commits < 2 ^ 63 }
+    requires count { commits < 2 ^ 63 }
+    requires room { HaveRoom rows.old change.now }
     ensures ok { OnOk result ((options : Options) (history : List OneEvent) (new : OneEvent) → commits ≡ revision_of history → Tells options history change.now new
         → Holds rows.old (content_of options history).live → Holds rows.new (content_of options (history ++ new ∷ [])).live) }
     ensures err { OnErr result ((live : List ℕ → Option BoardRow) → Holds rows.old live → Holds rows.new live) }

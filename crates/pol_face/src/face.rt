@@ -1,5 +1,5 @@
 //! What readers of a board see.
-ghost use Rattle.std.specs.Prelude.{◌≡◌, ◌+◌, ◌<◌, ◌≤◌, [], length, IfNone, IfSome};
+ghost use Rattle.std.specs.Prelude.{◌≡◌, ◌+◌, ◌<◌, ◌≤◌, [], length, IfNone, IfSome, IsErrOf};
 ghost use mathlib.Core.List.{IsPrefix};
 ghost use Rattle.pol_history.specs.Commits.{Lives, state_now};
 ghost use Rattle.pol_history.specs.Content.{content_of};
@@ -8,6 +8,7 @@ ghost use Rattle.pol_history.specs.LookIn.{look_in};
 ghost use Rattle.pol_history.specs.Reports.{last_report};
 ghost use Rattle.pol_book.specs.Asked.{id_of};
 ghost use Rattle.pol_face.specs.Answers.{IsLookOf};
+ghost use Rattle.pol_face.specs.Room.{IsLimited};
 
 use crate::answer::{LookError, Verdict};
 use crate::change::{commits_of, take_in};
@@ -41,19 +42,21 @@ impl<N: NodeName> Model for Face<N> {
     ghost use Rattle.pol_history.specs.declared.event.HistoryEvent.{HistoryEvent as OneEvent};
     ghost use Rattle.pol_history.specs.Commits.{revision_of};
     ghost use Rattle.pol_history.specs.Content.{content_of};
+    ghost use Rattle.pol_face.specs.Room.{IsLimited};
     ghost use Rattle.pol_face.specs.Rows.{Holds};
 
     ghost Value = { List OneEvent };
 
     ghost view = { λ f. f.seen };
 
-    ghost invariant = { λ f. (f.commits ≡ revision_of f.seen) × Holds f.rows (content_of N.options f.seen).live };
+    ghost invariant = { λ f. (f.commits ≡ revision_of f.seen) × Holds f.rows (content_of N.options f.seen).live × IsLimited N.options };
 }
 
 impl<N: NodeName> Face<N> {
     /// The face of an empty history. It takes no memory yet.
     pub fn new(alloc: Global, seen: &Seen<N>) -> Face<N>
         requires empty { seen.now ≡ [] }
+        requires limit { IsLimited N.options }
         ensures { result ≡ seen.now }
     {
         Face {
@@ -65,9 +68,10 @@ impl<N: NodeName> Face<N> {
     }
 
     /// What a look-up finds, with at most 36 steps. It takes no memory. No clause says when it is `NoGuard`: the body answers
-    /// it where a change of the endpoint's map was cut off by want of memory.
+    /// it where a change of the endpoint's map was cut off by want of memory, and takes no step then.
     pub fn look<L: Ledger>(&self, query: &Query, steps: &mut Steps<L>) -> Result<Verdict, LookError>
         ensures answer { IsLookOf result (look_in (content_of N.options self.now) query.now) }
+        ensures nothing { IsErrOf result LookError.NoGuard → steps.new ≡ steps.old }
         ensures forward { steps.old ≤ steps.new }
         ensures cost { steps.new ≤ steps.old + 36 }
     {

@@ -1,12 +1,12 @@
 //! What is held of a live endpoint.
-ghost use Rattle.std.specs.Prelude.{◌≡◌, ◌+◌, ◌≤◌, ℕ, List, None, Some, Option, IfOk, OnOk, OnErr};
+ghost use Rattle.std.specs.Prelude.{◌≡◌, ◌+◌, ◌≤◌, ℕ, List, None, Some, Option, IfOk, IsErrOf, OnOk, OnErr};
 ghost use Rattle.std.specs.Arc.{arc_value};
 ghost use Rattle.std.specs.FinMap as finite;
 ghost use Rattle.pol_mapkey.specs.Entries.{read_map};
 ghost use Rattle.pol_history.specs.Content.{BoardRow, PublishedMap};
 ghost use Rattle.pol_history.specs.LookIn.{look_map, look_row};
 ghost use Rattle.pol_face.specs.Answers.{IsLookOf};
-ghost use Rattle.pol_face.specs.Rows.{ChangesMap, Holds, HoldsMap, IsShownFirst, IsShownLess, IsShownMore, number_then};
+ghost use Rattle.pol_face.specs.Rows.{ChangesMap, HasRoom, Holds, HoldsMap, IsShownFirst, IsShownLess, IsShownMore, number_then};
 
 use crate::answer::{LookError, Verdict};
 use indexmap::IndexMap;
@@ -19,9 +19,6 @@ use pol_trie::PolicyTrie;
 use std::alloc::Global;
 use std::sync::Arc;
 use std::sync::ledger::Ledger;
-
-/// The largest number of keys of a map, and of changes of it.
-const KEYS: u64 = 500_000;
 
 /// A published map, with what each address was at its revision.
 #[derive(Drop)]
@@ -84,6 +81,7 @@ fn look_at_map<L: Ledger>(
     steps: &mut Steps<L>,
 ) -> Result<Verdict, LookError>
     ensures answer { (held : Option PublishedMap) → HoldsMap map.now held → IsLookOf result (look_map commits query.now held) }
+    ensures nothing { IsErrOf result LookError.NoGuard → steps.new ≡ steps.old }
     ensures forward { steps.old ≤ steps.new }
     ensures cost { steps.new ≤ steps.old + 36 }
 {
@@ -107,6 +105,7 @@ pub(crate) fn look_in_rows<L: Ledger>(
     steps: &mut Steps<L>,
 ) -> Result<Verdict, LookError>
     ensures answer { (live : List ℕ → Option BoardRow) → Holds rows.now live → IsLookOf result (look_row commits query.now (live query.now.endpoint)) }
+    ensures nothing { IsErrOf result LookError.NoGuard → steps.new ≡ steps.old }
     ensures forward { steps.old ≤ steps.new }
     ensures cost { steps.new ≤ steps.old + 36 }
 {
@@ -123,12 +122,15 @@ fn show_more(
     changes: &ChangeList,
     addresses: &Arc<Addresses>,
 ) -> Result<(), Memory>
+    requires room { HasRoom (Some shown.old) changes.now }
     ensures ok { OnOk result (IsShownMore shown.old shown.new changes.now (arc_value addresses.now) revision) }
     ensures err { OnErr result (IsShownLess shown.old shown.new) }
 {
-    if !shown.whole || shown.trie.count() as u64 > KEYS || changes.len() as u64 > KEYS {
+    if !shown.whole {
         return Err(Memory);
     }
+    // The call tells that each key stands once.
+    let _ = changes.as_slice();
     let addresses = addresses.clone()?;
     shown.whole = false;
     changes.apply_to(&mut shown.trie)?;
@@ -145,11 +147,11 @@ fn show_first(
     changes: &ChangeList,
     addresses: &Arc<Addresses>,
 ) -> Result<Shown, Memory>
+    requires room { HasRoom None changes.now }
     ensures { IfOk result (λ shown. IsShownFirst shown changes.now (arc_value addresses.now) revision) }
 {
-    if changes.len() as u64 > KEYS {
-        return Err(Memory);
-    }
+    // The call tells that each key stands once.
+    let _ = changes.as_slice();
     let addresses = addresses.clone()?;
     let mut trie = PolicyTrie::new(alloc);
     changes.apply_to(&mut trie)?;
@@ -169,6 +171,7 @@ pub(crate) fn show_map(
     changes: &ChangeList,
     addresses: &Arc<Addresses>,
 ) -> Result<(), Memory>
+    requires room { HasRoom map.old changes.now }
     ensures ok { OnOk result ((held : Option PublishedMap) (new : PublishedMap) → HoldsMap map.old held → ChangesMap changes.now (arc_value addresses.now) revision held new → HoldsMap map.new (Some new)) }
     ensures err { OnErr result ((held : Option PublishedMap) → HoldsMap map.old held → HoldsMap map.new held) }
 {

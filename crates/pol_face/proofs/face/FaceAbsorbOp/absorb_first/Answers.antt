@@ -4,8 +4,10 @@ use mathlib.Core.List.{IsPrefix}
 use Rattle.pol_history.specs.declared.event.HistoryEvent.{HistoryEvent}
 use Rattle.pol_history.specs.Commits.{revision_of}
 use Rattle.pol_history.specs.Content.{content_of}
+use Rattle.pol_history.specs.Legal.{IsLegal}
 use Rattle.pol_history.proofs.Own.{revision-few}
 use Rattle.pol_face.specs.Rows.{Holds}
+use Rattle.pol_face.proofs.Fitting.{have_room}
 use Rattle.pol_face.proofs.Telling.{counted-after, one_more}
 use Rattle.pol_face.proofs.face.FaceAbsorbOp.absorb_first.Goals as goal
 
@@ -13,7 +15,15 @@ pub take_in-requires : goal.take_in-requires
 take_in-requires g c =
     let n : length c.operation.inside.seen ≡ length c.self.inside.seen + 1 = grind (arith, nat_tests, c.len.ensures.length, c.len-else-len-eq0.ensures.length, c.len-else-len-gt-EVENTS.ensures.length, c.len-else-len-gt-EVENTS-2.ensures.length, c.if-len-eq0.false, c.if-len.false, c.if-len-gt-EVENTS.false) in
     let few = revision-few c.self.inside.seen in
-    record { room = omega (arith, few, n, c.self.invariant.0, c.len-else-len-eq0.ensures.length, c.if-len-gt-EVENTS.false) }
+    let options = g.N.NodeName.options in
+    let h = c.self.inside.seen in
+    let p : IsPrefix h c.operation.inside.seen = c.if-not-begins.ensures in
+    let last = one_more h c.operation.inside.seen p n in
+    let legal = subst (IsLegal options) last.1 c.len-else-len-eq0.ensures.legal in
+    record {
+      count = omega (arith, few, n, c.self.invariant.0, c.len-else-len-eq0.ensures.length, c.if-len-gt-EVENTS.false);
+      room = have_room options h last.0 c.self.invariant.2 legal c.self.inside.rows c.self.invariant.1 c.operation.inside.change (c.operation.invariant.tells h last.0 last.1);
+    }
 
 pub overflow_add-self : goal.overflow_add-self
 overflow_add-self g c =
@@ -35,4 +45,5 @@ invariant_of-self-2 g c =
           ∙ ap revision_of (sym new),
       subst (λ (l : List HistoryEvent). Holds c.take_in.new.rows (content_of options l).live) (sym new)
           (c.in-Ok.ensures.ok options h last.0 c.self.invariant.0 tells c.self.invariant.1),
+      c.self.invariant.2,
     )
