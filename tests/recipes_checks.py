@@ -145,11 +145,14 @@ def labels_that_count(wrong):
         (["--labels", "!app"], [*kept[1:], *DERIVED]),
         (["--labels", "any:app !topology"], ["app.kubernetes.io/name=web", *DERIVED]),
         (["--labels", "pod-template-hash$ pod-template-hash"], ["app.kubernetes.io/name=web", *DERIVED]),
+        # a pattern with ! that matches nothing of a key undoes those before it
+        (["--labels", "!x*"], [*(f"{key}={value}" for key, value in OWN.items()), *DERIVED]),
+        (["--labels", "!x* !app"], [*(f"{key}={value}" for key, value in OWN.items() if not key.startswith("app")), "app.kubernetes.io/name=web", *DERIVED]),
         (["--cluster-name", "east"], [*kept, DERIVED[0], "io.cilium.k8s.policy.cluster=east", DERIVED[2]]),
     ):
         _, out, _ = call("from-kubectl", words, [namespace, pod("shop", "web", "n1", "10.0.0.1", OWN)])
         told(wrong, f"the labels with {words}", json.loads(out.splitlines()[0])["labels"], [f"k8s:{it}" for it in sorted(wanted, key=lambda it: it.split("=")[0])])
-    for words in (["--labels", "!"], ["--labels", "a("], ["--labels", "!k8s:app"]):
+    for words in (["--labels", "!"], ["--labels", "a("], ["--labels", "!k8s:app"], ["--labels", "k8s:[[:alpha:]]+"]):
         told(wrong, f"the status with {words}", call("from-kubectl", words, PODS)[0::2][0], 1)
 
 

@@ -3,7 +3,7 @@
 A pattern is `[SOURCE:][!]EXPRESSION`. It matches a label whose source is SOURCE, where one is written, and whose key
 begins with what the expression matches. A label counts where the longest match of a pattern without `!` is longer than
 the shortest match of one with `!`; and, where the list adds no pattern without `!` to the default ones, also where none
-with `!` matches.
+with `!` matches. (Cilium goes through the patterns in their order, and a match of nothing counts as none from there on.)
 """
 import re
 
@@ -43,6 +43,8 @@ class Pattern:
         self.is_out = rest.startswith("!")
         if not rest.lstrip("!") or source.startswith("!") and colon:
             raise Bad(f"--labels: {text!r} is no pattern: it is [SOURCE:][!]EXPRESSION")
+        if "[[:" in rest:
+            raise Bad(f"--labels: {text!r} has a class of characters by its name, which Python doesn't read: write them out")
         try:
             self.expression = re.compile(rest[self.is_out :])
         except re.error as error:
@@ -66,9 +68,13 @@ class Filter:
     def counts(self, key, source="k8s"):
         if self.is_off:
             return True
-        taken = max((it.length(source, key) for it in self.patterns if not it.is_out), default=-1)
-        lengths = [it.length(source, key) for it in self.patterns if it.is_out]
-        out = min((it for it in lengths if it > 0), default=0)
+        taken = out = 0
+        for it in self.patterns:
+            length = it.length(source, key)
+            if not it.is_out:
+                taken = max(taken, length)
+            elif length >= 0 and (not out or length < out):
+                out = length
         return (not self.is_closed and not out) or taken > out
 
 
