@@ -12,7 +12,9 @@ import compare
 
 RECIPES = compare.TOP / "recipes"
 sys.path.insert(0, str(RECIPES))
+from lib.change import Change  # noqa: E402
 from lib.cluster import Cluster  # noqa: E402
+from lib.connections import Connections  # noqa: E402
 from lib.labels import Filter  # noqa: E402
 from lib.sides import Sides  # noqa: E402
 from lib.unread import why_unread  # noqa: E402
@@ -275,6 +277,8 @@ def faults_of_changes(wrong):
             (["--remove", "ccnp/lost"], "--remove ccnp/lost: the state has no such policy; of its kind it has none"),
             (["--remove", "pod/shop/web"], "--remove pod/shop/web: it is CiliumNetworkPolicy/NAMESPACE/NAME, CiliumClusterwideNetworkPolicy/NAME or NetworkPolicy/NAMESPACE/NAME; cnp, ccnp and netpol do for the kinds"),
             (["--add", fine, "--state", twice], f"{twice}: document 1, item 2: Pod shop/b: its address 10.0.0.1 is that of shop/a too"),
+            (["--add", fine, "--add", fine], f"{fine}: document 1: shop/fine comes twice, and one of them alone can be meant"),
+            (["--remove", "cnp/shop/fine", "--remove", "CiliumNetworkPolicy/shop/fine"], "--remove CiliumNetworkPolicy/shop/fine: shop/fine goes twice"),
             (["--add", fine, "--node", "n9"], "--node n9: no pod of the state is on it; there are n1, n2"),
             (["--add", fine, "--strict"], "1 of 2 policies isn't in force: shop/l7: rules at spec.ingress[1].toPorts[0]"),
         ):
@@ -287,6 +291,31 @@ def faults_of_changes(wrong):
         told(wrong, "what isn't in force", "1 of 2 policies isn't in force: shop/l7" in err, True)
 
 
+class OfNobody:
+    """In the place of policyd: no rule speaks of anybody."""
+
+    def enforced_by(self, policies):
+        return [set() for _ in policies], {}
+
+
+def policies_that_select_nobody(wrong):
+    """A policy that comes and changes nothing since it selects no pod, as by a slip in a name, is told."""
+    state = json.dumps({"apiVersion": "v1", "kind": "List", "items": [NAMESPACE, *PODS, FINE]})
+    section = {"endpointSelector": {"matchLabels": {"app": "wbe"}}, "ingress": [{}]}
+    with tempfile.NamedTemporaryFile("w", suffix=".json") as file:
+        added = [policy("slip", section), policy("slip", section, "shpo"), policy("empty", {"endpointSelector": {}, "ingress": []}), FINE]
+        file.write(json.dumps({"apiVersion": "v1", "kind": "List", "items": added}))
+        file.flush()
+        cluster = Cluster(state, Filter())
+        found = Connections(Sides(cluster, None), Change(cluster, [file.name], []), OfNobody())
+    told(wrong, "the rows", list(found.find(lambda text: None)), [])
+    told(wrong, "what is said", [*found.idle()], [
+        "shop/slip selects no pod of the state",
+        "shpo/slip selects nobody: no pod of the state is in the namespace shpo",
+        "shop/empty has no section that isn't empty, so it changes nothing",
+    ])
+
+
 def run(check):
     wrong = []
     check(wrong)
@@ -295,5 +324,5 @@ def run(check):
 
 def checks():
     names = (faults_of_queries, other_sides_of_queries, labels_that_count, policies_that_are_not_in_force, entity_of_another_cluster)
-    names += (unread_as_the_cases_say, names_of_pods, faults_of_changes)
+    names += (unread_as_the_cases_say, names_of_pods, faults_of_changes, policies_that_select_nobody)
     return [(f"recipes {it.__name__.replace('_', ' ')}", lambda it=it: run(it)) for it in names]

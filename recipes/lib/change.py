@@ -15,8 +15,15 @@ class Change:
         self.new = {}
         for name in added:
             for policy in policies_of(name):
+                if policy.key in self.new:
+                    raise Bad(f"{policy.place}: {policy.name} comes twice, and one of them alone can be meant")
                 self.new[policy.key] = policy
-        self.gone = [self.removed(it) for it in removed]
+        self.gone = []
+        for it in removed:
+            policy = self.removed(it)
+            if policy in self.gone:
+                raise Bad(f"--remove {it}: {policy.name} goes twice")
+            self.gone.append(policy)
         self.lines = [*(it.deletion() for it in self.gone), *(it.line for it in self.new.values())]
 
     def removed(self, text):

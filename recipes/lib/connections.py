@@ -56,6 +56,19 @@ class Connections:
         for half in [(at, direction) for at in range(len(self.sides.sets)) for direction in OPPOSITE]:
             self.first[half] = alike.setdefault(self.selected_by(half), half)[0]
 
+    def idle(self):
+        """What is said of each policy that comes and speaks of no pod, so that nothing of it shows."""
+        at_work = {part.whole for parts in self.selecting.values() for part in parts}
+        for it in self.change.new.values():
+            if it in at_work or it in self.refused or self.change.is_as_before(it):
+                continue
+            if not it.directions():
+                yield f"{it.name} has no section that isn't empty, so it changes nothing"
+            elif it.namespace and it.namespace not in self.sides.namespaces:
+                yield f"{it.name} selects nobody: no pod of the state is in the namespace {it.namespace}"
+            else:
+                yield f"{it.name} selects no pod of the state"
+
     def stand_in(self, asked):
         """The question that is asked in the place of this one: of the first endpoint that the same rules select."""
         return (self.first[asked[:2]], *asked[1:])
