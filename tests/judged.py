@@ -5,6 +5,14 @@ from judge.runs import wrong_with
 
 # The statuses at which the output is the answers to a script.
 ANSWERED = (0, 1)
+# The judge keeps each state of a history, and copies it where a request changes it: of more commits it isn't asked.
+COMMITS = 10_000
+
+
+def is_judged(case):
+    """Whether the case has fixed answers to a script, of not too many commits."""
+    fixed = case.status() in ANSWERED and not case.runs() and script_options(case.words())
+    return fixed and sum(line.startswith(b"ok ") for line in case.out().splitlines()) <= COMMITS
 
 
 def of_case(case):
@@ -35,5 +43,5 @@ def checks():
             yield f"judge: {'' if is_run else 'no run: '}{name}", lambda given=given, rest=(limit, is_run): of_small(*given, *rest)
     yield "judge: no run: another status", of_status
     for case in compare.cases("case", "cases"):
-        if case.status() in ANSWERED and not case.runs() and script_options(case.words()):
+        if is_judged(case):
             yield f"judge: {case.name}", lambda case=case: of_case(case)

@@ -164,8 +164,9 @@ def number_of_labels(rows, labels):
     return next((number for number, row in rows.items() if row.labels == labels and row.prefix is None and number > 8), None)
 
 
-def number_of_prefix(rows, prefix):
-    return next((number for number, row in rows.items() if row.prefix == prefix and number >= FIRST_LOCAL), None)
+def prefix_numbers(rows):
+    """The local numbers, by their prefixes."""
+    return {row.prefix: number for number, row in rows.items() if number >= FIRST_LOCAL}
 
 
 def held(rows, number, row):
@@ -190,15 +191,22 @@ def hold_labels(rows, labels):
 
 
 def hold_prefixes(rows, prefixes):
+    rows, numbers = dict(rows), prefix_numbers(rows)
+    free = (number for number in range(FIRST_LOCAL, LAST_LOCAL + 1) if number not in rows)
     for prefix in prefixes:
-        number = number_of_prefix(rows, prefix) or least_free(rows, FIRST_LOCAL, LAST_LOCAL)
-        rows = held(rows, number, Row(WORLD_LABELS, prefix, 1))
+        number = numbers[prefix] if prefix in numbers else next(free)
+        old = rows.get(number)
+        rows[number] = replace(old, holders=old.holders + 1) if old else Row(WORLD_LABELS, prefix, 1)
     return rows
 
 
 def release_prefixes(rows, prefixes):
-    for prefix in prefixes:
-        rows = released(rows, number_of_prefix(rows, prefix))
+    rows, numbers = dict(rows), prefix_numbers(rows)
+    for number in (numbers[it] for it in prefixes):
+        if rows[number].holders == 1:
+            del rows[number]
+        else:
+            rows[number] = replace(rows[number], holders=rows[number].holders - 1)
     return rows
 
 
@@ -224,9 +232,9 @@ def identity_fault(state, request):
 
 
 def apply_fault(state, request):
-    locals_held = sum(number >= FIRST_LOCAL for number in state.rows)
-    new = sum(number_of_prefix(state.rows, it) is None for it in prefixes_of(request[1]))
-    return 38 if locals_held + new > LAST_LOCAL - FIRST_LOCAL + 1 else None
+    numbers = prefix_numbers(state.rows)
+    new = sum(it not in numbers for it in prefixes_of(request[1]))
+    return 38 if len(numbers) + new > LAST_LOCAL - FIRST_LOCAL + 1 else None
 
 
 def fault(state, request):
