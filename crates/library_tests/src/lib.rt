@@ -9,6 +9,8 @@ mod addresses;
 #[cfg(test)]
 mod arena;
 #[cfg(test)]
+mod audits;
+#[cfg(test)]
 mod data;
 #[cfg(test)]
 mod held_prefixes;

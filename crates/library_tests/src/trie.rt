@@ -102,3 +102,17 @@ fn an_emptied_map_has_no_node(rt: HostRuntime) -> Result<(), Fail> {
     assert!(rt; right(&copy) == KEYS);
     Ok(())
 }
+
+#[test]
+fn a_branch_is_a_node(rt: HostRuntime) -> Result<(), Fail> {
+    let mut trie = PolicyTrie::new(rt.alloc());
+    if trie.count() < 1_000_000 {
+        trie.set(key_of(0), Kind::Allow)?;
+    }
+    assert!(rt; trie.count() == 1 && trie.nodes() == 1);
+    if trie.count() < 1_000_000 {
+        trie.set(key_of(128), Kind::Deny)?;
+    }
+    assert!(rt; trie.count() == 2 && trie.nodes() == 3);
+    Ok(())
+}
