@@ -1,0 +1,10 @@
+//! Computed examples that hold the definitions of histories: what `pol_history` and `pol_placed` say of small histories, and
+//! what they don't.
+//!
+//! Nothing stands on this crate. Each law is the contract of a function that does nothing.
+#![tactic(auto)]
+
+pub mod growth;
+pub mod played;
+pub mod regenerations;
+pub mod steps;
