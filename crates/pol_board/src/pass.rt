@@ -24,7 +24,7 @@ pub struct Pass<N: NodeName> {
     pub(crate) count: u64,
     pub(crate) seen: Seen<N>,
     pub(crate) own: Seen<N>,
-    handle: ReadHandle<Face<N>>,
+    handle: Option<ReadHandle<Face<N>>>,
 }
 
 impl<N: NodeName> Model for Pass<N> {
@@ -41,8 +41,8 @@ impl<N: NodeName> Model for Pass<N> {
 }
 
 impl<N: NodeName> Pass<N> {
-    /// A pass that has seen nothing.
-    pub(crate) fn new(number: u64, seen: &Seen<N>, handle: ReadHandle<Face<N>>) -> Pass<N>
+    /// A pass that has seen nothing. Without a handle it never looks.
+    pub(crate) fn new(number: u64, seen: &Seen<N>, handle: Option<ReadHandle<Face<N>>>) -> Pass<N>
         requires nothing { seen.now ≡ [] }
         ensures { result ≡ record { number = number; has = nothing_yet } }
     {
@@ -112,7 +112,7 @@ impl<N: NodeName> Pass<N> {
     /// What the board shows of the query's endpoint, with at most 36 steps: the verdict of its last published map, at the
     /// number that the remote had at the map's revision. It is `NoEndpoint` where no endpoint of that name is live, and
     /// `NotYet` where it has no published map. It takes no memory and waits for nobody. No clause says when it is `NoGuard`:
-    /// the body answers it where the board gave no guard, or one of a history that the pass is ahead of, or of a map whose
+    /// the body answers it where the pass has no handle, where the board gave no guard, or one of a history that the pass is ahead of, or of a map whose
     /// change was cut off by want of memory.
     pub fn look<L: Ledger>(
         &mut self,
@@ -124,7 +124,10 @@ impl<N: NodeName> Pass<N> {
         ensures forward { steps.old ≤ steps.new }
         ensures cost { steps.new ≤ steps.old + 36 }
     {
-        let Some(face) = self.handle.enter() else {
+        let Some(handle) = &mut self.handle else {
+            return Err(LookError::NoGuard);
+        };
+        let Some(face) = handle.enter() else {
             return Err(LookError::NoGuard);
         };
         let Some(seen) = face.since(&self.seen) else {

@@ -104,7 +104,7 @@ fn play_named<N: NodeName + Send + Sync, W: Threads + Wait + Sync, G: Gate + Syn
     ensures again { IfErr result (IsAgain phases.items) }
 {
     let places = 257 + config.passes;
-    let (writer, passes) = match Board::new::<N, &W>(
+    let (writer, passes) = match Board::with_readers::<N, &W>(
         rt,
         alloc,
         book,
@@ -112,6 +112,7 @@ fn play_named<N: NodeName + Send + Sync, W: Threads + Wait + Sync, G: Gate + Syn
         config.localhost,
         config.map_max,
         places,
+        config.passes,
     ) {
         Ok(made) => made,
         Err(BoardError::NoPlace) => return Err(Stopped::NoPlace(phases)),

@@ -12,6 +12,12 @@ use Rattle.pol_face.specs.Answers.{IsLookOf}
 use Rattle.pol_board.proofs.Showing.{grows_nothing}
 use Rattle.pol_board.proofs.pass.Pass.look.Goals as goal
 
+pub returns-in_default-enter-clause-grows : goal.returns-in_default-enter-clause-grows
+returns-in_default-enter-clause-grows g c =
+    let i = c.self.inside in let options = g.N.NodeName.options in
+    let seen : PassState = record { number = i.number; has = record { history = i.seen; mine = commits_by i.number i.own } } in
+    subst (λ (p : PassState). PassGrows options p seen []) c.self.view_is (grows_nothing options seen c.self.invariant.1)
+
 pub returns-in_default-since-clause-grows : goal.returns-in_default-since-clause-grows
 returns-in_default-since-clause-grows g c =
     let i = c.self.inside in let options = g.N.NodeName.options in

@@ -3,7 +3,7 @@ use Rattle.pol_model.specs.declared.options.Mode.{Mode}
 use Rattle.pol_model.specs.declared.options.Options.{Options}
 use Rattle.pol_face.specs.Room.{IsLimited}
 use Rattle.pol_board.proofs.Counting.{none_counted, one_pass_more}
-use Rattle.pol_board.proofs.board.Board.new.Goals as goal
+use Rattle.pol_board.proofs.board.Board.with_readers.Goals as goal
 
 limited : (options : Options) (mode : Mode) (localhost : Bool) (most : ℕ) → options ≡ record { mode = mode; localhost = localhost; map_max = Some most }
     → most ≤ 65536 → IsLimited options
