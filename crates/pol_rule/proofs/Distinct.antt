@@ -1,9 +1,10 @@
 -- Distinct prefixes, gone through from the front.
 use Rattle.std.proofs.Common.{◌≡◌, ℕ, ◌+◌, ◌<◌, ◌==◌, Bool, true, false, not, ◌&&◌, ◌||◌, cond, List, [], ◌∷◌, ◌++◌, filter, length, get_or, drop, append_assoc, refl, sym, ap, ◌∙◌}
 use Rattle.std.specs.List.{list_any}
-use Rattle.std.proofs.lemmas.Bool.{and_parts, eqb-true}
+use Rattle.std.proofs.lemmas.Bool.{and_parts, eq-eqb, eqb-true}
 use Rattle.std.proofs.lemmas.List.{at_drop_more}
 use Rattle.std.proofs.lemmas.List.Folds.{list_any-append}
+use Rattle.indexmap.specs.IndexSet.{insert_key}
 use Rattle.pol_addr.specs.declared.network.Prefix.{Prefix}
 use Rattle.pol_addr.specs.Prefix.{same_prefix}
 use Rattle.pol_rule.specs.Prefixes.{distinct}
@@ -73,10 +74,28 @@ pub kept_none : (kept : List Prefix) (xs : List Prefix) → kept ≡ [] → with
 kept_none kept xs none = ap (λ ks. with_rest ks xs) none ∙ filter_none (distinct xs)
 
 -- one prefix more, which is kept where it isn't among the kept ones
-pub kept_more : (kept : List Prefix) (xs : List Prefix) (i : ℕ) (p : Prefix) → i < length xs → p ≡ get_or xs i p → is_kept kept p ≡ false → with_rest kept (drop i xs) ≡ distinct xs → with_rest (kept ++ p ∷ []) (drop (i + 1) xs) ≡ distinct xs
-kept_more kept xs i p within is new held =
-    sym (rest_new kept p (drop (i + 1) xs) new) ∙ ap (λ q. with_rest kept (q ∷ drop (i + 1) xs)) is ∙ sym (at_drop_more (with_rest kept) xs i p within) ∙ held
+swapped : (p q : Prefix) → same_prefix p q ≡ same_prefix q p
+swapped p q = λ i. eqb-swap p.bits q.bits i && eqb-swap p.len q.len i
+  where
+    eqb-swap : (m n : ℕ) → (m == n) ≡ (n == m)
+    eqb-swap m n = same_truth (m == n) (n == m) (λ is. eq-eqb n m (sym (eqb-true m n is))) (λ is. eq-eqb m n (sym (eqb-true n m is)))
+      where
+        same_truth : (a b : Bool) → (a ≡ true → b ≡ true) → (b ≡ true → a ≡ true) → a ≡ b
+        same_truth true b to back = sym (to refl)
+        same_truth false true to back = back refl
+        same_truth false false to back = refl
 
-pub kept_same : (kept : List Prefix) (xs : List Prefix) (i : ℕ) (p : Prefix) → i < length xs → p ≡ get_or xs i p → is_kept kept p ≡ true → with_rest kept (drop i xs) ≡ distinct xs → with_rest kept (drop (i + 1) xs) ≡ distinct xs
-kept_same kept xs i p within is old held =
-    sym (rest_old kept p (drop (i + 1) xs) old) ∙ ap (λ q. with_rest kept (q ∷ drop (i + 1) xs)) is ∙ sym (at_drop_more (with_rest kept) xs i p within) ∙ held
+found : (p : Prefix) (kept : List Prefix) → list_any (same_prefix p) kept ≡ is_kept kept p
+found p [] = refl
+found p (k ∷ kept) = λ i. swapped p k i || found p kept i
+
+pub kept_next : (kept new xs : List Prefix) (i : ℕ) (p : Prefix) → i < length xs → p ≡ get_or xs i p → new ≡ insert_key same_prefix kept p
+    → with_rest kept (drop i xs) ≡ distinct xs → with_rest new (drop (i + 1) xs) ≡ distinct xs
+kept_next kept new xs i p within is next held =
+    ap (λ ks. with_rest ks (drop (i + 1) xs)) (next ∙ ap (λ b. cond b kept (kept ++ p ∷ [])) (found p kept))
+    ∙ by (is_kept kept p) refl
+    ∙ ap (λ q. with_rest kept (q ∷ drop (i + 1) xs)) is ∙ sym (at_drop_more (with_rest kept) xs i p within) ∙ held
+  where
+    by : (b : Bool) → is_kept kept p ≡ b → with_rest (cond b kept (kept ++ p ∷ [])) (drop (i + 1) xs) ≡ with_rest kept (p ∷ drop (i + 1) xs)
+    by true old = sym (rest_old kept p (drop (i + 1) xs) old)
+    by false new = sym (rest_new kept p (drop (i + 1) xs) new)

@@ -1,10 +1,10 @@
 //! Which prefixes a policy names, and so holds the identities of.
 ghost use Rattle.std.specs.Prelude.{◌≡◌, ◌++◌, IfOk, OnOk};
-ghost use Rattle.std.specs.List.{flat_map, list_any};
-ghost use Rattle.pol_addr.specs.Prefix.{same_prefix};
+ghost use Rattle.std.specs.List.{flat_map};
 ghost use Rattle.pol_rule.specs.Prefixes.{distinct, entry_prefixes, peer_prefixes, policy_prefixes, rule_prefixes};
 
 use crate::policy::{Entry, Peer, Peers, Policy, Prefixes, Rule};
+use indexmap::IndexSet;
 use pol_addr::Prefix;
 use pol_data::Memory;
 use std::alloc::Global;
@@ -68,23 +68,16 @@ fn push_rules(out: &mut Vec<Prefix>, rules: &[Rule]) -> Result<(), Memory>
     Ok(())
 }
 
-fn keeps(kept: &[Prefix], prefix: &Prefix) -> bool
-    ensures { result ≡ list_any (λ other. same_prefix other prefix.now) kept.now }
-{
-    kept.iter().any(|other| *other == *prefix)
-}
-
 /// Each prefix at its first place alone.
 fn distinct(alloc: Global, prefixes: &[Prefix]) -> Result<Vec<Prefix>, Memory>
     ensures { IfOk result (λ kept. kept.items ≡ distinct prefixes.now) }
 {
-    let mut kept = Vec::new(alloc);
+    let mut kept = IndexSet::new(alloc);
     for prefix in prefixes {
-        if !keeps(&kept, prefix) {
-            kept.push(*prefix)?;
-        }
+        kept.insert(*prefix)?;
     }
-    Ok(kept)
+    let all = Vec::from_slice(alloc, kept.as_slice())?;
+    Ok(all)
 }
 
 impl Policy {
