@@ -1,4 +1,5 @@
 pub mod Said
+pub mod Counting
 pub mod Differences
 pub mod Merging
 pub mod Making

@@ -29,7 +29,7 @@ use Rattle.pol_face.specs.declared.row.Shown.{Shown}
 use Rattle.pol_face.specs.Changes.{Tells, table_held}
 use Rattle.pol_face.specs.Room.{HaveRoom, IsLimited}
 use Rattle.pol_face.specs.Rows.{HasRoom, Holds, HoldsMap, HoldsRow, Leads, RowHasRoom, table_in}
-use Rattle.pol_face.proofs.Counting.{sets_fit}
+use Rattle.pol_edits.proofs.Counting.{sets_fit}
 use Rattle.pol_face.proofs.Holding.{no_entries}
 
 -- ---- the maps of a content

@@ -1,4 +1,3 @@
-pub mod Counting
 pub mod Holding
 pub mod Telling
 pub mod Fitting
