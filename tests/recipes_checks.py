@@ -9,6 +9,7 @@ import sys
 import tempfile
 
 import compare
+from play_checks import YAML
 
 RECIPES = compare.TOP / "recipes"
 sys.path.insert(0, str(RECIPES))
@@ -251,6 +252,8 @@ def names_of_pods(wrong):
         told(wrong, f"{[it.name for it in listed]}", sides.names(listed, other), wanted)
 
 
+EMPTY = {"apiVersion": "v1", "kind": "List", "items": []}
+
 def faults_of_changes(wrong):
     """What what-if says of a bad change, before it runs anything."""
     with tempfile.TemporaryDirectory() as name:
@@ -272,6 +275,10 @@ def faults_of_changes(wrong):
                 f"{folder}/a.yaml is YAML, which Python's standard library doesn't read: `kubectl create --dry-run=client -o json -f FILE` prints it as JSON, and so does kubectl get with -o json",
             ),
             (["--add", written("none", "")], f"{folder}/none is empty: it takes what kubectl get .. -o json prints"),
+            (["--add", written("empty.json", EMPTY)], f"--add {folder}/empty.json: no policy is in it"),
+            (["--add", fine, "--state", written("policies.json", FINE)], f"{folder}/policies.json: no pod is in it, so nothing can be asked about"),
+            (["--bogus"], "unrecognized arguments: --bogus"),
+            (["--stat", fine], f"unrecognized arguments: --stat {fine}"),
             (["--add", f"{folder}/lost"], f"{folder}/lost: No such file or directory"),
             (["--remove", "cnp/shop/lost"], "--remove cnp/shop/lost: the state has no such policy; of its kind it has shop/fine, shop/l7"),
             (["--remove", "ccnp/lost"], "--remove ccnp/lost: the state has no such policy; of its kind it has none"),
@@ -284,7 +291,15 @@ def faults_of_changes(wrong):
         ):
             status, out, err = call("what-if", ["--state", state, *words])
             told(wrong, f"with {words}", (status, out, err.splitlines()[0]), (1, "", f"what-if: {what}"))
-        told(wrong, "the status without a state", call("what-if", ["--add", fine])[0], 1)
+        usage = "usage: recipes/what-if --state FILE"
+        for words, what in ((["--add", fine], "--state FILE is missing"), (["--bogus"], "unrecognized arguments: --bogus")):
+            status, out, err = call("what-if", words)
+            told(wrong, f"with {words} alone", (status, out, err.splitlines()[0]), (1, "", f"what-if: {what}"))
+            told(wrong, f"the usage with {words} alone", err.splitlines()[1].startswith(usage), True)
+        told(wrong, "another format", call("what-if", ["--state", state, "--format", "yaml"])[2].startswith("what-if: argument --format: invalid choice: 'yaml'"), True)
+        told(wrong, "help", [call("what-if", ["--help"])[0], call("what-if", ["--help"])[1].startswith(usage)], [0, True])
+        for text in YAML:
+            told(wrong, f"what is said of {text!r}", "is YAML" in call("from-kubectl", [], text)[2], True)
         # the same policy once more is no change, so that nothing is asked
         status, out, err = call("what-if", ["--state", state, "--add", fine])
         told(wrong, "where nothing changes", (status, out, err.splitlines()[-1]), (0, "", "what-if: no connection changes"))

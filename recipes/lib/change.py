@@ -14,7 +14,10 @@ class Change:
         self.before = {it.key: it for it in cluster.policies}
         self.new = {}
         for name in added:
-            for policy in policies_of(name):
+            policies = list(policies_of(name))
+            if not policies:
+                raise Bad(f"--add {name}: no policy is in it")
+            for policy in policies:
                 if policy.key in self.new:
                     raise Bad(f"{policy.place}: {policy.name} comes twice, and one of them alone can be meant")
                 self.new[policy.key] = policy

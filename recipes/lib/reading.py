@@ -5,7 +5,7 @@ import re
 KEY, VALUE = re.compile(r"[!-<>-~]+"), re.compile(r"[!-~]*")
 BYTE = r"(0|[1-9]\d?|1\d\d|2[0-4]\d|25[0-5])"
 IPV4 = re.compile(rf"{BYTE}(\.{BYTE}){{3}}")
-YAML = re.compile(r"\s*(---\s+|#.*\n\s*)*[A-Za-z][A-Za-z0-9]*:(\s|$)")
+YAML = re.compile(r"""\s*(%.*\n\s*|---\s+|#.*\n\s*|- +)*(["']?)[A-Za-z][A-Za-z0-9]*\2:(\s|$)""")
 AS_JSON = "kubectl create --dry-run=client -o json -f FILE"
 
 
