@@ -254,6 +254,7 @@ def names_of_pods(wrong):
 
 EMPTY = {"apiVersion": "v1", "kind": "List", "items": []}
 
+
 def faults_of_changes(wrong):
     """What what-if says of a bad change, before it runs anything."""
     with tempfile.TemporaryDirectory() as name:
@@ -331,6 +332,23 @@ def policies_that_select_nobody(wrong):
     ])
 
 
+def prefixes_of_what_is_inside(wrong):
+    """A prefix that is a ClusterIP, a node's address or a pod's is told, since no packet has that address outside."""
+    state = json.dumps({"apiVersion": "v1", "kind": "List", "items": [NAMESPACE, SERVICE, *PODS, FINE]})
+    sets = [{"cidr": "10.96.0.10/32"}, {"cidr": "10.96.0.0/12", "except": ["10.96.0.10/32"]}, {"cidr": "192.168.0.2/32"}]
+    section = {"endpointSelector": {}, "egress": [{"toCIDRSet": sets}, {"toCIDR": ["10.0.0.2", "10.0.0.3/32"]}]}
+    with tempfile.NamedTemporaryFile("w", suffix=".json") as file:
+        file.write(json.dumps(policy("dns", section)))
+        file.flush()
+        cluster = Cluster(state, Filter())
+        found = Connections(Sides(cluster, None), Change(cluster, [file.name], []), OfNobody())
+    told(wrong, "what is said", [*found.unreached()], [
+        "shop/dns: the prefix 10.0.0.2/32 does nothing: it is the address of the pod shop/cart; name it by its labels",
+        "shop/dns: the prefix 10.96.0.10/32 does nothing: it is the ClusterIP of the Service shop/dns, which is a pod's address before policies are asked; name the pods by their labels",
+        "shop/dns: the prefix 192.168.0.2/32 does nothing: it is the address of the node n2; name it by the entity `host` or `remote-node`",
+    ])
+
+
 def run(check):
     wrong = []
     check(wrong)
@@ -339,5 +357,5 @@ def run(check):
 
 def checks():
     names = (faults_of_queries, other_sides_of_queries, labels_that_count, policies_that_are_not_in_force, entity_of_another_cluster)
-    names += (unread_as_the_cases_say, names_of_pods, faults_of_changes, policies_that_select_nobody)
+    names += (unread_as_the_cases_say, names_of_pods, faults_of_changes, policies_that_select_nobody, prefixes_of_what_is_inside)
     return [(f"recipes {it.__name__.replace('_', ' ')}", lambda it=it: run(it)) for it in names]

@@ -6,7 +6,7 @@ comes or goes selects its endpoint in that direction: all other rules are in for
 those endpoints are asked first, at each stretch of ports, and where one changes, the other half. Halves of one direction
 whose endpoints the same rules select have the same verdicts, so one of them is asked for all.
 """
-from . import ports
+from . import ports, regions
 
 OPPOSITE = {"ingress": "egress", "egress": "ingress"}
 
@@ -68,6 +68,15 @@ class Connections:
                 yield f"{it.name} selects nobody: no pod of the state is in the namespace {it.namespace}"
             else:
                 yield f"{it.name} selects no pod of the state"
+
+    def unreached(self):
+        """What is said of each prefix of one address that a policy which comes names, and that isn't outside the cluster."""
+        for it in self.change.new.values():
+            listed = [] if self.change.is_as_before(it) else sorted(regions.listed(entry for _, entry in it.entries()))
+            for prefix in listed:
+                whose = self.sides.whose(str(prefix.network_address)) if prefix.prefixlen == 32 else None
+                if whose:
+                    yield f"{it.name}: the prefix {prefix} does nothing: it is {whose}"
 
     def stand_in(self, asked):
         """The question that is asked in the place of this one: of the first endpoint that the same rules select."""

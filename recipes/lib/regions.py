@@ -12,14 +12,26 @@ WORLD = ipaddress.ip_network("0.0.0.0/0")
 
 
 def named(entries):
-    """The prefixes that entries name, and the world."""
+    """The prefixes that entries name, those of their exceptions too, and the world."""
     found = {WORLD}
     for entry in entries:
-        for kind in ("from", "to"):
-            found |= {prefix(it) for it in entry.get(f"{kind}CIDR") or []}
-            for it in entry.get(f"{kind}CIDRSet") or []:
-                found |= {prefix(text) for text in [it["cidr"], *(it.get("except") or [])]}
+        found |= listed([entry])
+        for it in sets(entry):
+            found |= {prefix(text) for text in it.get("except") or []}
     return found
+
+
+def listed(entries):
+    """The prefixes that are peers of entries."""
+    found = set()
+    for entry in entries:
+        alone = [it for kind in ("from", "to") for it in entry.get(f"{kind}CIDR") or []]
+        found |= {prefix(it) for it in [*alone, *(it["cidr"] for it in sets(entry))]}
+    return found
+
+
+def sets(entry):
+    return [it for kind in ("from", "to") for it in entry.get(f"{kind}CIDRSet") or []]
 
 
 def inside(whole, prefixes):

@@ -42,6 +42,16 @@ class Sides:
                 self.workloads.setdefault((pod.namespace, pod.workload), set()).add(pod.name)
                 self.namespaces.setdefault(pod.namespace, set()).add(pod.name)
 
+    def whose(self, address):
+        """Whose an address is, where it is no address outside the cluster; or None."""
+        cluster = self.cluster
+        if address in cluster.services:
+            return f"the ClusterIP of the Service {cluster.services[address]}, which is a pod's address before policies are asked; name the pods by their labels"
+        if address in cluster.nodes:
+            return f"the address of the node {cluster.nodes[address]}; name it by the entity `host` or `remote-node`"
+        pod = next((it for it in cluster.live if it.address == address), None)
+        return pod and f"the address of the pod {pod.name}; name it by its labels"
+
     def outer(self, entries):
         """What isn't a pod, as far as the entries tell it apart: each with how a query names it."""
         prefixes = regions.named(entries)
