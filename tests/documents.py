@@ -1,7 +1,8 @@
 """Checks what the documents claim, where that is cheap.
 
 Blocks of the language `console` show commands, each behind `$ `, with what they print: `commands` gives those that run
-the program as cases. Such a command ends in `./play WORDS`, which may stand behind a pipe, or is `recipes/what-if`.
+the program as cases. Such a command ends in `./play WORDS`, which may stand behind a pipe, or is `recipes/what-if`. A
+block `text stderr` has what the command before it writes to standard error.
 """
 import re
 import subprocess
@@ -34,7 +35,7 @@ class Command:
 
     def __init__(self, page, number, text, printed):
         self.name, self.text = f"command {name_of(page)}:{number}", text
-        self.printed = "".join(f"{it}\n" for it in printed).encode()
+        self.printed, self.said = "".join(f"{it}\n" for it in printed).encode(), None
         before, self.piped, last = text.rpartition("| ")
         self.before, self.is_play = before, last.startswith(PLAY)
         self.last = last.split()[1:] if self.is_play else []
@@ -62,7 +63,13 @@ class Command:
         except subprocess.TimeoutExpired:
             return [f"no end within {compare.SECONDS} seconds"]
         found = compare.difference("the answers", self.printed, ended.stdout)
-        return [*found, *compare.lines_of(ended.stderr)[-5:]] if found else []
+        said = compare.difference("what is said", self.said, of_recipes(ended.stderr)) if self.said is not None else []
+        return [*said, *found, *(compare.lines_of(ended.stderr)[-5:] if found else [])]
+
+
+def of_recipes(said):
+    """What recipes say: what ./play says depends on the build that is there."""
+    return b"".join(it for it in said.splitlines(keepends=True) if not it.startswith(b"play: "))
 
 
 def shown(page):
@@ -73,11 +80,15 @@ def shown(page):
         if text is not None:
             found.append(Command(page, number, text, printed))
 
-    inside = False
+    inside, errors = False, None
     for at, line in enumerate(page.read_text().splitlines(), 1):
         if line.startswith("```"):
+            if errors is not None:
+                found[-1].said = of_recipes("".join(errors).encode())
             end()
-            inside, text = line == "```console", None
+            inside, text, errors = line == "```console", None, [] if line == "```text stderr" else None
+        elif errors is not None:
+            errors.append(f"{line}\n")
         elif inside and line.startswith("$ "):
             end()
             number, text, printed = at, line[2:], []

@@ -18,7 +18,7 @@ from lib.cluster import Cluster  # noqa: E402
 from lib.connections import Connections  # noqa: E402
 from lib.labels import Filter  # noqa: E402
 from lib.sides import Sides  # noqa: E402
-from lib.unread import why_unread  # noqa: E402
+from lib.unread import LEFT_OUT, why_unread  # noqa: E402
 
 
 def pod(namespace, name, node, address, labels, **spec):
@@ -349,6 +349,13 @@ def prefixes_of_what_is_inside(wrong):
     ])
 
 
+def the_readme_tells_what_is_left_out(wrong):
+    """The table of README.md names each member that policyd leaves out."""
+    rows = [it for it in (compare.TOP / "README.md").read_text().splitlines() if it.startswith("|")]
+    for name in " ".join(LEFT_OUT.values()).split():
+        told(wrong, f"whether README.md tells {name}", any(f"`{name}`" in it for it in rows), True)
+
+
 def run(check):
     wrong = []
     check(wrong)
@@ -358,4 +365,5 @@ def run(check):
 def checks():
     names = (faults_of_queries, other_sides_of_queries, labels_that_count, policies_that_are_not_in_force, entity_of_another_cluster)
     names += (unread_as_the_cases_say, names_of_pods, faults_of_changes, policies_that_select_nobody, prefixes_of_what_is_inside)
+    names += (the_readme_tells_what_is_left_out,)
     return [(f"recipes {it.__name__.replace('_', ' ')}", lambda it=it: run(it)) for it in names]
