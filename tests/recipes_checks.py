@@ -3,7 +3,9 @@
 What each must say is worked out from docs/RULES.md, and from Cilium's documentation for the labels.
 """
 import json
+import os
 import pathlib
+import signal
 import subprocess
 import sys
 import tempfile
@@ -349,6 +351,37 @@ def prefixes_of_what_is_inside(wrong):
     ])
 
 
+def ends_without_a_trace(wrong):
+    """Where nobody reads what is written, and where it is interrupted."""
+    with tempfile.TemporaryDirectory() as name:
+        state, same = pathlib.Path(name) / "state.json", pathlib.Path(name) / "same.json"
+        state.write_text(json.dumps({"apiVersion": "v1", "kind": "List", "items": [NAMESPACE, *PODS, FINE]}))
+        same.write_text(json.dumps(FINE))
+        for words in (["what-if", "--state", state, "--add", same, "--format", "json"], ["from-kubectl"]):
+            told(wrong, f"{words[0]} to nobody", of_nobody(words, state), (0, False))
+    for words in (["what-if", "--state", "/dev/stdin", "--add", "none"], ["from-kubectl"]):
+        told(wrong, f"{words[0]} interrupted", interrupted(words), (130, ""))
+
+
+def of_nobody(words, given):
+    """The status where the reading end of standard output is closed, and whether Python's own words are printed."""
+    reads, writes = os.pipe()
+    os.close(reads)
+    with open(given) as file, os.fdopen(writes) as out:
+        done = subprocess.run([str(RECIPES / words[0]), *words[1:]], stdin=file, stdout=out, stderr=subprocess.PIPE, text=True)
+    return done.returncode, "BrokenPipe" in done.stderr
+
+
+def interrupted(words):
+    """The status and standard error of a recipe that is interrupted while it reads."""
+    with subprocess.Popen([str(RECIPES / words[0]), *words[1:]], stdin=subprocess.PIPE, stdout=subprocess.DEVNULL, stderr=subprocess.PIPE) as run:
+        # (a pipe holds less than this, so it is reading once all is written)
+        run.stdin.write(b" " * (1 << 20))
+        run.send_signal(signal.SIGINT)
+        said = run.communicate()[1]
+    return run.returncode, said.decode()
+
+
 def the_readme_tells_what_is_left_out(wrong):
     """The table of README.md names each member that policyd leaves out."""
     rows = [it for it in (compare.TOP / "README.md").read_text().splitlines() if it.startswith("|")]
@@ -365,5 +398,5 @@ def run(check):
 def checks():
     names = (faults_of_queries, other_sides_of_queries, labels_that_count, policies_that_are_not_in_force, entity_of_another_cluster)
     names += (unread_as_the_cases_say, names_of_pods, faults_of_changes, policies_that_select_nobody, prefixes_of_what_is_inside)
-    names += (the_readme_tells_what_is_left_out,)
+    names += (ends_without_a_trace, the_readme_tells_what_is_left_out)
     return [(f"recipes {it.__name__.replace('_', ' ')}", lambda it=it: run(it)) for it in names]
