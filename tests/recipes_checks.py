@@ -19,6 +19,7 @@ from lib.change import Change  # noqa: E402
 from lib.cluster import Cluster  # noqa: E402
 from lib.connections import Connections  # noqa: E402
 from lib.labels import Filter  # noqa: E402
+from lib.reading import Bad  # noqa: E402
 from lib.sides import Sides  # noqa: E402
 from lib.unread import LEFT_OUT, why_unread  # noqa: E402
 
@@ -289,6 +290,11 @@ def faults_of_changes(wrong):
             (["--add", fine, "--state", twice], f"{twice}: document 1, item 2: Pod shop/b: its address 10.0.0.1 is that of shop/a too"),
             (["--add", fine, "--add", fine], f"{fine}: document 1: shop/fine comes twice, and one of them alone can be meant"),
             (["--remove", "cnp/shop/fine", "--remove", "CiliumNetworkPolicy/shop/fine"], "--remove CiliumNetworkPolicy/shop/fine: shop/fine goes twice"),
+            (["--remove", "cnp/shop/l7"], "--remove cnp/shop/l7: shop/l7 isn't read: rules at spec.ingress[1].toPorts[0]. Nothing can be said of it"),
+            (
+                ["--add", written("l7.json", policy("l7", {"endpointSelector": {}, "ingress": [{}]}))],
+                f"{folder}/l7.json: document 1: in the state shop/l7 isn't read: rules at spec.ingress[1].toPorts[0]. Nothing can be said of it",
+            ),
             (["--add", fine, "--node", "n9"], "--node n9: no pod of the state is on it; there are n1, n2"),
             (["--add", fine, "--strict"], "1 of 2 policies isn't in force: shop/l7: rules at spec.ingress[1].toPorts[0]"),
         ):
@@ -332,6 +338,29 @@ def policies_that_select_nobody(wrong):
         "shpo/slip selects nobody: no pod of the state is in the namespace shpo",
         "shop/empty has no section that isn't empty, so it changes nothing",
     ])
+
+
+class Refusing:
+    """In the place of policyd: it refuses the first policy."""
+
+    def enforced_by(self, policies):
+        return [set() for _ in policies], {0: "14 unsupported news"}
+
+
+def refusals_that_were_not_foreseen(wrong):
+    """A policy that is there before and after is named; of one that comes or goes nothing can be said."""
+    state = Cluster(json.dumps({"apiVersion": "v1", "kind": "List", "items": [NAMESPACE, *PODS, FINE, policy("gone", FINE["spec"])]}), Filter())
+    for removed, wanted in (
+        (["cnp/shop/gone"], ["shop/fine isn't in force: policyd refused it: 14 unsupported news"]),
+        (["cnp/shop/fine"], "shop/fine isn't read: 14 unsupported news. Nothing can be said of it"),
+    ):
+        found = Connections(Sides(state, None), Change(state, [], removed), Refusing())
+        told(wrong, f"the rows without {removed}", list(found.find(lambda text: None)), [])
+        try:
+            said = [*found.unforeseen()]
+        except Bad as bad:
+            said = str(bad)
+        told(wrong, f"what is said without {removed}", said, wanted)
 
 
 def prefixes_of_what_is_inside(wrong):
@@ -397,6 +426,7 @@ def run(check):
 
 def checks():
     names = (faults_of_queries, other_sides_of_queries, labels_that_count, policies_that_are_not_in_force, entity_of_another_cluster)
-    names += (unread_as_the_cases_say, names_of_pods, faults_of_changes, policies_that_select_nobody, prefixes_of_what_is_inside)
+    names += (unread_as_the_cases_say, names_of_pods, faults_of_changes, policies_that_select_nobody)
+    names += (refusals_that_were_not_foreseen, prefixes_of_what_is_inside)
     names += (ends_without_a_trace, the_readme_tells_what_is_left_out)
     return [(f"recipes {it.__name__.replace('_', ' ')}", lambda it=it: run(it)) for it in names]

@@ -20,12 +20,15 @@ class Change:
             for policy in policies:
                 if policy.key in self.new:
                     raise Bad(f"{policy.place}: {policy.name} comes twice, and one of them alone can be meant")
+                if policy.key in self.before:
+                    must_be_read(self.before[policy.key], f"{policy.place}: in the state ")
                 self.new[policy.key] = policy
         self.gone = []
         for it in removed:
             policy = self.removed(it)
             if policy in self.gone:
                 raise Bad(f"--remove {it}: {policy.name} goes twice")
+            must_be_read(policy, f"--remove {it}: ")
             self.gone.append(policy)
         self.lines = [*(it.deletion() for it in self.gone), *(it.line for it in self.new.values())]
 
@@ -64,7 +67,12 @@ def policies_of(name):
             policy = Policy(place, value)
         else:
             raise Bad(f"{place}: a {kind} of {api}, and --add takes {NAMESPACED} and {CLUSTER_WIDE} of cilium.io/v2, and {network.KIND} of {network.API}")
-        why = policy.why_unread()
-        if why:
-            raise Bad(f"{place}: {policy.name} isn't read: {why[0]} at {why[1]}. Nothing can be said of it")
+        must_be_read(policy, f"{place}: ")
         yield policy
+
+
+def must_be_read(policy, front):
+    """A policy that isn't read is in force neither before nor after, so nothing of it would show."""
+    why = policy.why_unread()
+    if why:
+        raise Bad(f"{front}{policy.name} isn't read: {why[0]} at {why[1]}. Nothing can be said of it")

@@ -7,6 +7,7 @@ those endpoints are asked first, at each stretch of ports, and where one changes
 whose endpoints the same rules select have the same verdicts, so one of them is asked for all.
 """
 from . import ports, regions
+from .reading import Bad
 
 OPPOSITE = {"ingress": "egress", "egress": "ingress"}
 
@@ -55,6 +56,14 @@ class Connections:
         alike = {}
         for half in [(at, direction) for at in range(len(self.sides.sets)) for direction in OPPOSITE]:
             self.first[half] = alike.setdefault(self.selected_by(half), half)[0]
+
+    def unforeseen(self):
+        """What is said of policies that policyd refused for another reason than one that is seen beforehand."""
+        for policy, why in self.refused.items():
+            if policy in self.change.changed():
+                raise Bad(f"{policy.name} isn't read: {why}. Nothing can be said of it")
+            if not policy.why_unread():
+                yield f"{policy.name} isn't in force: policyd refused it: {why}"
 
     def idle(self):
         """What is said of each policy that comes and speaks of no pod, so that nothing of it shows."""
