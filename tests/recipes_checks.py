@@ -281,7 +281,6 @@ def faults_of_changes(wrong):
             (["--add", written("none", "")], f"{folder}/none is empty: it takes what kubectl get .. -o json prints"),
             (["--add", written("empty.json", EMPTY)], f"--add {folder}/empty.json: no policy is in it"),
             (["--add", fine, "--state", written("policies.json", FINE)], f"{folder}/policies.json: no pod is in it, so nothing can be asked about"),
-            (["--bogus"], "unrecognized arguments: --bogus"),
             (["--stat", fine], f"unrecognized arguments: --stat {fine}"),
             (["--add", f"{folder}/lost"], f"{folder}/lost: No such file or directory"),
             (["--remove", "cnp/shop/lost"], "--remove cnp/shop/lost: the state has no such policy; of its kind it has shop/fine, shop/l7"),
@@ -298,7 +297,7 @@ def faults_of_changes(wrong):
             (["--add", fine, "--node", "n9"], "--node n9: no pod of the state is on it; there are n1, n2"),
             (["--add", fine, "--strict"], "1 of 2 policies isn't in force: shop/l7: rules at spec.ingress[1].toPorts[0]"),
         ):
-            status, out, err = call("what-if", ["--state", state, *words])
+            status, out, err = call("what-if", words if "--state" in words else ["--state", state, *words])
             told(wrong, f"with {words}", (status, out, err.splitlines()[0]), (1, "", f"what-if: {what}"))
         usage = "usage: recipes/what-if --state FILE"
         for words, what in ((["--add", fine], "--state FILE is missing"), (["--bogus"], "unrecognized arguments: --bogus")):
@@ -313,6 +312,26 @@ def faults_of_changes(wrong):
         status, out, err = call("what-if", ["--state", state, "--add", fine])
         told(wrong, "where nothing changes", (status, out, err.splitlines()[-1]), (0, "", "what-if: no connection changes"))
         told(wrong, "what isn't in force", "1 of 2 policies isn't in force: shop/l7" in err, True)
+
+
+def words_that_do_not_fit(wrong):
+    """A bad word is told with the usage, before anything is read."""
+    name = "argument --cluster-name: it is 1 to 63 letters, digits, '-', '.' and '_', with a letter or digit at both ends, and not "
+    for words, what in (
+        (["--bogus"], "unrecognized arguments: --bogus"),
+        (["--node", "a", "--node", "a"], "--node stands twice"),
+        (["--cluster-name", ""], f"{name}''"),
+        (["--cluster-name", "a b"], f"{name}'a b'"),
+        (["--cluster-name", "a-"], f"{name}'a-'"),
+        (["--cluster-name", "a" * 64], f"{name}'{'a' * 64}'"),
+        (["--labels", "a", "--labels", "b"], "--labels stands twice"),
+    ):
+        for recipe, status, front in (("what-if", 1, "what-if: "), ("from-kubectl", 2, "from-kubectl: error: ")):
+            found, out, err = call(recipe, words)
+            told(wrong, f"{recipe} with {words}", (found, out, f"{front}{what}" in err.splitlines()), (status, "", True))
+            told(wrong, f"the usage of {recipe} with {words}", f"recipes/{recipe} [" in err or f"recipes/{recipe} --state FILE [" in err, True)
+    for words in (["--state", "a", "--state", "b"], ["--format", "json", "--format", "json"]):
+        told(wrong, f"with {words}", call("what-if", words)[2].splitlines()[0], f"what-if: {words[0]} stands twice")
 
 
 class OfNobody:
@@ -427,6 +446,7 @@ def run(check):
 def checks():
     names = (faults_of_queries, other_sides_of_queries, labels_that_count, policies_that_are_not_in_force, entity_of_another_cluster)
     names += (unread_as_the_cases_say, names_of_pods, faults_of_changes, policies_that_select_nobody)
+    names += (words_that_do_not_fit,)
     names += (refusals_that_were_not_foreseen, prefixes_of_what_is_inside)
     names += (ends_without_a_trace, the_readme_tells_what_is_left_out)
     return [(f"recipes {it.__name__.replace('_', ' ')}", lambda it=it: run(it)) for it in names]

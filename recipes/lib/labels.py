@@ -8,6 +8,7 @@ with `!` matches. (Cilium goes through the patterns in their order, and a match 
 import re
 
 from .reading import Bad
+from .words import Once, cluster_name
 
 # The patterns that Cilium begins with.
 DEFAULT = r"""
@@ -80,9 +81,9 @@ class Filter:
 
 def add_words(parser):
     """The words of a command that say which labels count."""
-    parser.add_argument("--cluster-name", metavar="NAME", default="default", help="the cluster's name in the pods' labels (default: default)")
+    parser.add_argument("--cluster-name", metavar="NAME", default="default", action=Once, type=cluster_name, help="the cluster's name in the pods' labels (default: default)")
     some = parser.add_mutually_exclusive_group()
-    some.add_argument("--labels", metavar="LIST", default="", help="more patterns for the label filter, as Cilium's option `labels` has them, with blanks between them")
+    some.add_argument("--labels", metavar="LIST", default="", action=Once, help="more patterns for the label filter, as Cilium's option `labels` has them, with blanks between them")
     some.add_argument("--all-labels", action="store_true", help="no label filter: every label counts")
 
 
