@@ -111,6 +111,13 @@ def other_sides_of_queries(wrong):
         status, out, _ = asked(query)
         told(wrong, f"the status at {query}", status, 0)
         told(wrong, f"the query at {query}", f",{becomes}}}" in out.splitlines()[-1], True)
+    addresses = [{"type": "Hostname", "address": "n2"}, {"type": "ExternalIP", "address": "203.0.113.9"}]
+    node = {"apiVersion": "v1", "kind": "Node", "metadata": {"name": "n2"}, "status": {"addresses": addresses}}
+    for name, number in (("n1", 1), ("n2", 6)):
+        given = [NAMESPACE, SERVICE, *PODS, {**node, "metadata": {"name": name}}]
+        told(wrong, f"a further address of {name}", f',"identity":{number}}}' in call_with_query({"address": "203.0.113.9"}, given)[1].splitlines()[-1], True)
+    bad = {**node, "status": {"addresses": ["203.0.113.9"]}}
+    told(wrong, "a bad address of a node", call("from-kubectl", [], [bad])[2], "from-kubectl: document 1, item 1: Node n2: status: addresses[0] is no object\n")
     without = call_with_query({"address": "203.0.113.9"}, [NAMESPACE, *PODS])
     told(wrong, "what is said without Services", without[2].splitlines()[-1], "from-kubectl: note: no Service is in the input, so that the ClusterIP of one would be taken for the world's")
     told(wrong, "what is said of no address", "no Service" in call_with_query({"identity": 2}, [NAMESPACE, *PODS])[2], False)

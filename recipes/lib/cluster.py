@@ -3,7 +3,7 @@ import re
 
 from . import network
 from .policies import POLICY_KINDS, Policy
-from .reading import VALUE, Bad, addresses_of, labels_of, member, name_of, objects
+from .reading import IPV4, VALUE, Bad, addresses_of, labels_of, member, name_of, objects
 
 ENDPOINTS_MOST = 256
 IDENTITIES_FROM, IDENTITIES_MOST = 256, 65_280
@@ -101,6 +101,8 @@ class Cluster:
             self.pods[pod.name] = pod
         elif (api, kind) == ("v1", "Service"):
             self.take_service(place, value)
+        elif (api, kind) == ("v1", "Node"):
+            self.take_node(place, value)
         elif api == "cilium.io/v2" and kind in POLICY_KINDS:
             self.policies.append(Policy(place, value))
         elif (api, kind) == (network.API, network.KIND):
@@ -115,6 +117,18 @@ class Cluster:
         self.has_services = True
         for it in addresses_of(f"{place}: Service {namespace}/{name}: spec", spec, "clusterIPs", "clusterIP"):
             self.services[it] = f"{namespace}/{name}"
+
+    def take_node(self, place, value):
+        """Further addresses of a node, beside those that its pods tell."""
+        _, name = name_of(place, value)
+        status = member(f"{place}: Node {name}", value, "status", dict, {})
+        place = f"{place}: Node {name}: status"
+        for number, it in enumerate(member(place, status, "addresses", list, [])):
+            if not isinstance(it, dict):
+                raise Bad(f"{place}: addresses[{number}] is no object")
+            address = member(f"{place}: addresses[{number}]", it, "address", str, "")
+            if IPV4.fullmatch(address):
+                self.nodes[address] = name
 
     def leave_out(self, reason, name):
         self.left_out.setdefault(reason, []).append(name)
