@@ -262,6 +262,7 @@ def names_of_pods(wrong):
         told(wrong, f"{[it.name for it in listed]}", sides.names(listed, other), wanted)
 
 
+NETWORK = {"apiVersion": "networking.k8s.io/v1", "kind": "NetworkPolicy", "metadata": {"name": "open", "namespace": "shop"}, "spec": {"podSelector": {}}}
 EMPTY = {"apiVersion": "v1", "kind": "List", "items": []}
 
 
@@ -291,6 +292,10 @@ def faults_of_changes(wrong):
             (["--stat", fine], f"unrecognized arguments: --stat {fine}"),
             (["--add", f"{folder}/lost"], f"{folder}/lost: No such file or directory"),
             (["--remove", "cnp/shop/lost"], "--remove cnp/shop/lost: the state has no such policy; of its kind it has shop/fine, shop/l7"),
+            (
+                ["--remove", "netpol/shop/lost", "--state", written("net.json", {"apiVersion": "v1", "kind": "List", "items": [*PODS, NETWORK]})],
+                "--remove netpol/shop/lost: the state has no such policy; of its kind it has shop/open",
+            ),
             (["--remove", "ccnp/lost"], "--remove ccnp/lost: the state has no such policy; of its kind it has none"),
             (["--remove", "pod/shop/web"], "--remove pod/shop/web: it is CiliumNetworkPolicy/NAMESPACE/NAME, CiliumClusterwideNetworkPolicy/NAME or NetworkPolicy/NAMESPACE/NAME; cnp, ccnp and netpol do for the kinds"),
             (["--add", fine, "--state", twice], f"{twice}: document 1, item 2: Pod shop/b: its address 10.0.0.1 is that of shop/a too"),

@@ -39,7 +39,7 @@ class Change:
         if kind is None or len(key) != 3:
             raise Bad(f"--remove {text}: it is {NAMESPACED}/NAMESPACE/NAME, {CLUSTER_WIDE}/NAME or {network.KIND}/NAMESPACE/NAME; cnp, ccnp and netpol do for the kinds")
         if key not in self.before:
-            names = sorted(it.name for it in self.before.values() if it.kind == kind)
+            names = sorted("/".join(it for it in key[1:] if it) for key in self.before if key[0] == kind)
             raise Bad(f"--remove {text}: the state has no such policy; of its kind it has {', '.join(names) or 'none'}")
         return self.before[key]
 
