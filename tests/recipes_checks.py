@@ -434,7 +434,10 @@ def of_nobody(words, given):
 
 def interrupted(words):
     """The status and standard error of a recipe that is interrupted while it reads."""
-    with subprocess.Popen([str(RECIPES / words[0]), *words[1:]], stdin=subprocess.PIPE, stdout=subprocess.DEVNULL, stderr=subprocess.PIPE) as run:
+    # (a shell lets what it runs in the background ignore interrupts)
+    how = {"stdin": subprocess.PIPE, "stdout": subprocess.DEVNULL, "stderr": subprocess.PIPE}
+    heeds = lambda: signal.signal(signal.SIGINT, signal.SIG_DFL)
+    with subprocess.Popen([str(RECIPES / words[0]), *words[1:]], preexec_fn=heeds, **how) as run:
         # (a pipe holds less than this, so it is reading once all is written)
         run.stdin.write(b" " * (1 << 20))
         run.send_signal(signal.SIGINT)
