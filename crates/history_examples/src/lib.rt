@@ -1,4 +1,4 @@
-//! Computed examples that hold the definitions of histories: what `pol_history` and `pol_placed` say of small histories, and
+//! Computed examples that hold the definitions of histories: what `pol_history`, `pol_placed` and `pol_sessions` say of small histories, and
 //! what they don't.
 //!
 //! Nothing stands on this crate. Each law is the contract of a function that does nothing.
@@ -8,3 +8,4 @@ pub mod growth;
 pub mod played;
 pub mod regenerations;
 pub mod steps;
+pub mod stopped;
