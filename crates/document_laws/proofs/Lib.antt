@@ -1,0 +1,13 @@
+pub mod Named
+pub mod Again
+pub mod Shapes
+pub mod Nothing
+pub mod Selecting
+pub mod Entering
+pub mod Ruling
+pub mod Policies
+pub mod Within
+pub mod Needed
+pub mod TextRead
+pub mod Writable
+pub mod Printing

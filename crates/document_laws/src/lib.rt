@@ -1,0 +1,6 @@
+//! Policies as the documents that write them, and the laws that each is read again.
+//!
+//! Nothing stands on this crate. Each law is the contract of a function that does nothing.
+#![tactic(auto)]
+
+pub mod laws;
