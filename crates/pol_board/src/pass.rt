@@ -1,5 +1,5 @@
 //! What one owner has seen and made.
-ghost use Rattle.std.specs.Prelude.{◌≡◌, ◌+◌, ◌<◌, ◌≤◌, ◌^◌, ◌++◌, ◌∷◌, [], length, OnErr};
+ghost use Rattle.std.specs.Prelude.{◌≡◌, ◌+◌, ◌<◌, ◌≤◌, ◌^◌, ◌++◌, ◌∷◌, [], ◌↔◌, length, IsErrOf, IsTrue};
 ghost use mathlib.Core.List.{IsPrefix};
 ghost use Rattle.pol_history.specs.Commits.{commits_by};
 ghost use Rattle.pol_history.specs.Grows.{PassGrows, PassGrowsWhole, nothing_yet};
@@ -111,8 +111,10 @@ impl<N: NodeName> Pass<N> {
 
     /// What the board shows of the query's endpoint, with at most 36 steps: the verdict of its last published map, at the
     /// number that the remote had at the map's revision. It is `NoEndpoint` where no endpoint of that name is live, and
-    /// `NotYet` where it has no published map. It takes no memory and waits for nobody. No clause says when it is `NoGuard`:
-    /// the body answers it where the pass has no handle, where the board gave no guard, or one of a history that the pass is ahead of, or of a map whose
+    /// `NotYet` where it has no published map. It takes no memory and waits for nobody.
+    ///
+    /// At `NoGuard` the pass is as before, and no step was taken. No clause says when that is: the body answers it where the
+    /// pass has no handle, where the board gave no guard, or one of a history that the pass is ahead of, or of a map whose
     /// change was cut off by want of memory.
     pub fn look<L: Ledger>(
         &mut self,
@@ -121,6 +123,7 @@ impl<N: NodeName> Pass<N> {
     ) -> Result<Verdict, LookError>
         ensures grows { PassGrows N.options self.old self.new [] }
         ensures answer { IsLookOf result (look N.options self.new.has.history query.now) }
+        ensures no_guard { IsErrOf result LookError.NoGuard → (self.new ≡ self.old) × (steps.new ≡ steps.old) }
         ensures forward { steps.old ≤ steps.new }
         ensures cost { steps.new ≤ steps.old + 36 }
     {
@@ -135,8 +138,23 @@ impl<N: NodeName> Pass<N> {
         };
         let _ = port_of(query);
         let found = face.look(query, steps);
+        if is_no_guard(&found) {
+            return Err(LookError::NoGuard);
+        }
         self.seen = seen;
         found
+    }
+}
+
+/// Whether nothing was told.
+fn is_no_guard(found: &Result<Verdict, LookError>) -> bool
+    ensures { IsTrue result ↔ IsErrOf found.now LookError.NoGuard }
+{
+    match found {
+        Ok(_) => false,
+        Err(LookError::NoEndpoint { revision: _ }) => false,
+        Err(LookError::NotYet { revision: _ }) => false,
+        Err(LookError::NoGuard) => true,
     }
 }
 
