@@ -1,5 +1,5 @@
 //! The calls of the node.
-ghost use Rattle.std.specs.Prelude.{◌≡◌, ◌+◌, ◌<◌, ◌≤◌, ◌∷◌, [], false, IfErr, IfOk, Ok, OnErr, OnOk, Some, drop, length, map, slice_get, true, ℕ};
+ghost use Rattle.std.specs.Prelude.{◌≡◌, ◌+◌, ◌<◌, ◌≤◌, ◌∷◌, [], false, IfErr, IfOk, IsErrOf, Ok, OnErr, OnOk, Some, drop, length, map, slice_get, true, ℕ};
 ghost use Rattle.std.specs.List.{AllByRecursion};
 ghost use Rattle.pol_model.specs.Committed.{slots_of};
 ghost use Rattle.pol_model.specs.Sizes.{IsShort};
@@ -191,7 +191,7 @@ impl<N: NodeName, R: Wait + Drop> Node<N, R> {
     }
 
     /// The verdict on a packet, by the endpoint's last published map, with at most 36 steps: `Pass::look`. It takes no
-    /// memory, and waits for nobody.
+    /// memory, and waits for nobody. At `NoGuard` the pass is as before, and no step was taken.
     pub fn verdict<L: Ledger>(
         &self,
         pass: &mut Pass<N>,
@@ -200,6 +200,7 @@ impl<N: NodeName, R: Wait + Drop> Node<N, R> {
     ) -> Result<Verdict, LookError>
         ensures grows { PassGrows N.options pass.old pass.new [] }
         ensures answer { IsLookOf result (look N.options pass.new.has.history query.now) }
+        ensures no_guard { IsErrOf result LookError.NoGuard → (pass.new ≡ pass.old) × (steps.new ≡ steps.old) }
         ensures forward { steps.old ≤ steps.new }
         ensures cost { steps.new ≤ steps.old + 36 }
     {
