@@ -5,6 +5,7 @@
 mod asked;
 mod runs;
 mod said;
+mod session;
 
 ghost use Rattle.std.specs.Prelude.{◌≡◌, ◌≤◌};
 
@@ -32,7 +33,8 @@ fn show<R: Print + AllocGlobal, L: Ledger>(rt: &R, blank: Blank) -> Result<()>
     runs::comes_again(rt, &mut machine(rt, 16384)?, &mut steps)?;
     runs::number_again(rt, &mut machine(rt, 16384)?, &mut steps)?;
     runs::denied(rt, &mut machine(rt, 16384)?, &mut steps)?;
-    runs::too_large(rt, &mut machine(rt, 3)?, &mut steps)
+    runs::too_large(rt, &mut machine(rt, 3)?, &mut steps)?;
+    session::show(rt, &mut machine(rt, 3)?, &mut steps)
 }
 
 fn main(rt: HostRuntime) -> Result<()> {

@@ -1,9 +1,9 @@
 //! Events of a machine, and what it replies.
 use anyhow::Result;
-use pol_core::{Event, Machine, Reply};
+use pol_core::{Event, Machine, Reply, Said};
 use pol_data::Steps;
 use pol_mapkey::Word;
-use pol_model::{Committed, Query, Request};
+use pol_model::{Committed, FullSlot, Query, Request};
 use std::sync::ledger::Ledger;
 
 fn word_of(word: Word) -> &'static str {
@@ -35,6 +35,30 @@ fn show<R: Print>(rt: &R, reply: Reply) -> Result<()> {
         Reply::Verdict { revision, word } => println!(rt; "{} at {revision}", word_of(word))?,
         Reply::NoEndpoint(revision) => println!(rt; "noendpoint at {revision}")?,
         Reply::NotYet(revision) => println!(rt; "notyet at {revision}")?,
+    }
+    Ok(())
+}
+
+/// Shows an answer to one session.
+pub(crate) fn show_said<R: Print>(rt: &R, said: Said) -> Result<()> {
+    match said {
+        Said::Replied(reply) => show(rt, reply),
+        Said::Synced { revision, full } => show_synced(rt, revision, full.as_slice()),
+        Said::Traced { revision, trace } => {
+            println!(rt;
+                "trace {} at {revision} remote {}",
+                word_of(trace.word),
+                trace.remote
+            )?;
+            Ok(())
+        }
+    }
+}
+
+fn show_synced<R: Print>(rt: &R, revision: u64, full: &[FullSlot]) -> Result<()> {
+    println!(rt; "synced {revision}")?;
+    for row in full {
+        println!(rt; "full {}@{}={}", row.name.as_str(), row.revision, row.count)?;
     }
     Ok(())
 }

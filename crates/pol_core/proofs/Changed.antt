@@ -1,5 +1,5 @@
 -- Rows of which one has changed, and what a slot has taken.
-use Rattle.std.proofs.Common.{◌≡◌, ◌≢◌, ℕ, ◌==◌, ◌<◌, ◌≤◌, inl, inr, Bool, true, false, cond, List, Option, Some, nat_le, option_map, refl, sym, ap, ◌∙◌, arith, bytes_eq}
+use Rattle.std.proofs.Common.{◌≡◌, ◌≢◌, ℕ, ◌==◌, ◌<◌, ◌≤◌, inl, inr, Bool, true, false, cond, List, Option, None, Some, nat_le, option_map, refl, sym, ap, ◌∙◌, arith, bytes_eq}
 use Rattle.std.specs.Cmp.Lexicographic.{bytes_decides}
 use Rattle.std.proofs.lemmas.Bool.{eqb-true}
 use Rattle.std.proofs.lemmas.Bool.Decides.{eqb_tells, nat_tests}
@@ -7,6 +7,7 @@ use Rattle.pol_history.specs.Content.{BoardRow, if_of, with_change}
 use Rattle.pol_taken.specs.declared.taken.Taken.{Taken}
 use Rattle.pol_core.specs.Parts.{TakesOf, with_slot}
 use Rattle.pol_core.specs.Rows.{RowsOf, live_held, row_held, with_one}
+use Rattle.pol_core.specs.Stands.{over_limit}
 use Rattle.pol_core.specs.declared.row.Row.{Row}
 use Rattle.pol_core.proofs.Choices.{if_mapped}
 
@@ -26,6 +27,16 @@ fits_true count many limit same fits = grind (arith, nat_tests, same, fits)
 
 pub fits_false : (count many limit : ℕ) → many ≡ count → limit < many → nat_le count limit ≡ false
 fits_false count many limit same over = grind (arith, nat_tests, same, over)
+
+-- a size is told where it is above the limit
+pub none_over : (limit count many : ℕ) {size : Option ℕ} → many ≡ count → size ≡ Some count → many ≤ limit → None ≡ over_limit (Some limit) size
+none_over limit count many same is fits =
+    sym (ap (over_limit (Some limit)) is ∙ ap (λ (b : Bool). cond b None (Some count)) (fits_true count many limit same fits))
+
+pub count_over : (limit count many : ℕ) {size : Option ℕ} → many ≡ count → size ≡ Some count → limit < many → Some many ≡ over_limit (Some limit) size
+count_over limit count many same is over =
+    ap (λ (n : ℕ). Some n) same
+    ∙ sym (ap (over_limit (Some limit)) is ∙ ap (λ (b : Bool). cond b None (Some count)) (fits_false count many limit same over))
 
 -- ---- rows of which one has changed
 

@@ -22,13 +22,13 @@ use Rattle.pol_history.specs.declared.event.HistoryEvent.TheVariants as event
 use Rattle.pol_history.specs.declared.machine.Event.TheVariants as step
 use Rattle.pol_history.specs.declared.machine.Reply.{Reply}
 use Rattle.pol_history.specs.declared.machine.Reply.TheVariants as reply
-use Rattle.pol_history.specs.Commits.{commits_in, if_added, live_endpoint, state_after, state_now}
+use Rattle.pol_history.specs.Commits.{commits_in, if_added, live_endpoint, revision_of, state_after, state_now}
 use Rattle.pol_history.specs.Content.{BoardRow, Content, content_of, numbers_in, row_blocked, row_published, with_change}
 use Rattle.pol_history.specs.Held.{ShowsRow}
 use Rattle.pol_history.specs.Machine.{Machine, Stepped, endpoint_id, is_reported, report_table, report_taken, report_unless, step_finish, step_of, with_event, with_taken}
 use Rattle.pol_history.specs.Machine as machine
 use Rattle.pol_history.specs.MachineKeeps.{IsSound}
-use Rattle.pol_history.specs.Reports.{last_report, published_before}
+use Rattle.pol_history.specs.Reports.{last_report, published_before, size_at}
 use Rattle.pol_history.proofs.Beginnings.{prefix_more, prefix_self}
 use Rattle.pol_history.proofs.Contents.{content-commits, content-more, content-rows}
 use Rattle.pol_history.proofs.Lists.{no_element}
@@ -37,7 +37,7 @@ use Rattle.pol_history.proofs.Names.{live-id}
 use Rattle.pol_history.proofs.Same.{live-parts, live-whole}
 use Rattle.pol_history.proofs.Steps.{slots_apart, step_keeps}
 use Rattle.pol_mapkey.specs.Entries.{Entry as MapEntry}
-use Rattle.pol_model.specs.PolicyMap.{policy_map}
+use Rattle.pol_model.specs.PolicyMap.{map_size, policy_map}
 use Rattle.pol_model.specs.State.{State}
 use Rattle.pol_model.specs.declared.options.Options.{Options}
 use Rattle.pol_model.specs.declared.row.Endpoint.{Endpoint}
@@ -49,9 +49,9 @@ use Rattle.pol_core.specs.Rows.{RowsOf, live_held, map_held, row_held, trie_of, 
 use Rattle.pol_core.specs.Stands.{GoesFrom, IsKeptRow, IsKeptWork, IsTakenFor, Kept, StandsFor, Steps, options_of, taken_as}
 use Rattle.pol_core.specs.declared.row.Row.{Row}
 use Rattle.pol_core.proofs.AtHistory.{at_blocked, at_publish, revision_at}
-use Rattle.pol_core.proofs.Changed.{differs_itself, equal, fits_false, fits_true, held_changed, held_same, not_equal, slot_same, with_same}
+use Rattle.pol_core.proofs.Changed.{count_over, differs_itself, equal, fits_false, fits_true, held_changed, held_same, none_over, not_equal, slot_same, with_same}
 use Rattle.pol_core.proofs.Choices.{if_either, if_mapped}
-use Rattle.pol_core.proofs.RowsKept.{row_later, rows_same, take_later}
+use Rattle.pol_core.proofs.RowsKept.{full_same, row_later, rows_same, take_later}
 use Rattle.pol_core.proofs.Tables.{has_entries, shown_few, shown_table, table_len}
 use Rattle.pol_core.proofs.Works.{IsOfTaken, live_then, made_leads, made_map, may_go, made_is, published_is, then_is, tried, tried_shown, went_shown, within}
 
@@ -300,6 +300,17 @@ module _ (k : Kept) (m : Machine) (stands : StandsFor k m) (slot : ℕ) where
         many : length (map_of made.work) ≡ length table
         many = ap (λ (t : List MapEntry). length t) map_is
 
+        -- its size is told, where it is above the limit
+        size_is : size_at options history (record { name = name; added = row.added }) taken.revision ≡ Some (length table)
+        size_is =
+            let then : State = state_after options history taken.revision in
+            ap (λ (n : ℕ). size_at options history (record { name = name; added = n }) taken.revision) own
+            ∙ ap (option_map (map_size options then)) (live_then options history k.rows slot taken for' stands.sound.legal)
+            ∙ ap (λ (e : Endpoint). Some (map_size options then e)) (sym row_is)
+
+        committed : taken.revision ≤ revision_of history
+        committed = within options history k.rows slot taken for' stands.sound.legal
+
         made_shown : made.shown ≡ published_before row.report
         made_shown = went_shown options history k.rows slot taken for' stands.sound.legal row.work made is_made.went ∙ kept_row.shown
 
@@ -354,8 +365,8 @@ module _ (k : Kept) (m : Machine) (stands : StandsFor k m) (slot : ℕ) where
           added_published : now.added ≡ row.added
           added_published = ap (λ (r : Row). r.added) publishes.row
 
-          keeps_published : IsKeptRow options (history ++ published ∷ []) name now
-          keeps_published =
+          keeps_published : length (map_of made.work) ≤ k.limit → IsKeptRow options (history ++ published ∷ []) name now
+          keeps_published fits =
               let is = published_is options history k.rows slot taken for' stands.sound.legal row.work made of_taken is_made publishes.work publishes.follows in
               let own_id : id_in publishes.work ≡ record { name = name; added = row.added } = is.1 ∙ (λ i. record { name = name; added = sym own i }) in
               row_later options history (history ++ published ∷ []) name now (prefix_more history (published ∷ []))
@@ -363,6 +374,7 @@ module _ (k : Kept) (m : Machine) (stands : StandsFor k m) (slot : ℕ) where
               (record {
                 shown = is.2;
                 work = record { follows = follows-later options for'.before history publishes.work for'.begins is.0; id = own_id };
+                full = (committed, none_over k.limit (length table) (length (map_of made.work)) many size_is fits);
               }))
 
           publish_is : is_reported taken.revision row.report ≡ false → length (map_of made.work) ≤ k.limit
@@ -378,7 +390,7 @@ module _ (k : Kept) (m : Machine) (stands : StandsFor k m) (slot : ℕ) where
             live = λ n.
                 live_changed now added_published (row_published options (commits_in history) taken.revision table (content_of options history).commits) held_published n
                 ∙ ap (λ (c : Content). c.live n) (sym (content-more options history published));
-            works = changed_works now added_published (history ++ published ∷ []) (prefix_more history (published ∷ [])) keeps_published;
+            works = changed_works now added_published (history ++ published ∷ []) (prefix_more history (published ∷ [])) (keeps_published fits);
             taken = spent_taken;
             takes = others_spent now added_published (history ++ published ∷ []) (prefix_more history (published ∷ []));
           }
@@ -401,11 +413,11 @@ module _ (k : Kept) (m : Machine) (stands : StandsFor k m) (slot : ℕ) where
                 map = option_map map_held row.map;
               })
 
-          keeps_blocked : IsKeptRow options (history ++ blocked ∷ []) name now
-          keeps_blocked =
+          keeps_blocked : k.limit < length (map_of made.work) → IsKeptRow options (history ++ blocked ∷ []) name now
+          keeps_blocked over =
               row_later options history (history ++ blocked ∷ []) name now (prefix_more history (blocked ∷ []))
               (subst (λ (r : Row). IsKeptRow options history name r) (sym now_is)
-              (record { shown = made_shown; work = record { follows = made_follows; id = made_id } }))
+              (record { shown = made_shown; work = record { follows = made_follows; id = made_id }; full = (committed, count_over k.limit (length table) (length (map_of made.work)) many size_is over) }))
 
           block_is : is_reported taken.revision row.report ≡ false → k.limit < length (map_of made.work)
               → step_of options m (step.Finish slot) ≡ (reply.Full taken.revision (length table), with_event blocked spent)
@@ -420,7 +432,7 @@ module _ (k : Kept) (m : Machine) (stands : StandsFor k m) (slot : ℕ) where
             live = λ n.
                 live_changed now added_blocked (row_blocked taken.revision (content_of options history).commits) held_blocked n
                 ∙ ap (λ (c : Content). c.live n) (sym (content-more options history blocked));
-            works = changed_works now added_blocked (history ++ blocked ∷ []) (prefix_more history (blocked ∷ [])) keeps_blocked;
+            works = changed_works now added_blocked (history ++ blocked ∷ []) (prefix_more history (blocked ∷ [])) (keeps_blocked over);
             taken = spent_taken;
             takes = others_spent now added_blocked (history ++ blocked ∷ []) (prefix_more history (blocked ∷ []));
           }
@@ -459,6 +471,7 @@ module _ (k : Kept) (m : Machine) (stands : StandsFor k m) (slot : ℕ) where
               ∙ kept_row.shown
               ∙ ap published_before (sym was.report);
           work = keeps_each now.work left_work;
+          full = full_same options history name row now was.added was.report was.full kept_row.full;
         }
 
         held_left : row_held now ≡ row_held row

@@ -13,3 +13,7 @@ pub mod Reporting
 pub mod Works
 pub mod Changed
 pub mod Finishing
+pub mod FullRows
+pub mod Led
+pub mod RowOrder
+pub mod Explained

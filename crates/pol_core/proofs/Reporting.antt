@@ -45,6 +45,7 @@ module _ (limit commits : ℕ) (taken : Taken) (old : Row) (not_reported : is_re
     report = ap (λ (r : Row). r.report) was;
     map = ap (λ (r : Row). r.map) was;
     work = inr (made, ap (λ (r : Row). r.work) was, is.went);
+    full = ap (λ (r : Row). r.full) was;
   }
 
 -- where the map was made before

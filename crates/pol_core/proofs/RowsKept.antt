@@ -1,5 +1,5 @@
 -- What rows and takes keep for a longer history.
-use Rattle.std.proofs.Common.{◌≡◌, ℕ, ◌⊎◌, inl, inr, List, Option, None, Some, IfSome, refl, sym, subst, bytes_eq}
+use Rattle.std.proofs.Common.{◌≡◌, ℕ, ◌≤◌, ◌⊎◌, inl, inr, List, Option, None, Some, IfSome, refl, sym, ap, ◌∙◌, subst, arith, bytes_eq}
 use Rattle.std.proofs.lemmas.Option.{same_Some}
 use mathlib.Core.List.{IsPrefix}
 use Rattle.pol_model.specs.declared.options.Options.{Options}
@@ -7,13 +7,16 @@ use Rattle.pol_model.specs.declared.request.Request.{Request}
 use Rattle.pol_model.specs.declared.request.Request.TheVariants.{AddEndpoint, RemoveEndpoint, AddIdentity, RemoveIdentity, Apply, Remove, SetMode}
 use Rattle.pol_follow.specs.declared.follow.Followed.{Followed}
 use Rattle.pol_follow.proofs.Keeping.{follows-later}
+use Rattle.pol_history.specs.declared.event.EndpointId.{EndpointId}
 use Rattle.pol_history.specs.declared.event.HistoryEvent.{HistoryEvent}
+use Rattle.pol_history.specs.declared.event.LastReport.{LastReport}
 use Rattle.pol_history.proofs.Beginnings.{prefix_trans}
 use Rattle.pol_history.proofs.Lists.{no_element}
+use Rattle.pol_history.proofs.Own.{revision-prefix, size-prefix}
 use Rattle.pol_taken.specs.declared.taken.Taken.{Taken}
 use Rattle.pol_core.specs.Parts.{SameTakes, TakesOf}
 use Rattle.pol_core.specs.Rows.{RowsOf, SameRows, new_row, rows_after}
-use Rattle.pol_core.specs.Stands.{GoesFrom, IsKeptRow, IsKeptWork, IsTakenFor}
+use Rattle.pol_core.specs.Stands.{GoesFrom, IsKeptRow, IsKeptWork, IsTakenFor, TellsFull, over_limit}
 use Rattle.pol_core.specs.declared.row.Row.{Row}
 use Rattle.pol_core.proofs.Choices.{if_either}
 
@@ -32,13 +35,35 @@ pub work_later : (options : Options) (old new : List HistoryEvent) (name : List 
 work_later options old new name added None begins is = tt
 work_later options old new name added (Some f) begins is = record { follows = follows-later options old new f begins is.follows; id = is.id }
 
+-- the size of a map that was reported is the same
+full_later : (options : Options) (old new : List HistoryEvent) (id : EndpointId) (report : Option LastReport) (full : Option ℕ) → IsPrefix old new
+    → TellsFull options old id report full → TellsFull options new id report full
+full_later options old new id None full begins is = is
+full_later options old new id (Some report) full begins is = (
+  (let more = revision-prefix old new begins in omega (arith, is.0, more)),
+  is.1 ∙ ap (over_limit options.map_max) (sym (size-prefix options old new id report.revision begins is.0)),
+)
+
+-- what is told of it stays so with the report
+pub full_same : (options : Options) (history : List HistoryEvent) (name : List ℕ) (row now : Row) → now.added ≡ row.added → now.report ≡ row.report
+    → now.full ≡ row.full → TellsFull options history (record { name = name; added = row.added }) row.report row.full
+    → TellsFull options history (record { name = name; added = now.added }) now.report now.full
+full_same options history name row now added report full is =
+    subst (λ (f : Option ℕ). TellsFull options history (record { name = name; added = now.added }) now.report f) (sym full)
+    (subst (λ (r : Option LastReport). TellsFull options history (record { name = name; added = now.added }) r row.full) (sym report)
+    (subst (λ (n : ℕ). TellsFull options history (record { name = name; added = n }) row.report row.full) (sym added) is))
+
 pub row_later : (options : Options) (old new : List HistoryEvent) (name : List ℕ) (row : Row) → IsPrefix old new → IsKeptRow options old name row
     → IsKeptRow options new name row
-row_later options old new name row begins is = record { shown = is.shown; work = work_later options old new name row.added row.work begins is.work }
+row_later options old new name row begins is = record {
+  shown = is.shown;
+  work = work_later options old new name row.added row.work begins is.work;
+  full = full_later options old new (record { name = name; added = row.added }) row.report row.full begins is.full;
+}
 
 -- an endpoint that has just come
 new_kept : (options : Options) (history : List HistoryEvent) (name : List ℕ) (revision : ℕ) → IsKeptRow options history name (new_row revision)
-new_kept options history name revision = record { shown = refl; work = tt }
+new_kept options history name revision = record { shown = refl; work = tt; full = refl }
 
 -- the row is one that was there before, or of an endpoint that has just come
 abbrev pub IsOldOrNew : RowsOf → List ℕ → Row → Type 0

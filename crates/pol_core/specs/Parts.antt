@@ -137,6 +137,7 @@ pub record PublishesRow (commits : ℕ) (taken : Taken) (old : Row) (made : Foll
     report = Some (record { revision = taken.revision; commits = commits; published = Some taken.revision });
     map = Some shown;
     work = Some work;
+    full = None;
   }
 
 -- the row after the map that was made was reported as too large
@@ -146,6 +147,7 @@ row_blocked commits taken old made = record {
   report = Some (record { revision = taken.revision; commits = commits; published = published_before old.report });
   map = old.map;
   work = Some made;
+  full = Some (length (map_of made.work));
 }
 
 -- the map that was made is published or reported as too large, or nothing has changed for want of memory
@@ -180,6 +182,7 @@ pub record WasLeft (taken : Taken) (old new : Row) : Type 0 where
   pub report : new.report ≡ old.report
   pub map : new.map ≡ old.map
   pub work : WasTried old.work taken new.work
+  pub full : new.full ≡ old.full
 
 abbrev pub FinishesRow : {E : Type 0} → ℕ → ℕ → Taken → Row → Row → Result Reply E → Type 0
 FinishesRow limit commits taken old new (Ok (reply.Already revision)) =

@@ -50,7 +50,7 @@ trie_of (Some shown) = shown.trie
 
 -- an endpoint without a report, of which no map was made
 abbrev pub new_row : ℕ → Row
-new_row revision = record { added = revision; report = None; map = None; work = None }
+new_row revision = record { added = revision; report = None; map = None; work = None; full = None }
 
 -- the rows after a request, which is the commit of this number
 abbrev pub rows_after : ℕ → Request → RowsOf → RowsOf

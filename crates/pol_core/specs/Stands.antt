@@ -1,5 +1,5 @@
 -- What a machine keeps, and the machine of the definitions that it stands for.
-use Rattle.std.specs.Prelude.{◌≡◌, ⊤, ℕ, ◌≤◌, ◌⊎◌, List, Option, None, Some, IfSome, Result, Ok, Err, nat_eq, option_map}
+use Rattle.std.specs.Prelude.{◌≡◌, ⊤, ℕ, ◌≤◌, ◌⊎◌, if◌then◌else◌, List, Option, None, Some, IfSome, Result, Ok, Err, nat_eq, option_map}
 use Rattle.std.specs.Arc.{arc_value}
 use Rattle.std.specs.Map.{lookup}
 use mathlib.Core.List.{IsPrefix}
@@ -8,7 +8,9 @@ use Rattle.pol_data.specs.contracts.text.TextPartialEq.TheImpl as text
 use Rattle.pol_distill.specs.Distilled.{distilled}
 use Rattle.pol_follow.specs.declared.follow.Followed.{Followed}
 use Rattle.pol_follow.specs.Followed.{Follows, id_in}
+use Rattle.pol_history.specs.declared.event.EndpointId.{EndpointId}
 use Rattle.pol_history.specs.declared.event.HistoryEvent.{HistoryEvent}
+use Rattle.pol_history.specs.declared.event.LastReport.{LastReport}
 use Rattle.pol_history.specs.declared.machine.Event.{Event}
 use Rattle.pol_history.specs.declared.machine.Event.TheVariants as step
 use Rattle.pol_history.specs.declared.machine.Reply.{Reply}
@@ -17,7 +19,7 @@ use Rattle.pol_history.specs.Content.{content_of}
 use Rattle.pol_history.specs.Machine.{Machine, endpoint_id, step_of}
 use Rattle.pol_history.specs.Machine as machine
 use Rattle.pol_history.specs.MachineKeeps.{IsSound}
-use Rattle.pol_history.specs.Reports.{published_before}
+use Rattle.pol_history.specs.Reports.{fits_limit, published_before, size_at}
 use Rattle.pol_model.specs.PolicyMap.{policy_map}
 use Rattle.pol_model.specs.Sizes.{IsShort}
 use Rattle.pol_model.specs.declared.options.Options.{Options}
@@ -73,9 +75,21 @@ abbrev pub shown_in : Option Followed → Option ℕ
 shown_in None = None
 shown_in (Some f) = f.shown
 
+-- how many entries a map has, where they are more than the limit says
+abbrev pub over_limit : Option ℕ → Option ℕ → Option ℕ
+over_limit limit None = None
+over_limit limit (Some count) = if fits_limit limit count then None else Some count
+
+-- what is kept of the size of the map that was reported last: nothing, or how many entries it has, where they are too many
+abbrev pub TellsFull : Options → List HistoryEvent → EndpointId → Option LastReport → Option ℕ → Type 0
+TellsFull options history endpoint None full = full ≡ None
+TellsFull options history endpoint (Some report) full =
+    (report.revision ≤ revision_of history) × (full ≡ over_limit options.map_max (size_at options history endpoint report.revision))
+
 pub record IsKeptRow (options : Options) (history : List HistoryEvent) (name : List ℕ) (row : Row) : Type 0 where
   pub shown : shown_in row.work ≡ published_before row.report
   pub work : IfSome row.work (IsKeptWork options history name row.added)
+  pub full : TellsFull options history (record { name = name; added = row.added }) row.report row.full
 
 -- ---- what was taken
 

@@ -31,6 +31,7 @@ fn add_row(alloc: Global, rows: &mut Rows, name: &Text, revision: u64) -> Result
             report: None,
             map: None,
             work: None,
+            full: None,
         },
     )?;
     Ok(())

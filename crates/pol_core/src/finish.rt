@@ -110,14 +110,15 @@ fn publish(alloc: Global, row: &mut Row, commits: u64, taken: &Taken) -> Result<
                 commits,
                 published: Some(taken.revision),
             });
+            row.full = None;
             Ok(())
         }
     }
 }
 
-/// Notes that the map at the revision is too large, after so many commits. It takes no memory.
-fn block(row: &mut Row, commits: u64, revision: u64)
-    ensures { row.new ≡ record row.old { report = Some (record { revision = revision; commits = commits; published = published_before row.old.report }) } }
+/// Notes that the map at the revision has so many entries, which are too many, after so many commits. It takes no memory.
+fn block(row: &mut Row, commits: u64, revision: u64, count: u64)
+    ensures { row.new ≡ record row.old { report = Some (record { revision = revision; commits = commits; published = published_before row.old.report }); full = Some count } }
 {
     let published = published(row.report);
     row.report = Some(LastReport {
@@ -125,6 +126,7 @@ fn block(row: &mut Row, commits: u64, revision: u64)
         commits,
         published,
     });
+    row.full = Some(count);
 }
 
 /// How many entries the map that was made has.
@@ -156,7 +158,7 @@ fn report(
         publish(alloc, row, commits, taken)?;
         return Ok(Reply::Published(taken.revision));
     }
-    block(row, commits, taken.revision);
+    block(row, commits, taken.revision, count);
     Ok(Reply::Full {
         revision: taken.revision,
         count,

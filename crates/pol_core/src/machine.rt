@@ -1,19 +1,25 @@
 //! The machine.
-ghost use Rattle.std.specs.Prelude.{◌≡◌, ◌+◌, ◌≤◌, IfOk, Some, false};
+ghost use Rattle.std.specs.Prelude.{◌≡◌, ◌+◌, ◌≤◌, IfOk, None, Some, false};
 ghost use Rattle.pol_history.specs.Commits.{commits_in};
 ghost use Rattle.pol_history.specs.declared.machine.Event.TheVariants as step;
-ghost use Rattle.pol_history.specs.Machine.{Machine as OneMachine, machine_start, step_of};
+ghost use Rattle.pol_history.specs.Machine.{Machine as OneMachine, machine_from, machine_start, step_of};
 ghost use Rattle.pol_model.specs.Sizes.{IsShort};
+ghost use Rattle.pol_repo.specs.Cost.{label_peers};
+ghost use Rattle.pol_repo.specs.Repository.{state_in};
+ghost use Rattle.pol_requests.specs.Readied.{is_of_policy};
+ghost use Rattle.pol_core.specs.Cost.{Costs};
+ghost use Rattle.pol_core.specs.Serial.{LedTo, ListsRows, turn_of, turns_at, turns_in};
 ghost use Rattle.pol_core.specs.Stands.{IsGiven, Stands, StepsTo, options_in};
 
 use crate::commit::commit;
 use crate::finish::finish;
+use crate::full::{full_rows, slots_of};
 use crate::row::{Rows, look};
 use crate::take::{Takes, take};
 use indexmap::IndexMap;
 use pol_data::{Memory, Steps};
 use pol_history::{Event, Reply};
-use pol_model::{Mode, Query, Request};
+use pol_model::{FullList, Mode, Query, Request};
 use pol_repo::Repo;
 use std::alloc::Global;
 use std::marker::Model;
@@ -76,6 +82,7 @@ impl Machine {
     pub fn repo(&self) -> &Repo
         ensures repo { result.now ≡ self.now.repo }
         ensures commits { (m : OneMachine) → Stands self.now m → result.now.journal ≡ commits_in m.history }
+        ensures idle { result.now.prepared ≡ None }
     {
         &self.repo
     }
@@ -85,6 +92,7 @@ impl Machine {
         requires short { IsShort request }
         ensures options { options_in self.new ≡ options_in self.old }
         ensures step { (m : OneMachine) → Stands self.old m → StepsTo (options_in self.old) m (step.Commit request) self.new result }
+        ensures cost { is_of_policy request ≡ false → steps.new ≤ steps.old + label_peers (state_in self.old.repo).policies }
     {
         commit(self.alloc, &mut self.repo, &mut self.rows, request, steps)
     }
@@ -125,17 +133,80 @@ impl Machine {
     }
 
     /// The machine does the event, and replies as the definition says. The one error is want of memory, and then the machine
-    /// is as before, though maps may have been made that it keeps.
+    /// is as before, though maps may have been made that it keeps. A step of the counter is a match of a label peer, or a node of
+    /// a map that a look-up visits.
     pub fn step<L: Ledger>(&mut self, event: Event, steps: &mut Steps<L>) -> Result<Reply, Memory>
         requires given { IsGiven event }
         ensures options { options_in self.new ≡ options_in self.old }
         ensures step { (m : OneMachine) → Stands self.old m → StepsTo (options_in self.old) m event self.new result }
+        ensures cost { Costs (state_in self.old.repo) event steps.old steps.new }
     {
         match event {
             Event::Commit(request) => self.commit(request, steps),
             Event::Take(slot) => self.take(slot),
             Event::Finish(slot) => self.finish(slot),
             Event::Look(query) => Ok(self.look(&query, steps)),
+        }
+    }
+
+    /// The slot's endpoint is taken, and what was taken is finished.
+    fn turn(&mut self, slot: u32) -> Result<Reply, Memory>
+        ensures options { options_in self.new ≡ options_in self.old }
+        ensures led { (m : OneMachine) → Stands self.old m → LedTo (options_in self.old) m (turn_of slot) self.new result }
+    {
+        match self.take(slot) {
+            Ok(_) => self.finish(slot),
+            Err(_) => Err(Memory),
+        }
+    }
+
+    /// The same for each of these slots, one after another.
+    fn turns(&mut self, slots: &[u32]) -> Result<(), Memory>
+        ensures options { options_in self.new ≡ options_in self.old }
+        ensures led { (m : OneMachine) → Stands self.old m → LedTo (options_in self.old) m (turns_at slots.now) self.new result }
+    {
+        for slot in slots {
+            match self.turn(*slot) {
+                Ok(_) => {}
+                Err(_) => return Err(Memory),
+            }
+        }
+        Ok(())
+    }
+
+    /// The rows of the live endpoints whose maps, where they were reported last, are too large.
+    fn full(&self) -> Result<FullList, Memory>
+        ensures { (m : OneMachine) → Stands self.now m → IfOk result (ListsRows (options_in self.now) m.history) }
+    {
+        full_rows(self.alloc, &self.rows, self.repo.endpoints())
+    }
+
+    /// These slots are taken and finished, and the rows told.
+    fn sync_at(&mut self, slots: &[u32]) -> Result<FullList, Memory>
+        ensures options { options_in self.new ≡ options_in self.old }
+        ensures led { (m : OneMachine) → Stands self.old m → LedTo (options_in self.old) m (turns_at slots.now) self.new result }
+        ensures full { (m : OneMachine) → Stands self.old m
+            → IfOk result (ListsRows (options_in self.old) (machine_from (options_in self.old) m (turns_at slots.now)).history) }
+    {
+        match self.turns(slots) {
+            Ok(_) => self.full(),
+            Err(_) => Err(Memory),
+        }
+    }
+
+    /// The slot of each live endpoint is taken and finished, in the order of the slots. The rows are of the live endpoints
+    /// whose maps are too large, also where that was reported before, by name and then revision ('profile').
+    ///
+    /// The one error is want of memory. Then some slots were finished, from the first on.
+    pub fn sync(&mut self) -> Result<FullList, Memory>
+        ensures options { options_in self.new ≡ options_in self.old }
+        ensures led { (m : OneMachine) → Stands self.old m → LedTo (options_in self.old) m (turns_in (options_in self.old) m.history) self.new result }
+        ensures full { (m : OneMachine) → Stands self.old m
+            → IfOk result (ListsRows (options_in self.old) (machine_from (options_in self.old) m (turns_in (options_in self.old) m.history)).history) }
+    {
+        match slots_of(self.alloc, self.repo().endpoints()) {
+            Ok(slots) => self.sync_at(slots.as_slice()),
+            Err(_) => Err(Memory),
         }
     }
 }

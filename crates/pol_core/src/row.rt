@@ -38,6 +38,8 @@ pub struct Row {
     pub map: Option<Shown>,
     /// The map that was made of it last, with what it is made of.
     pub work: Option<Followed>,
+    /// How many entries the map has that was reported last, where it was too large.
+    pub full: Option<u64>,
 }
 
 /// The live endpoints, by name.
