@@ -31,15 +31,27 @@ pub struct MapText {
     pub live: bool,
 }
 
-/// The map of the endpoint of that name, or that none is live after so many commits.
-pub(crate) fn map_of(alloc: Global, repo: &Repo, name: &str) -> Result<MapText, Memory>
-    requires { repo.now.prepared ≡ None }
-    ensures text { IfOk result (λ map. map.text.items ≡ map_text_in repo.now.options (state_in repo.now) (endpoint_of name.now (state_in repo.now).endpoints)) }
-    ensures live { IfOk result (λ map. map.live ≡ is_some (endpoint_of name.now (state_in repo.now).endpoints)) }
+/// The endpoint of that name, if one is live.
+fn endpoint_of(alloc: Global, repo: &Repo, name: &str) -> Result<Option<Endpoint>, Memory>
+    requires idle { repo.now.prepared ≡ None }
+    ensures found { IfOk result (λ found. found ≡ endpoint_of name.now (state_in repo.now).endpoints) }
 {
     match repo.endpoint(name) {
+        Some(endpoint) => Ok(Some(endpoint.copy(alloc)?)),
+        None => Ok(None),
+    }
+}
+
+/// The map of the endpoint of that name, or that none is live after so many commits.
+pub(crate) fn map_of(alloc: Global, repo: &mut Repo, name: &str) -> Result<MapText, Memory>
+    requires { repo.old.prepared ≡ None }
+    ensures text { IfOk result (λ map. map.text.items ≡ map_text_in repo.old.options (state_in repo.old) (endpoint_of name.now (state_in repo.old).endpoints)) }
+    ensures live { IfOk result (λ map. map.live ≡ is_some (endpoint_of name.now (state_in repo.old).endpoints)) }
+{
+    let found = endpoint_of(alloc, repo, name)?;
+    match found {
         None => no_map(alloc, repo.revision()),
-        Some(endpoint) => map_in_slot(alloc, repo, endpoint),
+        Some(endpoint) => map_in_slot(alloc, repo, &endpoint),
     }
 }
 
@@ -53,10 +65,10 @@ fn no_map(alloc: Global, revision: u64) -> Result<MapText, Memory>
 }
 
 /// The table of the map of an endpoint that is live in its slot.
-fn map_in_slot(alloc: Global, repo: &Repo, endpoint: &Endpoint) -> Result<MapText, Memory>
-    requires idle { repo.now.prepared ≡ None }
-    requires slot { endpoint_in endpoint.now.slot (state_in repo.now).endpoints ≡ Some endpoint.now }
-    ensures text { IfOk result (λ map. map.text.items ≡ table_text (policy_map repo.now.options (state_in repo.now) endpoint.now)) }
+fn map_in_slot(alloc: Global, repo: &mut Repo, endpoint: &Endpoint) -> Result<MapText, Memory>
+    requires idle { repo.old.prepared ≡ None }
+    requires slot { endpoint_in endpoint.now.slot (state_in repo.old).endpoints ≡ Some endpoint.now }
+    ensures text { IfOk result (λ map. map.text.items ≡ table_text (policy_map repo.old.options (state_in repo.old) endpoint.now)) }
     ensures live { IfOk result (λ map. map.live ≡ true) }
 {
     match repo.take(alloc, endpoint.slot, None) {

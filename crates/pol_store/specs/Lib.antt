@@ -1,3 +1,4 @@
 pub mod Store
 pub mod Parts
 pub mod PolicyParts
+pub mod Inside

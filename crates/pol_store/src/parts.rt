@@ -37,6 +37,7 @@ impl Store {
         ensures mode { self.new ≡ record self.old { state = record self.old.state { mode = mode } } }
     {
         self.mode = mode;
+        self.kept.forget_all();
     }
 
     /// The revision of the next request.
@@ -131,6 +132,8 @@ impl Store {
         requires not_local { is_local number ≡ false }
         ensures released { self.new ≡ with_numbers (record (numbers_of self.old) { rows = released number self.old.state.identities }) self.old }
     {
+        // The call tells that the rows fit together.
+        let _rows = self.numbers.identities();
         self.numbers.release(number);
     }
 
@@ -145,6 +148,7 @@ impl Store {
         ensures placed { self.new ≡ record self.old { state = record self.old.state { endpoints = placed_by (λ endpoint. endpoint.slot) endpoint self.old.state.endpoints }; rooms = self.new.rooms } }
     {
         self.endpoints.place(endpoint, name);
+        self.addresses = None;
     }
 
     /// The row of the endpoint of that name goes.
@@ -152,6 +156,7 @@ impl Store {
         ensures gone { self.new ≡ record self.old { state = record self.old.state { endpoints = without_endpoint name.now self.old.state.endpoints }; rooms = self.new.rooms } }
     {
         self.endpoints.remove(name);
+        self.addresses = None;
     }
 
     /// The row of a new named identity is placed.

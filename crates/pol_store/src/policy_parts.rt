@@ -97,6 +97,7 @@ impl Store {
         ensures err { OnErr result (self.new ≡ self.old) }
         ensures exhausted { IsErrOf result IdentError.Exhausted ↔ (MOST < locals_held self.old.state.identities + locals_wanted self.old.state.identities taken.now) }
     {
+        self.addresses = None;
         self.numbers
             .hold_prefixes(self.revision + 1, taken, given_up, steps)
     }
@@ -114,6 +115,7 @@ impl Store {
         ensures plan { IfOk result (λ plan. Readies (self.old.state.revision + 1) (prefixes_released given_up.now self.old.state.identities) self.new.cache plan) }
         ensures same { self.new ≡ with_cache (with_room self.new.cache.log.spare self.old.cache) self.old }
     {
+        self.addresses = None;
         self.numbers
             .plan_prefixes(self.revision + 1, given_up, steps)
     }
@@ -122,6 +124,7 @@ impl Store {
     pub fn release_prefixes(&mut self, prefixes: &[Prefix])
         ensures rows { self.new ≡ with_rows (prefixes_released prefixes.now self.old.state.identities) self.old }
     {
+        self.addresses = None;
         self.numbers.release_prefixes(prefixes);
     }
 
@@ -133,7 +136,10 @@ impl Store {
         ensures same { self.new ≡ with_rooms self.new.rooms (with_policies (applied new self.old.state.policies) self.old) }
         ensures replaced { result ≡ policy_at new.policy.key self.old.state.policies }
     {
-        self.policies.put(new, key)
+        self.kept.forget_selected(&new.policy);
+        let old = self.policies.put(new, key);
+        self.kept.forget_old(&old);
+        old
     }
 
     /// Takes out the policy of that key, and gives it back.
@@ -141,6 +147,8 @@ impl Store {
         ensures same { self.new ≡ with_rooms self.new.rooms (with_policies (removed key.now self.old.state.policies) self.old) }
         ensures removed { result ≡ policy_at key.now self.old.state.policies }
     {
-        self.policies.remove(key)
+        let old = self.policies.remove(key);
+        self.kept.forget_old(&old);
+        old
     }
 }

@@ -11,12 +11,15 @@ ghost use Rattle.pol_store.specs.Store.{StandsFor};
 
 use pol_data::Memory;
 use pol_ident::Identities;
+use pol_kept::KeptFilters;
 use pol_model::{Endpoint, Mode, Stamped};
 use pol_numbers::Numbers;
 use pol_selcache::SelectorCache;
 use pol_tables::{Endpoints, Named, Policies};
+use pol_taken::Addresses;
 use std::alloc::Global;
 use std::marker::Model;
+use std::sync::Arc;
 
 /// The state of the policy core under its indexes, with the sets of the selectors that its policies list. Contracts see
 /// the rows and the selectors (`specs/Store`).
@@ -29,6 +32,10 @@ pub struct Store {
     pub(crate) named: Named,
     pub(crate) policies: Policies,
     pub(crate) numbers: Numbers,
+    // The filters that were taken for the endpoint of each slot. What a policy or the mode changes is forgotten.
+    pub(crate) kept: KeptFilters,
+    // What each address is. None where endpoints or prefixes changed since it was made.
+    pub(crate) addresses: Option<Arc<Addresses>>,
 }
 
 impl Model for Store {
@@ -38,6 +45,8 @@ impl Model for Store {
 
     ghost use Rattle.std.specs.List.{AllByRecursion};
     ghost use Rattle.pol_model.specs.Sizes.{IsShortPolicy};
+    ghost use Rattle.pol_kept.specs.Kept.{AreKeptOf, KeysDiffer};
+    ghost use Rattle.pol_store.specs.Inside.{Told};
 
     ghost view = { λ store. record {
       state = record {
@@ -52,7 +61,10 @@ impl Model for Store {
       rooms = record { endpoints = store.endpoints.room; named = store.named.room; policies = store.policies.room };
     } };
 
-    ghost invariant = { λ store. AllByRecursion (λ stamped. IsShortPolicy stamped.policy) store.policies.list };
+    ghost invariant = { λ store. AllByRecursion (λ stamped. IsShortPolicy stamped.policy) store.policies.list
+        × KeysDiffer store.policies.list
+        × AreKeptOf store.policies.list store.mode store.kept
+        × Told store.endpoints.list store.numbers.rows store.addresses };
 }
 
 impl Store {
@@ -69,6 +81,8 @@ impl Store {
             named: Named::new(alloc),
             policies: Policies::new(alloc),
             numbers: Numbers::new(alloc)?,
+            kept: KeptFilters::new(alloc),
+            addresses: None,
         })
     }
 

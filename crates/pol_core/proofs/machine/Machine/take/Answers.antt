@@ -1,9 +1,9 @@
-use Rattle.std.proofs.Common.{subst}
+use Rattle.std.proofs.Common.{subst, sym}
 use Rattle.pol_history.specs.declared.machine.Event.TheVariants as step
 use Rattle.pol_history.specs.Machine.{Machine, endpoint_in}
-use Rattle.pol_repo.specs.Repository.{state_in}
+use Rattle.pol_repo.specs.Repository.{Repository, state_in}
 use Rattle.pol_core.specs.Parts.{by_slot}
-use Rattle.pol_core.specs.Stands.{Kept, Stands, StepsTo, Stored, kept_of, options_in, options_of}
+use Rattle.pol_core.specs.Stands.{Kept, Stands, StandsForSome, StepsTo, Stored, kept_of, options_in, options_of}
 use Rattle.pol_core.proofs.Begun.{stands_after}
 use Rattle.pol_core.proofs.Taking.{since_within, take_steps}
 use Rattle.pol_core.proofs.machine.Machine.take.Goals as goal
@@ -18,14 +18,16 @@ pub invariant_of-self : goal.invariant_of-self
 invariant_of-self c =
     let i = c.self.inside in
     let k : Kept = kept_of (record { limit = i.limit; repo = i.repo; rows = i.rows.entries; takes = i.takes.entries }) in
-    stands_after (options_of k) c.self.invariant.machine (step.Take c.args.slot)
+    subst (λ (r : Repository). StandsForSome (kept_of (record { limit = i.limit; repo = r; rows = i.rows.entries; takes = c.take.new.takes.entries }))) (sym c.take.ensures.same)
+    (stands_after (options_of k) c.self.invariant.machine (step.Take c.args.slot)
     (kept_of (record { limit = i.limit; repo = i.repo; rows = i.rows.entries; takes = c.take.new.takes.entries })) c.take.result
-    (take_steps k c.self.invariant.machine c.self.invariant.stands c.args.slot (by_slot c.take.new.takes) c.take.result c.take.ensures)
+    (take_steps k c.self.invariant.machine c.self.invariant.stands c.args.slot (by_slot c.take.new.takes) c.take.result c.take.ensures.taken))
 
 pub returns-clause-step : goal.returns-clause-step
 returns-clause-step c =
     let i = c.self.inside in
     let k : Kept = kept_of (record { limit = i.limit; repo = i.repo; rows = i.rows.entries; takes = i.takes.entries }) in
-    let new : Stored = record { limit = i.limit; repo = i.repo; rows = i.rows.entries; takes = c.take.new.takes.entries } in
-    subst (λ (s : Stored). (m : Machine) → Stands s m → StepsTo (options_in s) m (step.Take c.args.slot) new c.take.result) c.self.view_is
-    (λ m stands. take_steps k m stands c.args.slot (by_slot c.take.new.takes) c.take.result c.take.ensures)
+    let new : Repository → Stored = λ repo. record { limit = i.limit; repo = repo; rows = i.rows.entries; takes = c.take.new.takes.entries } in
+    subst (λ (s : Stored). (m : Machine) → Stands s m → StepsTo (options_in s) m (step.Take c.args.slot) (new c.take.new.repo) c.take.result) c.self.view_is
+    (subst (λ (r : Repository). (m : Machine) → Stands (record { limit = i.limit; repo = i.repo; rows = i.rows.entries; takes = i.takes.entries }) m → StepsTo (options_of k) m (step.Take c.args.slot) (new r) c.take.result)
+    (sym c.take.ensures.same) (λ m stands. take_steps k m stands c.args.slot (by_slot c.take.new.takes) c.take.result c.take.ensures.taken))

@@ -9,3 +9,11 @@ pub returns-clause-exhausted : goal.returns-clause-exhausted
 returns-clause-exhausted g c =
     subst (λ (t : Stored). IsErrOf c.hold_prefixes.result Exhausted ↔ (LOCAL_IDENTITIES < locals_held t.state.identities + locals_wanted t.state.identities c.args.taken.now))
     c.self.view_is c.hold_prefixes.ensures.exhausted
+
+pub invariant_of-self : goal.invariant_of-self
+invariant_of-self g c = (
+  c.self.invariant.0,
+  c.self.invariant.1,
+  c.self.invariant.2,
+  tt,
+)

@@ -3,6 +3,7 @@ use Rattle.pol_selcache.specs.Live.{AreExact}
 use Rattle.pol_peers.specs.Listed.{listed_peers}
 use Rattle.pol_peers.specs.References.{HasRefs}
 use Rattle.pol_store.specs.Store.{Stored}
+use Rattle.pol_store.proofs.Kept.{told_still}
 use Rattle.pol_store.proofs.store.Store.unrefer.Goals as goal
 
 pub unrefer-requires : goal.unrefer-requires
@@ -12,3 +13,11 @@ unrefer-requires c = record {
 
 pub returns-clause-exact : goal.returns-clause-exact
 returns-clause-exact c = λ rows exact. c.unrefer.ensures.exact rows (subst (λ (t : Stored). AreExact rows t.cache.live) (sym c.self.view_is) exact)
+
+pub invariant_of-self : goal.invariant_of-self
+invariant_of-self c = (
+  c.self.invariant.0,
+  c.self.invariant.1,
+  c.self.invariant.2,
+  told_still c.self.inside.endpoints.list c.self.inside.numbers.rows c.unrefer.new.self.rows c.self.inside.addresses c.unrefer.ensures.rows c.self.invariant.3,
+)
