@@ -1,3 +1,4 @@
+pub mod Again
 pub mod AtHistory
 pub mod FewSlots
 pub mod Following

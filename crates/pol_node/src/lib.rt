@@ -6,6 +6,7 @@
 #![tactic(auto)]
 
 mod desk;
+mod last;
 mod node;
 mod report;
 mod rows;

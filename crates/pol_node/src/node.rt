@@ -1,5 +1,7 @@
 //! The calls of the node.
-ghost use Rattle.std.specs.Prelude.{◌≡◌, ◌+◌, ◌<◌, ◌≤◌, ◌∷◌, [], false, IfErr, IfOk, IsErrOf, Ok, OnErr, OnOk, Some, drop, length, map, slice_get, true, ℕ};
+ghost use Rattle.std.specs.Prelude.{◌≡◌, ◌+◌, ◌<◌, ◌≤◌, ◌∷◌, [], false, IfErr, IfOk, IsErrOf, List, Ok, OnErr, OnOk, Some, drop, length, map, slice_get, true, ℕ};
+ghost use mathlib.Core.List.{IsPrefix};
+ghost use Rattle.pol_history.specs.declared.event.HistoryEvent.{HistoryEvent as OneEvent};
 ghost use Rattle.std.specs.List.{AllByRecursion};
 ghost use Rattle.pol_model.specs.Committed.{slots_of};
 ghost use Rattle.pol_model.specs.Sizes.{IsShort};
@@ -17,6 +19,7 @@ ghost use Rattle.pol_face.specs.Answers.{IsLookOf};
 ghost use Rattle.pol_node.specs.Desk.{IsCauseOf, IsNotTraced};
 
 use crate::desk::Desk;
+use crate::last::{LastSync, keep, told_last};
 use crate::report::{Config, Regen, SyncReport, TraceError, Traced};
 use crate::rows::rows_in;
 use crate::slot::Slot;
@@ -39,6 +42,7 @@ where
 {
     desk: Mutex<Desk<N, R>>,
     slots: Vec<Mutex<Slot<N>>>,
+    last: Mutex<Option<LastSync<N>>>,
     ghost all: { length slots.items ≡ 256 },
 }
 
@@ -112,6 +116,35 @@ fn turns_of<N: NodeName, W: Wait, R: Wait + Drop>(
     Ok(turns)
 }
 
+/// The turns of all slots in use, where the revision is that of what the pass has seen; and all that is shown to the pass. It
+/// tells what a sync tells that began at any moment before, and keeps that for the next one, where no commit came meanwhile.
+fn sync_slots<N: NodeName, W: Wait, R: Wait + Drop>(
+    rt: &W,
+    alloc: Global,
+    desk: &Mutex<Desk<N, R>>,
+    slots: &[Mutex<Slot<N>>],
+    last: &Mutex<Option<LastSync<N>>>,
+    pass: &mut Pass<N>,
+    revision: u64,
+) -> Result<SyncReport, Memory>
+    requires few { length slots.now ≤ 256 }
+    requires all { slots_of (state_now N.options pass.old.has.history).endpoints ≤ length slots.now }
+    requires legal { IsLegal N.options pass.old.has.history }
+    requires revision { revision ≡ revision_of pass.old.has.history }
+    ensures grows { PassGrows N.options pass.old pass.new [] }
+    ensures whole { OnOk result (PassGrowsWhole N.options pass.old pass.new []) }
+    ensures synced { IfOk result (λ report. (first : List OneEvent) → IsPrefix first pass.old.has.history
+        → IsSynced N.options first pass.new.has.history report.revision report.full) }
+{
+    let then = pass.seen();
+    let turns = turns_of(rt, alloc, desk, slots, pass)?;
+    let full = rows_in(alloc, turns)?;
+    let (now, _) = show(rt, desk, pass);
+    let report = SyncReport { revision, full };
+    keep(rt, alloc, last, pass, &then, &report, now);
+    Ok(report)
+}
+
 impl<N: NodeName, R: Wait + Drop> Node<N, R> {
     /// A node over the writer and the places of a new board: one for each of 256 slots, one of the writer, and the last
     /// ones, which are handed out. Where it is refused it has closed the writer.
@@ -151,7 +184,8 @@ impl<N: NodeName, R: Wait + Drop> Node<N, R> {
             }
         };
         let desk = Mutex::new(Desk::open(repo, writer, config.map_max));
-        Ok((Node { desk, slots }, passes))
+        let last = Mutex::new(None);
+        Ok((Node { desk, slots, last }, passes))
     }
 
     /// Ends it, and the writer of its board. It takes no memory.
@@ -159,6 +193,7 @@ impl<N: NodeName, R: Wait + Drop> Node<N, R> {
         let Node {
             desk,
             slots: _slots,
+            last: _last,
         } = self;
         desk.into_inner().close(rt);
     }
@@ -243,7 +278,8 @@ impl<N: NodeName, R: Wait + Drop> Node<N, R> {
         }
     }
 
-    /// Brings the map of every live endpoint up to date, and shows all that to the pass.
+    /// Brings the map of every live endpoint up to date, and shows all that to the pass. Where nothing has happened since the
+    /// last sync, it tells what that told, and asks no slot.
     ///
     /// `Memory` is want of memory: some slots may have been reported, and the board's writer may be spent.
     pub fn sync<W: Wait>(
@@ -257,11 +293,12 @@ impl<N: NodeName, R: Wait + Drop> Node<N, R> {
         ensures synced { IfOk result (λ report. IsSynced N.options pass.old.has.history pass.new.has.history report.revision report.full) }
     {
         let (revision, used) = show(rt, &self.desk, pass);
+        let told = told_last(rt, alloc, &self.last, pass)?;
+        if let Some(report) = told {
+            return Ok(report);
+        }
         let slots = &self.slots[..used as usize];
-        let turns = turns_of(rt, alloc, &self.desk, slots, pass)?;
-        let full = rows_in(alloc, turns)?;
-        show(rt, &self.desk, pass);
-        Ok(SyncReport { revision, full })
+        sync_slots(rt, alloc, &self.desk, slots, &self.last, pass, revision)
     }
 
     /// Shows one history to all: they have met.

@@ -1,6 +1,10 @@
 //! What calls of the node answer.
+ghost use Rattle.std.specs.Prelude.{◌≡◌, IfOk};
+
+use crate::rows::rows_copy;
 use pol_data::Memory;
 use pol_model::{FullList, Mode, Trace};
+use std::alloc::Global;
 
 /// How a node is made.
 #[derive(Clone, Copy, Debug)]
@@ -56,6 +60,18 @@ pub struct SyncReport {
     pub revision: u64,
     /// The maps that are too large, by name and then revision.
     pub full: FullList,
+}
+
+impl SyncReport {
+    /// The same, in memory of its own. The one error is want of memory.
+    pub(crate) fn copy(&self, alloc: Global) -> Result<SyncReport, Memory>
+        ensures { IfOk result (λ copy. copy ≡ self.now) }
+    {
+        Ok(SyncReport {
+            revision: self.revision,
+            full: rows_copy(alloc, self.full.as_slice())?,
+        })
+    }
 }
 
 /// An explanation, at this revision.

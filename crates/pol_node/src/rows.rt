@@ -43,3 +43,25 @@ pub(crate) fn rows_in(alloc: Global, turns: Vec<SlotTurn>) -> Result<FullList, M
     rows.sort_by(row_cmp)?;
     Ok(Items::from_vec(rows))
 }
+
+// The same row.
+fn row_copy(alloc: Global, row: &FullSlot) -> Result<FullSlot, Memory>
+    ensures { IfOk result (λ copy. copy ≡ row.now) }
+{
+    Ok(FullSlot {
+        name: row.name.copy(alloc)?,
+        revision: row.revision,
+        count: row.count,
+    })
+}
+
+/// The same rows.
+pub(crate) fn rows_copy(alloc: Global, rows: &[FullSlot]) -> Result<FullList, Memory>
+    ensures { IfOk result (λ copies. copies ≡ rows.now) }
+{
+    let mut copies = Vec::with_capacity(alloc, rows.len())?;
+    for row in rows {
+        copies.push(row_copy(alloc, row)?)?;
+    }
+    Ok(Items::from_vec(copies))
+}
