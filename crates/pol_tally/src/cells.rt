@@ -6,15 +6,19 @@ ghost use Rattle.pol_tally.specs.Cells.{cell_in, lowered, no_cell, on, raised, s
 use pol_data::Memory;
 use pol_mapkey::MapKey;
 use std::collections::BTreeMap;
+use std::mem::size_of;
 
 /// How often a key is given.
 #[derive(Clone, Copy, PartialEq, Eq, Debug)]
 pub(crate) struct Cell {
     /// How often before the change.
-    pub(crate) before: u64,
+    pub(crate) before: u32,
     /// How often after it.
-    pub(crate) after: u64,
+    pub(crate) after: u32,
 }
+
+// What the table of one kind takes for a key, beside the room that its nodes have free.
+const _: () = prove!(size_of::<(MapKey, Cell)>() == 24);
 
 /// Before a change, or after it.
 #[derive(Clone, Copy, PartialEq, Eq, Debug)]
@@ -27,7 +31,7 @@ pub(crate) enum Side {
 
 impl Cell {
     /// How often the key is given on that side.
-    pub(crate) fn on(self, side: Side) -> u64
+    pub(crate) fn on(self, side: Side) -> u32
         ensures { result ≡ on side self }
     {
         match side {
@@ -75,21 +79,56 @@ fn clear(cells: &mut BTreeMap<MapKey, Cell>, key: &MapKey)
     cells.remove(key);
 }
 
-/// The change gives the key once more. After an error all is as before.
+/// Gives a key once more than that cell does, or after an error as often.
+fn raise_from(cells: &mut BTreeMap<MapKey, Cell>, key: MapKey, old: Cell) -> Result<(), Memory>
+    requires there { 0 < (cell_in cells.old key).before + (cell_in cells.old key).after }
+    ensures ok { OnOk result ((q : OneKey) → cell_in cells.new q ≡ with_cell (cell_in cells.old) key (raised 1 old) q) }
+    ensures err { OnErr result ((q : OneKey) → cell_in cells.new q ≡ with_cell (cell_in cells.old) key old q) }
+{
+    match old.after.checked_add(1) {
+        Some(after) => {
+            replace(
+                cells,
+                key,
+                Cell {
+                    before: old.before,
+                    after,
+                },
+            );
+            Ok(())
+        }
+        None => {
+            replace(cells, key, old);
+            Err(Memory)
+        }
+    }
+}
+
+/// The change gives the key once more. After an error all is as before. A key that is new is looked for once.
 pub(crate) fn raise(cells: &mut BTreeMap<MapKey, Cell>, key: MapKey) -> Result<(), Memory>
     ensures ok { OnOk result ((q : OneKey) → cell_in cells.new q ≡ with_cell (cell_in cells.old) key (raised 1 (cell_in cells.old key)) q) }
     ensures err { OnErr result ((q : OneKey) → cell_in cells.new q ≡ cell_in cells.old q) }
 {
-    let cell = cell_at(cells, &key);
-    let after = cell.after.checked_add(1).ok_or(Memory)?;
-    put(
-        cells,
-        key,
-        Cell {
-            before: cell.before,
-            after,
-        },
-    )
+    let one = Cell {
+        before: 0,
+        after: 1,
+    };
+    let old = cells.insert(key, one)?;
+    match old {
+        None => Ok(()),
+        Some(cell) => {
+            raise_from(cells, key, cell)?;
+            Ok(())
+        }
+    }
+}
+
+/// Counts one less after the change.
+fn lower_cell(cell: &mut Cell)
+    requires there { 0 < cell.old.after }
+    ensures { cell.new ≡ lowered 1 cell.old }
+{
+    cell.after -= 1;
 }
 
 /// The change takes the key away once. It takes no memory.
@@ -97,32 +136,40 @@ pub(crate) fn lower(cells: &mut BTreeMap<MapKey, Cell>, key: MapKey)
     requires there { 0 < (cell_in cells.old key).after }
     ensures { (q : OneKey) → cell_in cells.new q ≡ with_cell (cell_in cells.old) key (lowered 1 (cell_in cells.old key)) q }
 {
-    let cell = cell_at(cells, &key);
-    replace(
-        cells,
-        key,
-        Cell {
-            before: cell.before,
-            after: cell.after - 1,
-        },
-    );
+    if let Some(cell) = cells.get_mut(&key) {
+        lower_cell(cell);
+    }
+}
+
+/// Lets the number of that side stand for both, and tells it.
+fn settle_cell(cell: &mut Cell, side: Side) -> u32
+    ensures settled { cell.new ≡ settled side cell.old }
+    ensures kept { result ≡ on side cell.old }
+{
+    let kept = cell.on(side);
+    *cell = Cell {
+        before: kept,
+        after: kept,
+    };
+    kept
+}
+
+/// The same of the cell of a key.
+fn settle_at(cells: &mut BTreeMap<MapKey, Cell>, key: &MapKey, side: Side) -> u32
+    ensures settled { (q : OneKey) → cell_in cells.new q ≡ with_cell (cell_in cells.old) key.now (settled side (cell_in cells.old key.now)) q }
+    ensures kept { result ≡ on side (cell_in cells.old key.now) }
+{
+    match cells.get_mut(key) {
+        Some(cell) => settle_cell(cell, side),
+        None => 0,
+    }
 }
 
 /// Lets the number of that side stand for both. It takes no memory.
 pub(crate) fn settle(cells: &mut BTreeMap<MapKey, Cell>, key: MapKey, side: Side)
     ensures { (q : OneKey) → cell_in cells.new q ≡ with_cell (cell_in cells.old) key (settled side (cell_in cells.old key)) q }
 {
-    let kept = cell_at(cells, &key).on(side);
-    if kept == 0 {
+    if settle_at(cells, &key, side) == 0 {
         clear(cells, &key);
-    } else {
-        replace(
-            cells,
-            key,
-            Cell {
-                before: kept,
-                after: kept,
-            },
-        );
     }
 }
