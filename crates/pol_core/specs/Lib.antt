@@ -1,3 +1,4 @@
+pub mod Double
 pub mod Rows
 pub mod Parts
 pub mod Stands

@@ -1,5 +1,5 @@
 //! A finish.
-ghost use Rattle.std.specs.Prelude.{◌≡◌, IfOk, IfSome, None, OnErr, OnOk, Some, length};
+ghost use Rattle.std.specs.Prelude.{◌≡◌, IfSome, None, OnErr, OnOk, Some, length};
 ghost use Rattle.std.specs.Arc.{arc_value};
 ghost use Rattle.pol_delta.specs.Work.{map_of};
 ghost use Rattle.pol_distill.specs.Sorted.{HaveSets};
@@ -7,8 +7,9 @@ ghost use Rattle.pol_follow.specs.declared.follow.Followed.{Followed as OneFollo
 ghost use Rattle.pol_history.specs.Machine.{is_reported};
 ghost use Rattle.pol_history.specs.Reports.{published_before};
 ghost use Rattle.pol_core.specs.Parts.{Finishes, FinishesRow, FinishesSlot, FinishesTaken, Follows, HasFewKeys, IsShownOf, IsSmallMap, MayFinish, MayFinishTaken, MayGo, PublishesRow, Reports, by_slot, left_over};
-ghost use Rattle.pol_core.specs.Rows.{by_name, trie_of};
+ghost use Rattle.pol_core.specs.Rows.{by_name};
 
+use crate::double::DoubleTrie;
 use crate::row::{Row, Rows, Shown};
 use crate::take::Takes;
 use pol_data::Memory;
@@ -16,7 +17,6 @@ use pol_edits::ChangeList;
 use pol_follow::Followed;
 use pol_history::{LastReport, Reply};
 use pol_taken::Taken;
-use pol_trie::PolicyTrie;
 use std::alloc::Global;
 
 /// Whether the last report is of that revision.
@@ -59,37 +59,39 @@ fn follow(alloc: Global, work: &mut Option<Followed>, taken: Taken) -> (Taken, R
     }
 }
 
-/// The trie of the published map in memory of its own, an empty one where there is no map.
-fn trie_copy(alloc: Global, map: &Option<Shown>) -> Result<PolicyTrie, Memory>
-    ensures { IfOk result (λ trie. trie ≡ trie_of map.now) }
-{
-    match map {
-        Some(shown) => shown.trie.copy(alloc),
-        None => Ok(PolicyTrie::new(alloc)),
-    }
-}
-
-/// The published map after these changes, with what each address was when it was taken. The one error is want of memory: the
-/// changes are made in a copy, so the map that is published stays as it is.
+/// The published map after these changes, with what each address was when it was taken. The one error is want of memory, and
+/// then the map and the changes are as before.
 fn show(
     alloc: Global,
-    map: &Option<Shown>,
-    changes: &ChangeList,
+    map: &mut Option<Shown>,
+    changes: &mut ChangeList,
     taken: &Taken,
-) -> Result<Shown, Memory>
-    requires few { HasFewKeys map.now changes.now }
-    ensures { IfOk result (IsShownOf map.now changes.now taken.now) }
+) -> Result<(), Memory>
+    requires few { HasFewKeys map.old changes.old }
+    ensures ok { OnOk result ((shown : Shown) × (map.new ≡ Some shown) × IsShownOf map.old changes.old taken.now shown) }
+    ensures err { OnErr result ((map.new ≡ map.old) × (changes.new ≡ changes.old)) }
 {
     // The call tells that the changes are in key order.
     let _changes = changes.as_slice();
     let addresses = taken.addresses.clone()?;
-    let mut trie = trie_copy(alloc, map)?;
-    changes.apply_to(&mut trie)?;
-    Ok(Shown {
-        revision: taken.revision,
-        trie,
-        addresses,
-    })
+    let revision = taken.revision;
+    match map {
+        Some(shown) => {
+            shown.trie.change(alloc, changes)?;
+            shown.revision = revision;
+            shown.addresses = addresses;
+        }
+        None => {
+            let mut trie = DoubleTrie::new(alloc);
+            trie.change(alloc, changes)?;
+            *map = Some(Shown {
+                revision,
+                trie,
+                addresses,
+            });
+        }
+    }
+    Ok(())
 }
 
 /// Publishes the map that was made, after so many commits. The one error is want of memory, and then the row is as before.
@@ -102,9 +104,8 @@ fn publish(alloc: Global, row: &mut Row, commits: u64, taken: &Taken) -> Result<
     match &mut row.work {
         None => unreachable!(),
         Some(work) => {
-            let shown = show(alloc, &row.map, &work.pending, taken)?;
+            show(alloc, &mut row.map, &mut work.pending, taken)?;
             work.published(alloc);
-            row.map = Some(shown);
             row.report = Some(LastReport {
                 revision: taken.revision,
                 commits,

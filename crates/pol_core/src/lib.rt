@@ -7,6 +7,7 @@
 
 mod asked;
 mod commit;
+mod double;
 mod finish;
 mod full;
 pub mod laws;
@@ -16,6 +17,7 @@ mod serial;
 mod take;
 
 pub use asked::{Asked, Said};
+pub use double::DoubleTrie;
 pub use machine::Machine;
 pub use pol_history::{Event, Reply};
 pub use row::{Row, Shown};

@@ -6,13 +6,13 @@ ghost use Rattle.pol_history.specs.LookIn.{look_map, look_row, number_shown};
 ghost use Rattle.pol_history.specs.Machine.{reply_found};
 ghost use Rattle.pol_core.specs.Rows.{by_name, map_held, row_held};
 
+use crate::double::DoubleTrie;
 use indexmap::IndexMap;
 use pol_addresses::Addresses;
 use pol_data::{Steps, Text};
 use pol_follow::Followed;
 use pol_history::{LastReport, Reply};
 use pol_model::{Query, Remote};
-use pol_trie::PolicyTrie;
 use std::sync::Arc;
 use std::sync::ledger::Ledger;
 
@@ -22,7 +22,7 @@ pub struct Shown {
     /// The revision of the map.
     pub revision: u64,
     /// The map.
-    pub trie: PolicyTrie,
+    pub trie: DoubleTrie,
     /// What each address was.
     pub addresses: Arc<Addresses>,
 }
