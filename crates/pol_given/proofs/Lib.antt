@@ -4,4 +4,3 @@ pub mod Balanced
 pub mod FirstRow
 pub mod SideBySide
 pub mod PeerStays
-pub mod OnePort

@@ -1,7 +1,6 @@
 //! The keys that ports give.
 ghost use Rattle.std.specs.Prelude.{◌≡◌, ◌++◌, IfOk, OnOk, map};
 ghost use Rattle.std.specs.List.{flat_map};
-ghost use Rattle.pol_ports.specs.Split.{split_of};
 ghost use Rattle.pol_mapkey.specs.MapKey.{every_key, port_key};
 ghost use Rattle.pol_model.specs.PolicyMap.{ports_keys, protos_of, spec_keys};
 ghost use Rattle.pol_distill.specs.RawKeys.{with_id};
@@ -9,7 +8,7 @@ ghost use Rattle.pol_distill.specs.RawKeys.{with_id};
 use pol_data::Memory;
 use pol_mapkey::{KeyProto, MapKey};
 use pol_model::EVERY_IDENTITY;
-use pol_ports::{Direction, PortPrefix, PortRange, Proto, split};
+use pol_ports::{Direction, PortPrefix, Proto, split};
 use pol_rule::PortSpec;
 use std::alloc::Global;
 
@@ -83,30 +82,6 @@ fn push_protos(
     }
 }
 
-/// The prefix of one port.
-fn one_port(port: u16) -> PortPrefix
-    ensures bits { result.bits ≡ port }
-    ensures len { result.len ≡ 16 }
-{
-    PortPrefix {
-        bits: port,
-        len: 16,
-    }
-}
-
-/// Appends the keys of a range of one port. Nothing is halved.
-fn push_one(
-    out: &mut Vec<MapKey>,
-    dir: Direction,
-    proto: Option<Proto>,
-    range: PortRange,
-) -> Result<(), Memory>
-    requires one { range.first ≡ range.last }
-    ensures { OnOk result (out.new.items ≡ out.old.items ++ flat_map (λ own. map (port_key dir 0 own) (split_of range)) (protos_of proto)) }
-{
-    push_protos(out, dir, proto, &[one_port(range.first)])
-}
-
 /// Appends the keys of a port, for every identity.
 fn push_spec(
     alloc: Global,
@@ -116,9 +91,6 @@ fn push_spec(
 ) -> Result<(), Memory>
     ensures { OnOk result (out.new.items ≡ out.old.items ++ spec_keys dir 0 spec.now) }
 {
-    if spec.range.first == spec.range.last {
-        return push_one(out, dir, spec.proto, spec.range);
-    }
     let parts = split(alloc, spec.range)?;
     push_protos(out, dir, spec.proto, &parts)
 }

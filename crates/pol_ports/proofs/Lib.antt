@@ -6,6 +6,7 @@ pub mod Least
 pub mod Steps
 pub mod Members
 pub mod SplitLaws
+pub mod OnePort
 pub mod Containing
 pub mod Same
 pub mod Equality

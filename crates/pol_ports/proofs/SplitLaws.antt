@@ -45,7 +45,11 @@ module _ (range : PortRange) where
   unfolding split_of
   split_parts small p = (listed_part range p, part_listed range p small)
 
-  -- a list that was empty, after the parts of all ports came to it
-  pub split_from : (start ends : List PortPrefix) → start ≡ [] → ends ≡ start ++ parts_within range 16 0 → ends ≡ split_of range
+  -- they are the parts of all ports
+  pub split_is_parts : split_of range ≡ parts_within range 16 0
   unfolding split_of
+  split_is_parts = refl
+
+  -- a list that was empty, after the split came to it
+  pub split_from : (start ends : List PortPrefix) → start ≡ [] → ends ≡ start ++ split_of range → ends ≡ split_of range
   split_from start ends none came = cc

@@ -26,9 +26,42 @@ pub fn split(alloc: Global, range: PortRange) -> Result<Vec<PortPrefix>, AllocEr
     ensures least { IfOk result (λ parts. (other : List PortPrefix) → CoversExactly range other → length parts.items ≤ length other) }
 {
     let mut parts = Vec::new(alloc);
-    let all_ports = PortPrefix { bits: 0, len: 0 };
-    push_parts(&mut parts, range, all_ports)?;
+    push_split(&mut parts, range)?;
     Ok(parts)
+}
+
+/// Appends the parts of the range's split, in ascending order.
+///
+/// One port is one prefix, and nothing is halved for it.
+fn push_split(parts: &mut Vec<PortPrefix>, range: PortRange) -> Result<(), AllocError>
+    ensures { OnOk result (parts.new.items ≡ parts.old.items ++ split_of range) }
+{
+    if range.first == range.last {
+        return push_one(parts, range);
+    }
+    let all_ports = PortPrefix { bits: 0, len: 0 };
+    push_parts(parts, range, all_ports)
+}
+
+/// Appends the one prefix of a range of one port.
+fn push_one(parts: &mut Vec<PortPrefix>, range: PortRange) -> Result<(), AllocError>
+    requires one { range.first ≡ range.last }
+    ensures { OnOk result (parts.new.items ≡ parts.old.items ++ split_of range) }
+{
+    let part = one_port(range.first);
+    parts.push(part)?;
+    Ok(())
+}
+
+/// The prefix of one port.
+fn one_port(port: u16) -> PortPrefix
+    ensures bits { result.bits ≡ port }
+    ensures len { result.len ≡ 16 }
+{
+    PortPrefix {
+        bits: port,
+        len: 16,
+    }
 }
 
 /// Appends the parts of the range's split that lie in the block, in ascending order.

@@ -1,5 +1,5 @@
 -- What a store keeps for takes, as its parts change.
-use Rattle.std.proofs.Common.{◌≡◌, ℕ, List, [], IfOk, IfSome, OnErr, Option, None, Some, Result, Ok, Err, sym, ap, subst, ◌∙◌}
+use Rattle.std.proofs.Common.{◌≡◌, ℕ, List, [], IfOk, OnErr, Option, None, Some, Result, Ok, Err, sym, ap, subst, ◌∙◌}
 use Rattle.std.specs.Arc.{arc_value}
 use Rattle.std.specs.List.{AllByRecursion, IsDistinct}
 use Rattle.std.specs.declared.sync.Arc.{Arc}

@@ -9,7 +9,7 @@ use Rattle.pol_ports.proofs.cover.split.Goals as goal
 
 pub returns-clause-split : goal.returns-clause-split
 returns-clause-split c =
-    split_from c.args.range c.new-parts.result.items c.push_parts.new.parts.items c.new-parts.ensures.items c.in_ok-push_parts.ensures
+    split_from c.args.range c.new-parts.result.items c.push_split.new.parts.items c.new-parts.ensures.items c.in_ok-push_split.ensures
 
 pub returns-clause-parts : goal.returns-clause-parts
 returns-clause-parts c =

@@ -1,6 +1,5 @@
 use Rattle.std.proofs.Common.{sym, ap, ◌∙◌}
 use Rattle.pol_tables.specs.Tables.{endpoint_in}
-use Rattle.pol_store.specs.Store.{Stored}
 use Rattle.pol_store.proofs.store.Store.take.Goals as goal
 
 pub returns-clause-taken : goal.returns-clause-taken

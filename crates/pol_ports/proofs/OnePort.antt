@@ -1,5 +1,5 @@
 -- A range of one port has one prefix.
-use Rattle.std.proofs.Common.{◌≡◌, ◌^◌, ◌-◌, ◌<◌, ◌≤◌, ◌&&◌, ◌+◌, not, ◌||◌, ◌==◌, true, false, nat_le, List, [], ◌∷◌, refl, sym, ◌∙◌, ap, subst, ⊎_elim, arith}
+use Rattle.std.proofs.Common.{◌≡◌, ◌^◌, ◌-◌, ◌<◌, ◌≤◌, ◌+◌, not, ◌||◌, ◌==◌, true, nat_le, List, [], ◌∷◌, refl, sym, ◌∙◌, ap, subst, ⊎_elim, arith}
 use Rattle.std.specs.List.{AllPairs, Contains}
 use Rattle.std.proofs.lemmas.Bool.{and_from, and_parts, both_ways, cases_lt, le-leb, leb-true}
 use Rattle.std.proofs.lemmas.Nat.{pow_below}
@@ -8,7 +8,7 @@ use Rattle.pol_ports.specs.declared.PortPrefix.{PortPrefix}
 use Rattle.pol_ports.specs.declared.PortRange.{PortRange}
 use Rattle.pol_ports.specs.PortPrefix.{Precedes, end_of, parent_of}
 use Rattle.pol_ports.specs.PortRange.{holds}
-use Rattle.pol_ports.specs.Split.{any_holds, is_part, lies_in, split_of}
+use Rattle.pol_ports.specs.Split.{any_holds, lies_in, split_of}
 use Rattle.pol_ports.proofs.Blocks.{prefix_same}
 use Rattle.pol_ports.proofs.SplitLaws.{split_ascends, split_covers, split_parts}
 
