@@ -5,6 +5,7 @@ use Rattle.std.specs.Fmt.{digits, digits_onto, digit_glyph, decimal}
 use Rattle.std.specs.List.{flat_map, list_all}
 use Rattle.std.proofs.lemmas.Bool.{leb-true}
 use Rattle.std.proofs.lemmas.List.Folds.{list_all-append}
+use Rattle.pol_json.specs.Texts.{printable}
 use Rattle.pol_json.specs.declared.fault.DocFault.{DocFault}
 use Rattle.pol_json.specs.declared.fault.DocFault.TheVariants as doc
 use Rattle.pol_mapkey.specs.declared.Word.{Word}
@@ -18,7 +19,7 @@ use Rattle.pol_rule.specs.declared.policy.Section.{Section}
 use Rattle.pol_rule.specs.declared.policy.Section.TheVariants as section
 use Rattle.pol_answer.specs.Faults.{fault_name, doc_fault_name, rule_fault_name, line_fault_name}
 use Rattle.pol_script.specs.Lines.{lines_of, ended, is_newline, is_one_line}
-use Rattle.pol_answer.specs.Text.{word_text, section_text, printable, at_text, entry_text, place_text, more_places, places_text, full_slot_text, full_text, fault_place_text, doc_detail, line_detail, identity_text, trace_text, answer_words, texts_of, has_plain_key, has_plain_name, has_plain_names}
+use Rattle.pol_answer.specs.Text.{word_text, section_text, at_text, entry_text, place_text, more_places, places_text, full_slot_text, full_text, fault_place_text, doc_detail, line_detail, identity_text, trace_text, answer_words, texts_of, has_plain_key, has_plain_name, has_plain_names}
 use Rattle.pol_answer.specs.declared.answer.Answer.{Answer}
 use Rattle.pol_answer.specs.declared.answer.Answer.TheVariants as answer
 use Rattle.pol_script.specs.declared.line_fault.LineFault.{LineFault}

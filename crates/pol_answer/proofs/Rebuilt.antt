@@ -6,7 +6,7 @@ use Rattle.std.proofs.lemmas.Bool.{eqb-false, false≢true, leb-true}
 use Rattle.std.proofs.lemmas.List.{append-nil, append_cancel_right}
 use Rattle.pol_json.specs.declared.fault.DocFault.{DocFault}
 use Rattle.pol_json.specs.declared.fault.DocFault.TheVariants as doc
-use Rattle.pol_json.specs.Texts.{has_name_length, is_digit, is_dns_byte, is_dns_name, is_letter, is_name, is_name_byte}
+use Rattle.pol_json.specs.Texts.{has_name_length, is_digit, is_dns_byte, is_dns_name, is_letter, is_name, is_name_byte, printable, printable_byte}
 use Rattle.pol_mapkey.specs.declared.Word.{Word}
 use Rattle.pol_mapkey.specs.declared.Word.TheVariants.{Allowed, DeniedByRule, DeniedByDefault}
 use Rattle.pol_model.specs.declared.answer.Fault.{Fault}
@@ -24,7 +24,7 @@ use Rattle.pol_script.specs.Lines.{newline}
 use Rattle.pol_script.specs.Names.{is_applied_name}
 use Rattle.pol_answer.specs.Faults.{fault_name, rule_fault_name}
 use Rattle.pol_answer.specs.Shown.{shown, shown_fault, shown_document, is_u64, is_applied_key, is_read_place, is_read_slot, is_read_entry, is_read_fault, is_read_identity, is_rule_number, has_read_parts}
-use Rattle.pol_answer.specs.Text.{printable_byte, printable, line_fault_text, trace_text, word_text, section_text, entry_text, at_text, place_text, more_places, places_text, full_slot_text, full_text, identity_text, fault_place_text, answer_words, text_of}
+use Rattle.pol_answer.specs.Text.{line_fault_text, trace_text, word_text, section_text, entry_text, at_text, place_text, more_places, places_text, full_slot_text, full_text, identity_text, fault_place_text, answer_words, text_of}
 use Rattle.pol_answer.specs.declared.answer.Answer.{Answer}
 use Rattle.pol_answer.specs.declared.answer.Answer.TheVariants as answer
 use Rattle.pol_answer.proofs.Cutting.{head, stops, after, before_is, after_is, number, number_is, past_number_is, last_number_is, read_list, joined, Reads, list_is, long_enough}

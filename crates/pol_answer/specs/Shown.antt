@@ -2,7 +2,7 @@
 -- have names, keys and fault numbers such as reading gives, and numbers of 64 bits.
 use Rattle.std.specs.Prelude.{ℕ, ◌^◌, ◌==◌, ◌&&◌, ◌||◌, nat_le, nat_lt, Bool, true, if◌then◌else◌, length, Option, None, Some}
 use Rattle.std.specs.List.{list_all}
-use Rattle.pol_json.specs.Texts.{is_name, is_dns_name}
+use Rattle.pol_json.specs.Texts.{is_name, is_dns_name, printable}
 use Rattle.pol_json.specs.declared.fault.DocFault.{DocFault}
 use Rattle.pol_json.specs.declared.fault.DocFault.TheVariants as doc
 use Rattle.pol_model.specs.declared.answer.FullSlot.{FullSlot}
@@ -13,7 +13,6 @@ use Rattle.pol_rule.specs.declared.policy.Section.{Section}
 use Rattle.pol_script.specs.Names.{is_applied_name}
 use Rattle.pol_script.specs.declared.line_fault.LineFault.{LineFault}
 use Rattle.pol_script.specs.declared.line_fault.LineFault.TheVariants as line
-use Rattle.pol_answer.specs.Text.{printable}
 use Rattle.pol_answer.specs.declared.answer.Answer.{Answer}
 use Rattle.pol_answer.specs.declared.answer.Answer.TheVariants as answer
 

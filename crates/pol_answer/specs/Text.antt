@@ -1,7 +1,8 @@
 -- The text of an answer: one line, ended by a newline byte; numbers are plain decimal ('profile').
-use Rattle.std.specs.Prelude.{ℕ, Bool, true, ◌&&◌, nat_le, if◌then◌else◌, List, [], ◌∷◌, ◌++◌, codes, map, Option, None, Some}
+use Rattle.std.specs.Prelude.{ℕ, Bool, true, ◌&&◌, if◌then◌else◌, List, [], ◌∷◌, ◌++◌, codes, Option, None, Some}
 use Rattle.std.specs.List.{flat_map, list_all}
 use Rattle.std.specs.Fmt.{decimal}
+use Rattle.pol_json.specs.Texts.{printable}
 use Rattle.pol_json.specs.declared.fault.DocFault.{DocFault}
 use Rattle.pol_json.specs.declared.fault.DocFault.TheVariants as doc
 use Rattle.pol_mapkey.specs.declared.Word.{Word}
@@ -31,13 +32,6 @@ section_text section.Ingress = codes "ingress"
 section_text section.IngressDeny = codes "ingressDeny"
 section_text section.Egress = codes "egress"
 section_text section.EgressDeny = codes "egressDeny"
-
--- a byte of a name that is printed; one outside 0x21 to 0x7E is printed as `?`
-abbrev pub printable_byte : ℕ → ℕ
-printable_byte byte = if nat_le 33 byte && nat_le byte 126 then byte else 63
-
-abbrev pub printable : List ℕ → List ℕ
-printable bytes = map printable_byte bytes
 
 -- ` at N`
 abbrev pub at_text : ℕ → List ℕ

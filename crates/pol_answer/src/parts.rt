@@ -4,33 +4,12 @@
 ghost use Rattle.std.specs.Prelude.{◌≡◌, ◌++◌, ◌∷◌, [], codes, OnOk};
 ghost use Rattle.std.specs.List.{flat_map};
 ghost use Rattle.std.specs.String.{string_bytes};
-ghost use Rattle.pol_answer.specs.Text.{printable_byte, printable, at_text, entry_text, place_text, more_places, places_text, full_slot_text, full_text, identity_text};
+ghost use Rattle.pol_answer.specs.Text.{at_text, entry_text, place_text, more_places, places_text, full_slot_text, full_text, identity_text};
 
 use crate::names::section_text;
-use pol_data::{Memory, Text};
+use pol_data::Memory;
 use pol_model::FullSlot;
 use pol_rule::{Place, Section};
-
-/// The character that a byte of a name is printed as.
-fn printable_char(byte: u8) -> char
-    ensures { result ≡ printable_byte byte }
-{
-    if 33 <= byte && byte <= 126 {
-        char::from(byte)
-    } else {
-        '?'
-    }
-}
-
-/// Appends a name: each byte outside 0x21 to 0x7E is printed as `?`.
-pub(crate) fn push_printable(out: &mut String, text: &Text) -> Result<(), Memory>
-    ensures { OnOk result (string_bytes out.new ≡ string_bytes out.old ++ printable text.now) }
-{
-    for byte in text.as_bytes() {
-        out.push(printable_char(*byte))?;
-    }
-    Ok(())
-}
 
 /// Appends ` at N`.
 pub(crate) fn push_at(out: &mut String, revision: u64) -> Result<(), Memory>

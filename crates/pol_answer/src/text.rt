@@ -7,9 +7,9 @@ ghost use Rattle.pol_answer.specs.Text.{named, doc_detail, rule_detail, line_det
 
 use crate::Answer;
 use crate::names::{fault_name, line_fault_name, word_text};
-use crate::parts::{push_at, push_entry, push_full, push_identity, push_places, push_printable};
+use crate::parts::{push_at, push_entry, push_full, push_identity, push_places};
 use pol_data::{Memory, Text};
-use pol_json::DocFault;
+use pol_json::{DocFault, push_printable};
 use pol_model::Trace;
 use pol_rule::RuleFault;
 use pol_script::LineFault;
@@ -20,7 +20,7 @@ fn push_named(out: &mut String, name: &Text) -> Result<(), Memory>
     ensures { OnOk result (string_bytes out.new ≡ string_bytes out.old ++ named name.now) }
 {
     out.push(' ')?;
-    push_printable(out, name)
+    push_printable(out, name.as_str())
 }
 
 fn push_doc_detail(out: &mut String, fault: &DocFault) -> Result<(), Memory>

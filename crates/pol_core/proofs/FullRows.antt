@@ -8,7 +8,6 @@ use Rattle.pol_history.specs.declared.event.EndpointId.{EndpointId}
 use Rattle.pol_history.specs.declared.event.HistoryEvent.{HistoryEvent}
 use Rattle.pol_history.specs.declared.event.LastReport.{LastReport}
 use Rattle.pol_history.specs.declared.machine.Event.{Event}
-use Rattle.pol_history.specs.Calls.{RowsAscend}
 use Rattle.pol_history.specs.Commits.{state_now}
 use Rattle.pol_history.specs.Held.{ShowsRow}
 use Rattle.pol_history.specs.Machine.{Machine, endpoint_id}
@@ -22,6 +21,7 @@ use Rattle.pol_model.specs.State.{State}
 use Rattle.pol_model.specs.declared.answer.FullSlot.{FullSlot}
 use Rattle.pol_model.specs.declared.options.Options.{Options}
 use Rattle.pol_model.specs.declared.row.Endpoint.{Endpoint}
+use Rattle.pol_model.specs.FullRows.{FullRowsAscend}
 use Rattle.pol_repo.specs.Repository.{state_in}
 use Rattle.pol_core.specs.Full.{row_by, row_kept, row_told}
 use Rattle.pol_core.specs.Rows.{RowsOf, row_held}
@@ -82,7 +82,7 @@ module _ (k : Kept) (m : Machine) (stands : StandsFor k m) where
 
   -- so the rows that are kept are told
   pub lists : {E : Type 0} (result : Result (List FullSlot) E) (es : List Endpoint) → es ≡ (state_in k.repo).endpoints
-      → IfOk result (λ (full : List FullSlot). IsPermutation (filter_map (λ (e : Endpoint). row_kept e (k.rows e.name)) es) full) → IfOk result RowsAscend
+      → IfOk result (λ (full : List FullSlot). IsPermutation (filter_map (λ (e : Endpoint). row_kept e (k.rows e.name)) es) full) → IfOk result FullRowsAscend
       → IfOk result (ListsRows options history)
   lists (Ok full) es is those sorted = record {
     those = subst (λ (rows : List FullSlot). IsPermutation rows full) (ap (filter_map (λ (e : Endpoint). row_kept e (k.rows e.name))) is ∙ full_are) those;

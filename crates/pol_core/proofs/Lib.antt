@@ -15,5 +15,4 @@ pub mod Changed
 pub mod Finishing
 pub mod FullRows
 pub mod Led
-pub mod RowOrder
 pub mod Explained

@@ -14,7 +14,7 @@ use Rattle.pol_history.specs.Commits.{live_endpoint, revision_of, state_after, s
 use Rattle.pol_history.specs.Held.{ShowsMap}
 use Rattle.pol_history.specs.Legal.{IsLegal}
 use Rattle.pol_history.specs.Machine.{endpoint_id}
-use Rattle.pol_history.specs.Reports.{fits_limit, last_published, map_at}
+use Rattle.pol_history.specs.Reports.{last_published, map_at}
 use Rattle.pol_history.proofs.Lives.{lives-then}
 use Rattle.pol_history.proofs.Looks.{last_publish}
 use Rattle.pol_mapkey.specs.Entries.{Entry as MapEntry}
@@ -25,6 +25,7 @@ use Rattle.pol_model.specs.Selects.{set_at}
 use Rattle.pol_model.specs.State.{State}
 use Rattle.pol_model.specs.declared.options.Options.{Options}
 use Rattle.pol_model.specs.declared.row.Endpoint.{Endpoint}
+use Rattle.pol_model.specs.FullRows.{fits_limit}
 use Rattle.pol_core.specs.Rows.{map_held, trie_of}
 use Rattle.pol_core.specs.declared.row.Shown.{Shown}
 

@@ -10,7 +10,6 @@ use Rattle.pol_history.specs.declared.machine.Event.{Event}
 use Rattle.pol_history.specs.declared.machine.Event.TheVariants as step
 use Rattle.pol_history.specs.declared.machine.Reply.{Reply}
 use Rattle.pol_history.specs.declared.machine.Reply.TheVariants as reply
-use Rattle.pol_history.specs.Calls.{RowsAscend}
 use Rattle.pol_history.specs.Commits.{revision_of, state_now}
 use Rattle.pol_history.specs.Machine.{Machine, endpoint_id, machine_from, step_of}
 use Rattle.pol_history.specs.Reports.{last_report, size_at}
@@ -20,6 +19,7 @@ use Rattle.pol_model.specs.declared.answer.Trace.{Trace}
 use Rattle.pol_model.specs.declared.options.Options.{Options}
 use Rattle.pol_model.specs.declared.request.Query.{Query}
 use Rattle.pol_model.specs.declared.row.Endpoint.{Endpoint}
+use Rattle.pol_model.specs.FullRows.{FullRowsAscend}
 use Rattle.pol_core.specs.Full.{row_told}
 use Rattle.pol_core.specs.Stands.{Stands, Stored, over_limit}
 use Rattle.pol_core.specs.declared.asked.Asked.{Asked}
@@ -69,7 +69,7 @@ machine_asked options m asked = machine_from options m (events_of options m aske
 -- the rows are those of a history, by name and then revision
 pub record ListsRows (options : Options) (history : List HistoryEvent) (full : List FullSlot) : Type 0 where
   pub those : IsPermutation (rows_in options history) full
-  pub sorted : RowsAscend full
+  pub sorted : FullRowsAscend full
 
 -- what is said of a query's reasons, at the revision of the history: no endpoint of its name is live, or they are these
 abbrev pub IsExplained : Options → List HistoryEvent → Query → Option Trace → Said → Type 0

@@ -19,10 +19,11 @@ use Rattle.pol_history.specs.Content.{content_of}
 use Rattle.pol_history.specs.Machine.{Machine, endpoint_id, step_of}
 use Rattle.pol_history.specs.Machine as machine
 use Rattle.pol_history.specs.MachineKeeps.{IsSound}
-use Rattle.pol_history.specs.Reports.{fits_limit, published_before, size_at}
+use Rattle.pol_history.specs.Reports.{published_before, size_at}
 use Rattle.pol_model.specs.PolicyMap.{policy_map}
 use Rattle.pol_model.specs.Sizes.{IsShort}
 use Rattle.pol_model.specs.declared.options.Options.{Options}
+use Rattle.pol_model.specs.FullRows.{fits_limit}
 use Rattle.pol_repo.specs.Repository.{Repository}
 use Rattle.pol_taken.specs.OfState.{IsTakenOf}
 use Rattle.pol_taken.specs.declared.taken.Taken.{Taken}

@@ -1,20 +1,17 @@
 //! The rows of endpoints whose maps are too large.
 ghost use Rattle.std.specs.Prelude.{◌≡◌, ◌++◌, [], IfOk, OnOk, map};
-ghost use Rattle.std.specs.Cmp.Lexicographic.{slice_cmp};
 ghost use Rattle.std.specs.List.{cons_option, filter_map};
 ghost use Rattle.std.specs.List.Sorted.{IsPermutation};
-ghost use Rattle.std.specs.Ordering.{nat_cmp, ordering_then};
-ghost use Rattle.pol_history.specs.Calls.{RowsAscend};
+ghost use Rattle.pol_model.specs.FullRows.{FullRowsAscend};
 ghost use Rattle.pol_core.specs.Full.{row_by, row_kept};
 ghost use Rattle.pol_core.specs.Rows.{by_name};
 
 use crate::row::Rows;
-use pol_data::{Items, Memory, Text};
+use pol_data::{Memory, Text};
 use pol_history::LastReport;
-use pol_model::{FullList, FullSlot};
+use pol_model::{FullList, FullSlot, in_row_order};
 use pol_repo::EndpointRow;
 use std::alloc::Global;
-use std::cmp::Ordering;
 
 /// The slots of these endpoints. The one error is want of memory.
 pub(crate) fn slots_of(alloc: Global, endpoints: &[EndpointRow]) -> Result<Vec<u32>, Memory>
@@ -69,13 +66,6 @@ fn push(out: &mut Vec<FullSlot>, row: Option<FullSlot>) -> Result<(), Memory>
     Ok(())
 }
 
-/// Rows by name, then revision.
-fn row_cmp(a: &FullSlot, b: &FullSlot) -> Ordering
-    ensures { result ≡ ordering_then (slice_cmp nat_cmp a.now.name b.now.name) (nat_cmp a.now.revision b.now.revision) }
-{
-    a.name.cmp(&b.name).then(a.revision.cmp(&b.revision))
-}
-
 #[tactic(auto, using(crate::proofs::FullRows::one_more))]
 /// The rows of these endpoints, in their order.
 fn rows_kept(alloc: Global, rows: &Rows, endpoints: &[EndpointRow]) -> Result<Vec<FullSlot>, Memory>
@@ -95,9 +85,7 @@ pub(crate) fn full_rows(
     endpoints: &[EndpointRow],
 ) -> Result<FullList, Memory>
     ensures those { IfOk result (λ full. IsPermutation (filter_map (λ e. row_kept e (by_name rows.now e.name)) endpoints.now) full) }
-    ensures sorted { IfOk result (λ full. RowsAscend full) }
+    ensures sorted { IfOk result (λ full. FullRowsAscend full) }
 {
-    let mut full = rows_kept(alloc, rows, endpoints)?;
-    full.sort_by(row_cmp)?;
-    Ok(Items::from_vec(full))
+    in_row_order(rows_kept(alloc, rows, endpoints)?)
 }

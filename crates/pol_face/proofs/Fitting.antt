@@ -11,6 +11,7 @@ use Rattle.pol_mapkey.specs.Entries.{Entry as MapEntry}
 use Rattle.pol_model.specs.declared.options.Options.{Options}
 use Rattle.pol_model.specs.declared.request.Request.{Request}
 use Rattle.pol_model.specs.declared.request.Request.TheVariants.{AddEndpoint, RemoveEndpoint, AddIdentity, RemoveIdentity, Apply, Remove, SetMode}
+use Rattle.pol_model.specs.FullRows.{fits_limit}
 use Rattle.pol_trie.specs.PolicyMap.{PolicyMap}
 use Rattle.pol_history.specs.declared.event.HistoryEvent.{HistoryEvent}
 use Rattle.pol_history.specs.declared.event.HistoryEvent.TheVariants as event
@@ -18,7 +19,6 @@ use Rattle.pol_history.specs.Commits.{commits_in}
 use Rattle.pol_history.specs.Content.{BoardRow, Content, PublishedMap, added_row, content_after, content_of, if_of, live_after, row_blocked, row_published}
 use Rattle.pol_history.specs.Legal.{IsLegal}
 use Rattle.pol_history.specs.MayFollow.{MayFollow}
-use Rattle.pol_history.specs.Reports.{fits_limit}
 use Rattle.pol_history.proofs.Contents.{content-more}
 use Rattle.pol_history.proofs.LegalEvents.{legal_front, legal_last}
 use Rattle.pol_history.proofs.Lists.{by_growth}

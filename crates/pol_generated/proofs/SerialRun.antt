@@ -17,8 +17,8 @@ use Rattle.pol_model.specs.declared.options.Options.{Options}
 use Rattle.pol_model.specs.declared.request.Query.{Query}
 use Rattle.pol_model.specs.declared.request.Request.{Request}
 use Rattle.pol_model.specs.declared.row.Endpoint.{Endpoint}
+use Rattle.pol_model.specs.FullRows.{fits_limit}
 use Rattle.pol_run.proofs.SerialLaw.{serial_run}
-use Rattle.pol_run.specs.Endpoints.{fits_limit}
 use Rattle.pol_run.specs.Run.{IsRun, readings_of}
 use Rattle.pol_run.specs.Serial.{answer_at_endpoint, answer_in, answer_to_commit, answers_from, commit_answer, look_answer, serial_answers, state_then, state_with}
 use Rattle.pol_run.specs.SerialLines.{IsSerial, IsSerialFrom, MapFits, Seen, SerialAnswer, nothing_seen, seen_after}

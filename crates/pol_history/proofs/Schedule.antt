@@ -14,6 +14,7 @@ use Rattle.pol_model.specs.declared.answer.Fault.{Fault}
 use Rattle.pol_model.specs.declared.options.Options.{Options}
 use Rattle.pol_model.specs.declared.request.Request.{Request}
 use Rattle.pol_model.specs.declared.row.Endpoint.{Endpoint}
+use Rattle.pol_model.specs.FullRows.{fits_limit}
 use Rattle.pol_history.specs.declared.event.EndpointId.{EndpointId}
 use Rattle.pol_history.specs.declared.event.HistoryEvent.{HistoryEvent}
 use Rattle.pol_history.specs.declared.event.HistoryEvent.TheVariants as event
@@ -24,7 +25,7 @@ use Rattle.pol_history.specs.Commits.{commits_by, live_endpoint, revision_of, st
 use Rattle.pol_history.specs.Legal.{IsLegal}
 use Rattle.pol_history.specs.Machine.{Machine, AreOfPassZero, HasSteps, Taken, endpoint_id, endpoint_in, history_of_steps, is_reported, machine_from, report_table, report_taken, report_unless, step_commit, step_finish, step_of, step_take, taken_now}
 use Rattle.pol_history.specs.MayFollow.{BlockedMayFollow, CommitMayFollow, MayFollow, PublishMayFollow, ReportMayFollow}
-use Rattle.pol_history.specs.Reports.{IsReport, Reports, fits_limit, last_report}
+use Rattle.pol_history.specs.Reports.{IsReport, Reports, last_report}
 use Rattle.pol_history.proofs.Grown.{commits_bound}
 use Rattle.pol_history.proofs.Cuts.{revision-append, revision-grows, state-cut, state-now}
 use Rattle.pol_history.proofs.LastReports.{one_revision}

@@ -10,6 +10,7 @@ use Rattle.pol_model.specs.declared.answer.Fault.{Fault}
 use Rattle.pol_model.specs.declared.options.Options.{Options}
 use Rattle.pol_model.specs.declared.request.Request.{Request}
 use Rattle.pol_model.specs.declared.row.Endpoint.{Endpoint}
+use Rattle.pol_model.specs.FullRows.{fits_limit}
 use Rattle.pol_facts.proofs.Membership.{find-In}
 use Rattle.pol_history.specs.declared.event.EndpointId.{EndpointId}
 use Rattle.pol_history.specs.declared.event.HistoryEvent.{HistoryEvent}
@@ -22,7 +23,7 @@ use Rattle.pol_history.specs.Legal.{IsLegal}
 use Rattle.pol_history.specs.Machine.{Machine, AreOfPassZero, HasSteps, Taken, commit_of, endpoint_id, endpoint_in, is_reported, machine_from, machine_start, report_table, report_taken, report_unless, step_commit, step_finish, step_of, step_take, taken_now, with_event, with_taken}
 use Rattle.pol_history.specs.MachineKeeps.{IsSound, IsTaken}
 use Rattle.pol_history.specs.MayFollow.{MayFollow, ReportMayFollow}
-use Rattle.pol_history.specs.Reports.{fits_limit, last_report, published_before}
+use Rattle.pol_history.specs.Reports.{last_report, published_before}
 use Rattle.pol_history.proofs.Cuts.{revision-append, revision-take, state-cut, state-now}
 use Rattle.pol_history.proofs.LastReports.{Tells, last_report-more, told}
 use Rattle.pol_history.proofs.LegalEvents.{each_legal, legal_more}

@@ -18,6 +18,7 @@ use Rattle.pol_model.specs.declared.answer.FullSlot.{FullSlot}
 use Rattle.pol_model.specs.declared.options.Options.{Options}
 use Rattle.pol_model.specs.declared.row.Endpoint.{Endpoint}
 use Rattle.pol_model.proofs.AscendingStates.{state_slots_ascend}
+use Rattle.pol_model.specs.FullRows.{FullRowsAscend}
 use Rattle.pol_facts.proofs.Keyed.{found_by_number}
 use Rattle.pol_facts.proofs.Lives.{added-within}
 use Rattle.pol_facts.proofs.Membership.{find-In}
@@ -26,7 +27,7 @@ use Rattle.pol_history.specs.declared.event.HistoryEvent.{HistoryEvent}
 use Rattle.pol_history.specs.declared.event.HistoryEvent.TheVariants as event
 use Rattle.pol_history.specs.declared.turn.SlotTurn.{SlotTurn}
 use Rattle.pol_history.specs.declared.turn.SlotTurn.TheVariants.{Full, Gone, Shown}
-use Rattle.pol_history.specs.Calls.{HasPublish, HasRow, IsRow, IsRowOf, IsSynced, RowsAscend}
+use Rattle.pol_history.specs.Calls.{HasPublish, HasRow, IsRow, IsRowOf, IsSynced}
 use Rattle.pol_history.specs.Commits.{Lives, commits_in, live_endpoint, revision_of, state_after, state_now}
 use Rattle.pol_history.specs.Legal.{IsLegal}
 use Rattle.pol_history.specs.Machine.{endpoint_id, endpoint_in}
@@ -351,7 +352,7 @@ module _ (options : Options) (old then new : List HistoryEvent) (turns : List Sl
         by_turn turn.element turn.there
         (subst (λ (n : ℕ). TellsTurn options n then new synced turn.element) none (turn_at options then new synced 0 turns each is.row.slot turn.element turn.there))
 
-  pub turns_synced : RowsAscend full → IsSynced options old new synced full
+  pub turns_synced : FullRowsAscend full → IsSynced options old new synced full
   turns_synced sorted = record {
     between = record { from = revision-prefix old then less; upto = revision-prefix then new more };
     rows = rows;

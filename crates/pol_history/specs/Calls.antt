@@ -1,9 +1,7 @@
 -- What a call with a pass may answer, where `old` is what the pass had seen before the call, and `new` is what it has
 -- seen after it.
-use Rattle.std.specs.Prelude.{⊤, ◌≡◌, ℕ, ◌+◌, ◌<◌, ◌≤◌, ◌⊎◌, Bool, List, [], ◌∷◌, length, take, slice_get, IsTrue, None, Some}
+use Rattle.std.specs.Prelude.{◌≡◌, ℕ, ◌+◌, ◌<◌, ◌≤◌, ◌⊎◌, List, ◌∷◌, length, take, slice_get, None, Some}
 use Rattle.std.specs.List.{AllByRecursion, Contains}
-use Rattle.std.specs.Ordering.{nat_cmp, ordering_then, is_le}
-use Rattle.std.specs.Cmp.Lexicographic.{slice_cmp}
 use Rattle.pol_mapkey.specs.Entries.{Entry as MapEntry}
 use Rattle.pol_model.specs.Committed.{identity_given, slots_of}
 use Rattle.pol_model.specs.Endpoints.{endpoint_of}
@@ -16,6 +14,7 @@ use Rattle.pol_model.specs.declared.answer.Trace.{Trace}
 use Rattle.pol_model.specs.declared.options.Options.{Options}
 use Rattle.pol_model.specs.declared.request.Query.{Query}
 use Rattle.pol_model.specs.declared.request.Request.{Request}
+use Rattle.pol_model.specs.FullRows.{FullRowsAscend}
 use Rattle.pol_history.specs.declared.event.EndpointId.{EndpointId}
 use Rattle.pol_history.specs.declared.event.HistoryEvent.{HistoryEvent}
 use Rattle.pol_history.specs.declared.event.HistoryEvent.TheVariants as event
@@ -93,16 +92,6 @@ pub record HasPublish (old new : List HistoryEvent) (synced : ℕ) (endpoint : E
   pub there : slice_get new place ≡ Some (event.Publish endpoint revision table)
   pub counts : Counts old new synced place endpoint revision
 
--- rows by name, then revision
-abbrev pub row_le : FullSlot → FullSlot → Bool
-row_le a b = is_le (ordering_then (slice_cmp nat_cmp a.name b.name) (nat_cmp a.revision b.revision))
-
--- each row is at most the next one
-abbrev pub RowsAscend : List FullSlot → Type 0
-RowsAscend [] = ⊤
-RowsAscend (row ∷ []) = ⊤
-RowsAscend (row ∷ next ∷ rows) = IsTrue (row_le row next) × RowsAscend (next ∷ rows)
-
 -- What a `sync` tells: a revision, and rows that count, sorted and no two of one endpoint; and every endpoint that is
 -- live at the revision and still live has a row, or a published map that counts.
 pub record IsSynced (options : Options) (old new : List HistoryEvent) (revision : ℕ) (full : List FullSlot) : Type 0 where
@@ -111,6 +100,6 @@ pub record IsSynced (options : Options) (old new : List HistoryEvent) (revision 
   pub distinct : (a b : ℕ) (first second : FullSlot) (endpoint : EndpointId) → a < b
       → slice_get full a ≡ Some first → slice_get full b ≡ Some second
       → IsRowOf old new revision endpoint first → IsRowOf old new revision endpoint second → ⊥
-  pub sorted : RowsAscend full
+  pub sorted : FullRowsAscend full
   pub complete : (endpoint : EndpointId) → Lives (state_after options new revision) endpoint → Lives (state_now options new) endpoint
       → HasRow old new revision full endpoint ⊎ HasPublish old new revision endpoint

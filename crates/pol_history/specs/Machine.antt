@@ -9,6 +9,7 @@ use Rattle.pol_model.specs.declared.answer.Fault.{Fault}
 use Rattle.pol_model.specs.declared.options.Options.{Options}
 use Rattle.pol_model.specs.declared.request.Request.{Request}
 use Rattle.pol_model.specs.declared.row.Endpoint.{Endpoint}
+use Rattle.pol_model.specs.FullRows.{fits_limit}
 use Rattle.pol_history.specs.declared.event.EndpointId.{EndpointId}
 use Rattle.pol_history.specs.declared.event.HistoryEvent.{HistoryEvent}
 use Rattle.pol_history.specs.declared.event.HistoryEvent.TheVariants as event
@@ -19,7 +20,7 @@ use Rattle.pol_history.specs.declared.machine.Reply.{Reply}
 use Rattle.pol_history.specs.declared.machine.Reply.TheVariants as reply
 use Rattle.pol_history.specs.Commits.{commits_by, live_endpoint, revision_of, state_after, state_now}
 use Rattle.pol_history.specs.Look.{Looked, NoEndpoint, NotYet, Found, look}
-use Rattle.pol_history.specs.Reports.{fits_limit, last_report}
+use Rattle.pol_history.specs.Reports.{last_report}
 
 -- an endpoint that was taken, at a revision
 pub record Taken : Type 0 where

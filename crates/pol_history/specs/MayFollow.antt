@@ -4,11 +4,12 @@ use Rattle.pol_mapkey.specs.Entries.{Entry as MapEntry}
 use Rattle.pol_model.specs.Fault.{fault_of}
 use Rattle.pol_model.specs.declared.options.Options.{Options}
 use Rattle.pol_model.specs.declared.request.Request.{Request}
+use Rattle.pol_model.specs.FullRows.{fits_limit}
 use Rattle.pol_history.specs.declared.event.EndpointId.{EndpointId}
 use Rattle.pol_history.specs.declared.event.HistoryEvent.{HistoryEvent}
 use Rattle.pol_history.specs.declared.event.HistoryEvent.TheVariants as event
 use Rattle.pol_history.specs.Commits.{Lives, commits_by, revision_of, state_now}
-use Rattle.pol_history.specs.Reports.{fits_limit, last_report, map_at, size_at}
+use Rattle.pol_history.specs.Reports.{last_report, map_at, size_at}
 
 -- the request has no fault now, and it is the pass's next commit
 pub record CommitMayFollow (options : Options) (history : List HistoryEvent) (pass number : ℕ) (request : Request) : Type 0 where

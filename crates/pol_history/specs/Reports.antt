@@ -1,5 +1,5 @@
 -- Reports of an endpoint: that its map was published, or that it is too large to be.
-use Rattle.std.specs.Prelude.{◌≡◌, ℕ, ◌+◌, ◌<◌, nat_le, Bool, true, if◌then◌else◌, List, [], ◌∷◌, slice_get, Option, None, Some, option_map}
+use Rattle.std.specs.Prelude.{◌≡◌, ℕ, ◌+◌, ◌<◌, if◌then◌else◌, List, [], ◌∷◌, slice_get, Option, None, Some, option_map}
 use Rattle.pol_mapkey.specs.Entries.{Entry as MapEntry}
 use Rattle.pol_model.specs.PolicyMap.{policy_map, map_size}
 use Rattle.pol_model.specs.declared.options.Options.{Options}
@@ -84,8 +84,3 @@ map_at options history endpoint revision =
 abbrev pub size_at : Options → List HistoryEvent → EndpointId → ℕ → Option ℕ
 size_at options history endpoint revision =
     option_map (map_size options (state_after options history revision)) (live_endpoint endpoint (state_after options history revision))
-
--- whether a map of so many entries may be published
-abbrev pub fits_limit : Option ℕ → ℕ → Bool
-fits_limit None count = true
-fits_limit (Some limit) count = nat_le count limit

@@ -5,9 +5,10 @@ ghost use mathlib.Core.List.{IsPrefix};
 ghost use Rattle.pol_model.specs.Committed.{slots_of};
 ghost use Rattle.pol_model.specs.declared.answer.FullSlot.{FullSlot as Row};
 ghost use Rattle.pol_model.specs.declared.options.Options.{Options};
+ghost use Rattle.pol_model.specs.FullRows.{FullRowsAscend};
 ghost use Rattle.pol_history.specs.declared.event.HistoryEvent.{HistoryEvent as OneEvent};
 ghost use Rattle.pol_history.specs.declared.turn.SlotTurn.{SlotTurn as Turn};
-ghost use Rattle.pol_history.specs.Calls.{IsSynced, RowsAscend};
+ghost use Rattle.pol_history.specs.Calls.{IsSynced};
 ghost use Rattle.pol_history.specs.Commits.{revision_of, state_now};
 ghost use Rattle.pol_history.specs.Legal.{IsLegal};
 ghost use Rattle.pol_history.specs.Regenerate.{IsAlready, IsFull, IsPublished};
@@ -55,6 +56,6 @@ pub fn turns_stay()
 pub fn turns_make_syncs()
     ensures { (options : Options) (old then new : List OneEvent) (turns : List Turn) (full : List Row) → IsLegal options new
         → IsPrefix old then → IsPrefix then new → slots_of (state_now options then).endpoints ≤ length turns
-        → EachTells options then new (revision_of then) 0 turns → IsPermutation (rows_of turns) full → RowsAscend full
+        → EachTells options then new (revision_of then) 0 turns → IsPermutation (rows_of turns) full → FullRowsAscend full
         → IsSynced options old new (revision_of then) full }
 {}

@@ -1,17 +1,11 @@
 -- The text of a path, and the fault of a cause at its place ('profile').
-use Rattle.std.specs.Prelude.{ℕ, ◌==◌, ◌&&◌, nat_le, if◌then◌else◌, List, [], ◌∷◌, ◌++◌, codes, map, Option, option_map}
+use Rattle.std.specs.Prelude.{ℕ, ◌==◌, if◌then◌else◌, List, [], ◌∷◌, ◌++◌, codes, Option, option_map}
 use Rattle.std.specs.List.{flat_map}
 use Rattle.std.specs.Fmt.{decimal}
 use Rattle.pol_json.specs.declared.fault.DocFault.{DocFault}
 use Rattle.pol_json.specs.declared.fault.DocFault.TheVariants.{NotPolicy, NoName, NoSpec, UnknownMember, Unsupported, WrongShape}
+use Rattle.pol_json.specs.Texts.{printable}
 use Rattle.pol_json.specs.Places.{Step, named, numbered, Cause, unknown_name, left_out, wrong_shape, lacks, Found}
-
--- a byte of a name that is printed; one outside 0x21 to 0x7E is printed as `?`
-abbrev pub printable_byte : ℕ → ℕ
-printable_byte byte = if nat_le 33 byte && nat_le byte 126 then byte else 63
-
-abbrev pub printable : List ℕ → List ℕ
-printable bytes = map printable_byte bytes
 
 -- `.NAME` or `[I]`
 abbrev pub step_text : Step → List ℕ

@@ -1,5 +1,5 @@
--- The forms of names.
-use Rattle.std.specs.Prelude.{ℕ, ◌==◌, ◌&&◌, ◌||◌, nat_le, Bool, List, length, codes}
+-- The forms of names, and how they are printed.
+use Rattle.std.specs.Prelude.{ℕ, ◌==◌, ◌&&◌, ◌||◌, nat_le, if◌then◌else◌, Bool, List, length, codes, map}
 use Rattle.std.specs.List.{list_all, list_any}
 
 abbrev pub is_between : ℕ → ℕ → ℕ → Bool
@@ -39,3 +39,10 @@ is_dns_name text = has_name_length text && list_all is_dns_byte text
 -- a name of the script
 abbrev pub is_name : List ℕ → Bool
 is_name text = has_name_length text && list_all is_name_byte text
+
+-- a byte of a name that is printed; one outside 0x21 to 0x7E is printed as `?`
+abbrev pub printable_byte : ℕ → ℕ
+printable_byte byte = if nat_le 33 byte && nat_le byte 126 then byte else 63
+
+abbrev pub printable : List ℕ → List ℕ
+printable bytes = map printable_byte bytes

@@ -26,4 +26,4 @@ pub use fault::{DocError, DocFault};
 pub use members::{is_text_at, list_at, present, text_at};
 pub use network::{is_network_policy, network_name, network_namespace, network_spec};
 pub use part::{Part, items_at, part_at};
-pub use texts::{is_dns_name, is_name};
+pub use texts::{is_dns_name, is_name, push_printable};

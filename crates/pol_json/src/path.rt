@@ -1,33 +1,14 @@
 //! Paths: the texts of their steps, and a fault one step further from the top.
-ghost use Rattle.std.specs.Prelude.{◌≡◌, IfOk, OnOk, ◌++◌};
+ghost use Rattle.std.specs.Prelude.{◌≡◌, IfOk, ◌++◌};
 ghost use Rattle.std.specs.String.{string_bytes};
 ghost use Rattle.pol_json.specs.Gives.{Led, Leads};
-ghost use Rattle.pol_json.specs.Path.{printable_byte, printable, step_text, led, without_dot, topped};
+ghost use Rattle.pol_json.specs.Path.{step_text, led, without_dot, topped};
 ghost use Rattle.pol_json.specs.Places.{named, numbered};
 
 use crate::fault::{DocError, DocFault};
+use crate::texts::push_printable;
 use pol_data::{Memory, Text};
 use std::alloc::Global;
-
-/// The character that a byte of a name is printed as.
-fn printable_char(byte: u8) -> char
-    ensures { result ≡ printable_byte byte }
-{
-    if 33 <= byte && byte <= 126 {
-        char::from(byte)
-    } else {
-        '?'
-    }
-}
-
-fn push_printable(out: &mut String, name: &str) -> Result<(), Memory>
-    ensures { OnOk result (string_bytes out.new ≡ string_bytes out.old ++ printable name.now) }
-{
-    for byte in name.as_bytes() {
-        out.push(printable_char(*byte))?;
-    }
-    Ok(())
-}
 
 /// `.NAME`, with `?` for each byte of the name outside 0x21 to 0x7E.
 pub(crate) fn member_step(alloc: Global, name: &str) -> Result<String, Memory>

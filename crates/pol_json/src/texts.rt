@@ -1,7 +1,10 @@
-//! The forms of names.
-ghost use Rattle.std.specs.Prelude.{◌≡◌};
+//! The forms of names, and how they are printed.
+ghost use Rattle.std.specs.Prelude.{◌≡◌, ◌++◌, OnOk};
 ghost use Rattle.std.specs.List.{list_all};
-ghost use Rattle.pol_json.specs.Texts.{is_dns_byte, is_name_byte, has_name_length, is_dns_name, is_name};
+ghost use Rattle.std.specs.String.{string_bytes};
+ghost use Rattle.pol_json.specs.Texts.{is_dns_byte, is_name_byte, has_name_length, is_dns_name, is_name, printable, printable_byte};
+
+use pol_data::Memory;
 
 /// The greatest length of a name, in bytes.
 const NAME_MAX: usize = 253;
@@ -50,4 +53,25 @@ pub fn is_name(text: &str) -> bool
     ensures { result ≡ is_name text.now }
 {
     has_name_length(text) && has_name_bytes(text)
+}
+
+/// The character that a byte of a name is printed as.
+fn printable_char(byte: u8) -> char
+    ensures { result ≡ printable_byte byte }
+{
+    if 33 <= byte && byte <= 126 {
+        char::from(byte)
+    } else {
+        '?'
+    }
+}
+
+/// Appends a name: each byte outside 0x21 to 0x7E is printed as `?` (profile).
+pub fn push_printable(out: &mut String, name: &str) -> Result<(), Memory>
+    ensures { OnOk result (string_bytes out.new ≡ string_bytes out.old ++ printable name.now) }
+{
+    for byte in name.as_bytes() {
+        out.push(printable_char(*byte))?;
+    }
+    Ok(())
 }

@@ -3,3 +3,4 @@ pub mod Ascents
 pub mod Histories
 pub mod LabelLists
 pub mod LeastFree
+pub mod RowOrder

@@ -17,3 +17,4 @@ pub mod PolicyMap
 pub mod Committed
 pub mod Commits
 pub mod Sizes
+pub mod FullRows

@@ -8,6 +8,7 @@
 #![tactic(auto)]
 
 mod answer;
+mod full_rows;
 pub mod laws;
 mod limits;
 mod options;
@@ -20,6 +21,7 @@ mod sections;
 mod size;
 
 pub use answer::{CommitError, Committed, Fault, FullList, FullSlot, Places, Refused, Trace};
+pub use full_rows::in_row_order;
 pub use limits::{
     CLUSTER_FIRST, CLUSTER_IDENTITIES, CLUSTER_LAST, ENDPOINTS_MAX, EVERY_IDENTITY, HOST_IDENTITY,
     INIT_IDENTITY, LOCAL_FIRST, LOCAL_IDENTITIES, LOCAL_LAST, RESERVED_LAST, WORLD_IDENTITY,

@@ -6,7 +6,6 @@ pub mod LastSlot
 pub mod Living
 pub mod Places
 pub mod Reporting
-pub mod RowOrder
 pub mod Turning
 pub mod Turns
 pub mod Unlimited

@@ -17,6 +17,7 @@ use Rattle.pol_model.specs.Selects.{set_at}
 use Rattle.pol_model.specs.State.{State}
 use Rattle.pol_model.specs.declared.options.Options.{Options}
 use Rattle.pol_model.specs.declared.row.Endpoint.{Endpoint}
+use Rattle.pol_model.specs.FullRows.{fits_limit}
 use Rattle.pol_facts.proofs.Canonical.{canonical_ascends}
 use Rattle.pol_facts.proofs.Membership.{find-In}
 use Rattle.pol_facts.proofs.Remembered.{added-by}
@@ -30,7 +31,7 @@ use Rattle.pol_history.specs.Held.{ShowsMap, ShowsRow}
 use Rattle.pol_history.specs.Legal.{IsLegal}
 use Rattle.pol_history.specs.Machine.{endpoint_id, is_reported}
 use Rattle.pol_history.specs.MayFollow.{BlockedMayFollow, PublishMayFollow, ReportMayFollow}
-use Rattle.pol_history.specs.Reports.{fits_limit, last_published, last_report, map_at, published_before}
+use Rattle.pol_history.specs.Reports.{last_published, last_report, map_at, published_before}
 use Rattle.pol_history.proofs.Beginnings.{prefix_length, prefix_more}
 use Rattle.pol_history.proofs.Contents.{content-rows}
 use Rattle.pol_history.proofs.Cuts.{state-now}

@@ -1,23 +1,13 @@
 //! The rows of a sync.
-ghost use Rattle.std.specs.Prelude.{◌≡◌, IfOk, OnOk};
-ghost use Rattle.std.specs.Cmp.Lexicographic.{slice_cmp};
+ghost use Rattle.std.specs.Prelude.{◌≡◌, IfOk};
 ghost use Rattle.std.specs.List.Sorted.{IsPermutation};
-ghost use Rattle.std.specs.Ordering.{nat_cmp, ordering_then};
-ghost use Rattle.pol_history.specs.Calls.{RowsAscend};
+ghost use Rattle.pol_model.specs.FullRows.{FullRowsAscend};
 ghost use Rattle.pol_history.specs.SlotTurns.{rows_of};
 
 use pol_data::{Items, Memory};
 use pol_history::SlotTurn;
-use pol_model::{FullList, FullSlot};
+use pol_model::{FullList, FullSlot, in_row_order};
 use std::alloc::Global;
-use std::cmp::Ordering;
-
-/// Rows by name, then revision.
-fn row_cmp(a: &FullSlot, b: &FullSlot) -> Ordering
-    ensures { result ≡ ordering_then (slice_cmp nat_cmp a.now.name b.now.name) (nat_cmp a.now.revision b.now.revision) }
-{
-    a.name.cmp(&b.name).then(a.revision.cmp(&b.revision))
-}
 
 /// The rows that the turns tell.
 fn rows_told(alloc: Global, turns: Vec<SlotTurn>) -> Result<Vec<FullSlot>, Memory>
@@ -37,11 +27,9 @@ fn rows_told(alloc: Global, turns: Vec<SlotTurn>) -> Result<Vec<FullSlot>, Memor
 /// The rows that the turns tell, by name and then revision.
 pub(crate) fn rows_in(alloc: Global, turns: Vec<SlotTurn>) -> Result<FullList, Memory>
     ensures those { IfOk result (λ rows. IsPermutation (rows_of turns.items) rows) }
-    ensures sorted { IfOk result (λ rows. RowsAscend rows) }
+    ensures sorted { IfOk result (λ rows. FullRowsAscend rows) }
 {
-    let mut rows = rows_told(alloc, turns)?;
-    rows.sort_by(row_cmp)?;
-    Ok(Items::from_vec(rows))
+    in_row_order(rows_told(alloc, turns)?)
 }
 
 // The same row.

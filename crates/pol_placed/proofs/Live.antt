@@ -7,13 +7,14 @@ use Rattle.pol_model.specs.PolicyMap.{map_size, policy_map}
 use Rattle.pol_model.specs.State.{State}
 use Rattle.pol_model.specs.declared.options.Options.{Options}
 use Rattle.pol_model.specs.declared.row.Endpoint.{Endpoint}
+use Rattle.pol_model.specs.FullRows.{fits_limit}
 use Rattle.pol_run.specs.InShort.{LivesAfter}
 use Rattle.pol_history.specs.declared.event.EndpointId.{EndpointId}
 use Rattle.pol_history.specs.declared.event.HistoryEvent.{HistoryEvent}
 use Rattle.pol_history.specs.declared.event.HistoryEvent.TheVariants as event
 use Rattle.pol_history.specs.Commits.{commits_in, live_endpoint, revision_of, state_after, state_now}
 use Rattle.pol_history.specs.Legal.{IsLegal}
-use Rattle.pol_history.specs.Reports.{IsReport, fits_limit}
+use Rattle.pol_history.specs.Reports.{IsReport}
 use Rattle.pol_history.proofs.Cuts.{state-take, state-then}
 use Rattle.pol_history.proofs.Lives.{lives-back, lives-then}
 use Rattle.pol_history.proofs.Same.{live-parts, live-whole}

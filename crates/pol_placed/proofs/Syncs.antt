@@ -1,12 +1,10 @@
 -- What a placed `synced` line tells is right: its rows are exact, and none is missing.
-use Rattle.std.proofs.Common.{◌≡◌, ℕ, ◌<◌, ◌≤◌, inl, inr, not, IsTrue, List, [], ◌∷◌, take, slice_get, Option, None, Some, ap, sym, ◌∙◌, subst, arith}
+use Rattle.std.proofs.Common.{◌≡◌, ℕ, ◌<◌, ◌≤◌, inl, inr, List, ◌∷◌, take, slice_get, Some, ap, sym, ◌∙◌, subst, arith}
 use Rattle.std.specs.List.{Contains}
 use Rattle.pol_model.specs.PolicyMap.{map_size}
 use Rattle.pol_model.specs.declared.answer.FullSlot.{FullSlot}
 use Rattle.pol_model.specs.declared.options.Options.{Options}
 use Rattle.pol_model.specs.declared.row.Endpoint.{Endpoint}
-use Rattle.pol_run.specs.Endpoints.{fits_limit as fits_run}
-use Rattle.pol_run.specs.RightAnswer.{RowsAscend as RowsAscendInRun}
 use Rattle.pol_run.specs.Spots.{Line, Reading}
 use Rattle.pol_run.specs.ByIndex.{IsReached}
 use Rattle.pol_run.specs.InShort.{AreExact, IsAddedAt, IsExact, IsOverAfter, LivesAfter}
@@ -14,27 +12,15 @@ use Rattle.pol_run.proofs.Lists.{every_weaker}
 use Rattle.pol_run.proofs.ShortRows.{is_over}
 use Rattle.pol_history.specs.declared.event.EndpointId.{EndpointId}
 use Rattle.pol_history.specs.declared.event.HistoryEvent.{HistoryEvent}
-use Rattle.pol_history.specs.Calls.{HasPublish, IsRow, IsRowOf, IsSynced, RowsAscend}
+use Rattle.pol_history.specs.Calls.{HasPublish, IsRow, IsRowOf, IsSynced}
 use Rattle.pol_history.specs.Commits.{commits_in, revision_of, state_after, state_now}
 use Rattle.pol_history.specs.Legal.{IsLegal}
-use Rattle.pol_history.specs.Reports.{fits_limit}
 use Rattle.pol_history.proofs.LegalEvents.{legal_take, report_of_take}
 use Rattle.pol_history.proofs.Same.{live-whole}
 use Rattle.pol_placed.proofs.Between.{reported_within}
 use Rattle.pol_history.proofs.Grown.{published_report}
 use Rattle.pol_placed.proofs.Live.{IsReported, blocked_count, fits_within, live_there, live_of_first, one_row, published_fits, reported}
 use Rattle.pol_placed.proofs.Places.{at_first, element_at}
-
--- ---- words of both crates
-
-ascend : (full : List FullSlot) → RowsAscend full → RowsAscendInRun full
-ascend [] rows = tt
-ascend (row ∷ []) rows = tt
-ascend (row ∷ next ∷ full) rows = (rows.0, ascend (next ∷ full) rows.1)
-
-too_many : (limit : Option ℕ) (count : ℕ) → IsTrue (not (fits_limit limit count)) → IsTrue (not (fits_run limit count))
-too_many None count over = over
-too_many (Some limit) count over = over
 
 module _ (options : Options) (history : List HistoryEvent) (legal : IsLegal options history) (old : List HistoryEvent) (n synced : ℕ) where
   -- the endpoint of a row was live at the row's revision
@@ -59,7 +45,7 @@ module _ (options : Options) (history : List HistoryEvent) (legal : IsLegal opti
         endpoint = at.row;
         lives = row_lives is.endpoint row is.is;
         count = blocked_count options history legal is.is.place is.endpoint row.revision row.count place.1 at;
-        over = is_over options row.count (too_many options.map_max row.count (legal.too_many is.is.place is.endpoint row.revision row.count place.1));
+        over = is_over options row.count (legal.too_many is.is.place is.endpoint row.revision row.count place.1);
       }
 
   -- a row is of the endpoint of its name that was added then
@@ -133,7 +119,7 @@ module _ (options : Options) (history : List HistoryEvent) (legal : IsLegal opti
         → AreExact options lines (commits_in history) i reading synced full
     are_exact i reading reached = record {
       each = every_weaker (IsRow old (take n history) synced) (IsExact options (commits_in history) synced) exact full is.rows;
-      sorted = ascend full is.sorted;
+      sorted = is.sorted;
       distinct = apart;
       none_missing = λ name added large. none_missing name added (λ k from upto. large k from (reached k upto));
     }

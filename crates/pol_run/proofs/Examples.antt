@@ -10,11 +10,12 @@ use Rattle.pol_model.specs.declared.answer.FullSlot.{FullSlot}
 use Rattle.pol_model.specs.declared.options.Options.{Options}
 use Rattle.pol_model.specs.declared.request.Query.{Query}
 use Rattle.pol_model.specs.declared.row.Endpoint.{Endpoint}
+use Rattle.pol_model.specs.FullRows.{fits_limit}
 use Rattle.pol_facts.proofs.Lives.{found_back}
 use Rattle.pol_script.specs.declared.line_fault.LineFault.TheVariants as line
 use Rattle.pol_run.specs.Spots.{Spot, stands_before}
 use Rattle.pol_run.specs.History.{history_of, state_at}
-use Rattle.pol_run.specs.Endpoints.{IsVerdictFor, fits_limit, size_at}
+use Rattle.pol_run.specs.Endpoints.{IsVerdictFor, size_at}
 use Rattle.pol_run.specs.RightAnswer.{IsRightVerdict}
 use Rattle.pol_run.specs.ExampleLines.{web, db}
 

@@ -9,6 +9,7 @@ use Rattle.pol_model.specs.declared.answer.FullSlot.{FullSlot}
 use Rattle.pol_model.specs.declared.options.Options.{Options}
 use Rattle.pol_model.specs.declared.request.Query.{Query}
 use Rattle.pol_model.specs.declared.request.Request.{Request}
+use Rattle.pol_model.specs.FullRows.{fits_limit}
 use Rattle.pol_facts.proofs.Lives.{found_back}
 use Rattle.pol_answer.specs.declared.answer.Answer.{Answer}
 use Rattle.pol_answer.specs.declared.answer.Answer.TheVariants as answer
@@ -16,7 +17,7 @@ use Rattle.pol_script.specs.declared.command.Command.TheVariants as command
 use Rattle.pol_run.specs.Spots.{Line, Reading, Spot, spots_of}
 use Rattle.pol_run.specs.History.{Commit, commits_of, history_of, state_at}
 use Rattle.pol_run.specs.Moments.{IsMoment}
-use Rattle.pol_run.specs.Endpoints.{IsVerdictFor, IsSyncFor, fits_limit, size_at}
+use Rattle.pol_run.specs.Endpoints.{IsVerdictFor, IsSyncFor, size_at}
 use Rattle.pol_run.specs.RightAnswer.{RightAnswer, IsRightVerdict, IsRightNotYet, IsRightSync, IsRightRow}
 use Rattle.pol_run.specs.Run.{IsRun}
 use Rattle.pol_run.specs.ByIndex.{IsLine, is_ok_at, ComesBefore, IsReached, IsSinceSeen, Prints}

@@ -12,6 +12,7 @@ use Rattle.pol_model.specs.declared.answer.FullSlot.{FullSlot}
 use Rattle.pol_model.specs.declared.options.Options.{Options}
 use Rattle.pol_model.specs.declared.request.Query.{Query}
 use Rattle.pol_model.specs.declared.row.Endpoint.{Endpoint}
+use Rattle.pol_model.specs.FullRows.{fits_limit}
 use Rattle.pol_facts.proofs.Lives.{added-within}
 use Rattle.pol_answer.specs.declared.answer.Answer.{Answer}
 use Rattle.pol_answer.specs.declared.answer.Answer.TheVariants as answer
@@ -19,7 +20,7 @@ use Rattle.pol_script.specs.declared.command.Command.TheVariants as command
 use Rattle.pol_run.specs.Spots.{Reading, Spot, stands_before}
 use Rattle.pol_run.specs.History.{Commit, history_of, state_at}
 use Rattle.pol_run.specs.Moments.{IsMoment, floor, cap}
-use Rattle.pol_run.specs.Endpoints.{IsVerdictFor, IsSyncFor, VerdictAnswers, SyncAnswers, has_row, fits_limit, size_at}
+use Rattle.pol_run.specs.Endpoints.{IsVerdictFor, IsSyncFor, VerdictAnswers, SyncAnswers, has_row, size_at}
 use Rattle.pol_run.specs.RightAnswer.{IsRightVerdict, IsRightNotYet, HasRow, IsTooLarge}
 
 -- ---- tests over the elements of a list

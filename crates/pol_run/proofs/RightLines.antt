@@ -19,13 +19,14 @@ use Rattle.pol_model.specs.declared.options.Options.{Options}
 use Rattle.pol_model.specs.declared.request.Query.{Query}
 use Rattle.pol_model.specs.declared.request.Request.{Request}
 use Rattle.pol_model.specs.declared.row.Endpoint.{Endpoint}
+use Rattle.pol_model.specs.FullRows.{fits_limit}
 use Rattle.pol_answer.specs.declared.answer.Answer.{Answer}
 use Rattle.pol_answer.specs.declared.answer.Answer.TheVariants as answer
 use Rattle.pol_script.specs.declared.command.Command.TheVariants as command
 use Rattle.pol_run.specs.Spots.{Reading, Spot, stands_before}
 use Rattle.pol_run.specs.History.{state_at}
 use Rattle.pol_run.specs.Moments.{IsMoment, revisions_in}
-use Rattle.pol_run.specs.Endpoints.{IsLive, IsVerdictFor, VerdictAnswers, SyncAnswers, fits_limit}
+use Rattle.pol_run.specs.Endpoints.{IsLive, IsVerdictFor, VerdictAnswers, SyncAnswers}
 use Rattle.pol_run.specs.RightAnswer.{RightAnswer, IsRightCommit, IsRightRefusal, IsRightVerdict, IsRightNotYet, IsRightNoEndpoint, IsRightTrace, IsRightSync, IsTooLarge}
 use Rattle.pol_run.specs.Serial.{state_then, state_with}
 use Rattle.pol_run.specs.SerialLines.{Seen, Shown, MapFits, SerialAnswer, IsNextCommit, IsVerdictNow, IsNotYetNow, IsNoEndpointNow, IsTraceNow, IsSyncNow}

@@ -14,12 +14,12 @@ use Rattle.pol_model.specs.declared.options.Options.{Options}
 use Rattle.pol_model.specs.declared.request.Query.{Query}
 use Rattle.pol_model.specs.declared.request.Request.{Request}
 use Rattle.pol_model.specs.declared.row.Endpoint.{Endpoint}
+use Rattle.pol_model.specs.FullRows.{fits_limit}
 use Rattle.pol_script.specs.Lines.{lines_of}
 use Rattle.pol_script.specs.Reading.{reading_of}
 use Rattle.pol_answer.specs.Text.{texts_of}
 use Rattle.pol_script.specs.declared.command.Command.TheVariants as command
 use Rattle.pol_run.specs.Spots.{Reading, phase_after}
-use Rattle.pol_run.specs.Endpoints.{fits_limit}
 use Rattle.pol_run.specs.Run.{IsRunOf, readings_of, status_of}
 use Rattle.pol_run.specs.Serial.{state_with, answer_to_commit, answer_at_endpoint, answer_with_trace, answer_in, state_then, answers_from, serial_answers}
 use Rattle.pol_run.specs.SerialLines.{Seen, nothing_seen, seen_after, MapFits, SerialAnswer, IsSerialFrom, IsSerial}

@@ -5,8 +5,9 @@ use Rattle.std.proofs.lemmas.Bool.{leb-false, le-leb, lt-leb, not-true, not_from
 use Rattle.std.proofs.lemmas.Slice.Eq.{bytes_eq-Decides}
 use Rattle.pol_model.specs.declared.answer.FullSlot.{FullSlot}
 use Rattle.pol_model.specs.declared.options.Options.{Options}
+use Rattle.pol_model.specs.FullRows.{fits_limit}
 use Rattle.pol_run.specs.Spots.{Spot}
-use Rattle.pol_run.specs.Endpoints.{has_row, fits_limit}
+use Rattle.pol_run.specs.Endpoints.{has_row}
 use Rattle.pol_run.specs.RightAnswer.{NoTwoOfOneEndpoint, AreOfOneEndpoint}
 use Rattle.pol_run.specs.InShort.{IsOver}
 

@@ -1,6 +1,6 @@
 -- Endpoints along a history, and which lines have shown a map of one. An endpoint is a name with the
 -- revision that added it: a later one of the same name is another.
-use Rattle.std.specs.Prelude.{◌≡◌, ℕ, ◌≤◌, nat_le, not, Bool, true, List, IsTrue, Option, None, Some, Ok}
+use Rattle.std.specs.Prelude.{◌≡◌, ℕ, ◌≤◌, not, Bool, List, IsTrue, Some, Ok}
 use Rattle.std.specs.List.{list_any}
 use Rattle.std.specs.Str.{bytes_eq}
 use Rattle.pol_model.specs.declared.answer.FullSlot.{FullSlot}
@@ -23,11 +23,6 @@ pub record IsLiveSince (options : Options) (spots : List Spot) (revision : ℕ) 
   pub endpoint : Endpoint
   pub live : IsLive options spots revision name endpoint
   pub same : endpoint.added ≡ added
-
--- how many entries a map may have
-abbrev pub fits_limit : Option ℕ → ℕ → Bool
-fits_limit None count = true
-fits_limit (Some limit) count = nat_le count limit
 
 -- the size of an endpoint's map at a revision
 abbrev pub size_at : Options → List Spot → ℕ → Endpoint → ℕ

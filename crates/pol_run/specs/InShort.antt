@@ -18,6 +18,7 @@ use Rattle.pol_model.specs.declared.options.Options.{Options}
 use Rattle.pol_model.specs.declared.request.Query.{Query}
 use Rattle.pol_model.specs.declared.request.Request.{Request}
 use Rattle.pol_model.specs.declared.row.Endpoint.{Endpoint}
+use Rattle.pol_model.specs.FullRows.{FullRowsAscend}
 use Rattle.pol_script.specs.Lines.{lines_of}
 use Rattle.pol_script.specs.Reading.{reading_of}
 use Rattle.pol_answer.specs.Text.{text_of, texts_of}
@@ -26,7 +27,6 @@ use Rattle.pol_answer.specs.declared.answer.Answer.TheVariants as answer
 use Rattle.pol_script.specs.declared.command.Command.TheVariants as command
 use Rattle.pol_run.specs.Spots.{Line, Reading}
 use Rattle.pol_run.specs.ByIndex.{IsLine, is_phase, is_ok, is_ok_at, Prints, ComesBefore, IsReached, IsSinceSeen}
-use Rattle.pol_run.specs.RightAnswer.{RowsAscend}
 
 -- ---- endpoints and their maps
 
@@ -129,7 +129,7 @@ pub record IsOverAfter (options : Options) (history : List Request) (name : List
 -- is over the limit at each revision from N on that the line may reach.
 pub record AreExact (options : Options) (lines : List Line) (history : List Request) (i : ℕ) (reading : Reading) (revision : ℕ) (full : List FullSlot) : Type 0 where
   pub each : AllByRecursion (IsExact options history revision) full
-  pub sorted : RowsAscend full
+  pub sorted : FullRowsAscend full
   pub distinct : (a b : ℕ) (first second : FullSlot) (added : ℕ) → a < b → slice_get full a ≡ Some first → slice_get full b ≡ Some second
       → first.name ≡ second.name → IsAddedAt options history first.revision first.name added
       → IsAddedAt options history second.revision second.name added → ⊥

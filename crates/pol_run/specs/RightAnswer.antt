@@ -1,8 +1,6 @@
 -- Which answer to a line is right, by the kind of the line.
-use Rattle.std.specs.Prelude.{⊤, ◌≡◌, ℕ, ◌-◌, ◌≤◌, not, Bool, List, [], ◌∷◌, IsTrue, Option, None, Some, Ok, Err}
+use Rattle.std.specs.Prelude.{⊤, ◌≡◌, ℕ, ◌-◌, ◌≤◌, not, List, [], ◌∷◌, IsTrue, Option, None, Some, Ok, Err}
 use Rattle.std.specs.List.{AllByRecursion, Contains}
-use Rattle.std.specs.Ordering.{nat_cmp, ordering_then, is_le}
-use Rattle.std.specs.Cmp.Lexicographic.{slice_cmp}
 use Rattle.pol_mapkey.specs.declared.Word.{Word}
 use Rattle.pol_model.specs.declared.answer.FullSlot.{FullSlot}
 use Rattle.pol_model.specs.declared.answer.Refused.{Refused}
@@ -16,13 +14,14 @@ use Rattle.pol_model.specs.Endpoints.{endpoint_of}
 use Rattle.pol_model.specs.Explain.{explain_of}
 use Rattle.pol_model.specs.Fault.{fault_of}
 use Rattle.pol_model.specs.Remote.{verdict_for}
+use Rattle.pol_model.specs.FullRows.{FullRowsAscend, fits_limit}
 use Rattle.pol_answer.specs.declared.answer.Answer.{Answer}
 use Rattle.pol_answer.specs.declared.answer.Answer.TheVariants as answer
 use Rattle.pol_script.specs.declared.command.Command.TheVariants as command
 use Rattle.pol_run.specs.Spots.{Spot, Reading, stands_before}
 use Rattle.pol_run.specs.History.{state_at}
 use Rattle.pol_run.specs.Moments.{IsMoment, cap}
-use Rattle.pol_run.specs.Endpoints.{IsLive, IsLiveSince, IsVerdictFor, IsSyncFor, fits_limit, size_at}
+use Rattle.pol_run.specs.Endpoints.{IsLive, IsLiveSince, IsVerdictFor, IsSyncFor, size_at}
 
 -- `ok k`: the request had no fault at the revision before, and holds the number that the new state gives it
 pub record IsRightCommit (options : Options) (spots : List Spot) (request : Request) (revision : ℕ) (printed : Option ℕ) : Type 0 where
@@ -81,16 +80,6 @@ pub record IsRightRow (options : Options) (spots : List Spot) (spot : Spot) (syn
   pub count : row.count ≡ size_at options spots row.revision endpoint
   pub too_many : IsTrue (not (fits_limit options.map_max row.count))
 
--- rows by name, then revision
-abbrev pub row_le : FullSlot → FullSlot → Bool
-row_le a b = is_le (ordering_then (slice_cmp nat_cmp a.name b.name) (nat_cmp a.revision b.revision))
-
--- each row is at most the next one
-abbrev pub RowsAscend : List FullSlot → Type 0
-RowsAscend [] = ⊤
-RowsAscend (row ∷ []) = ⊤
-RowsAscend (row ∷ next ∷ rows) = IsTrue (row_le row next) × RowsAscend (next ∷ rows)
-
 -- two rows are of one endpoint
 pub record AreOfOneEndpoint (options : Options) (spots : List Spot) (a b : FullSlot) : Type 0 where
   pub name : a.name ≡ b.name
@@ -123,7 +112,7 @@ pub record HasRow (options : Options) (spots : List Spot) (full : List FullSlot)
 pub record IsRightSync (options : Options) (spots : List Spot) (spot : Spot) (revision : ℕ) (full : List FullSlot) : Type 0 where
   pub is_moment : IsMoment spots spot revision
   pub rows : AllByRecursion (IsRightRow options spots spot revision) full
-  pub ascend : RowsAscend full
+  pub ascend : FullRowsAscend full
   pub distinct : NoTwoOfOneEndpoint options spots full
   pub complete : (name : List ℕ) (added : ℕ)
       → ((k : ℕ) → revision ≤ k → k ≤ cap spots spot → IsTooLarge options spots name added k)

@@ -4,7 +4,7 @@ use Rattle.std.specs.List.Sorted.{IsPermutation}
 use mathlib.Core.List.{IsPrefix}
 use Rattle.pol_history.specs.declared.event.HistoryEvent.{HistoryEvent}
 use Rattle.pol_history.specs.declared.turn.SlotTurn.{SlotTurn}
-use Rattle.pol_history.specs.Calls.{IsSynced, RowsAscend}
+use Rattle.pol_history.specs.Calls.{IsSynced}
 use Rattle.pol_history.specs.Commits.{revision_of, state_now}
 use Rattle.pol_history.specs.Legal.{IsLegal}
 use Rattle.pol_history.specs.SlotTurns.{EachTells, rows_of}
@@ -13,12 +13,13 @@ use Rattle.pol_history.proofs.SyncTurns.{turns_synced}
 use Rattle.pol_model.specs.Committed.{slots_of}
 use Rattle.pol_model.specs.declared.answer.FullSlot.{FullSlot}
 use Rattle.pol_model.specs.declared.options.Options.{Options}
+use Rattle.pol_model.specs.FullRows.{FullRowsAscend}
 use Rattle.pol_node.proofs.Turns.{turns_later}
 use Rattle.pol_node.proofs.node.sync_slots.Goals as goal
 
 slots_synced : (options : Options) (first then mid new : List HistoryEvent) (revision : ℕ) (turns : List SlotTurn) (full : List FullSlot) → IsPrefix first then
     → IsPrefix then mid → IsPrefix mid new → IsLegal options new → revision ≡ revision_of then → EachTells options then mid (revision_of then) 0 turns
-    → slots_of (state_now options then).endpoints ≤ length turns → IsPermutation (rows_of turns) full → RowsAscend full → IsSynced options first new revision full
+    → slots_of (state_now options then).endpoints ≤ length turns → IsPermutation (rows_of turns) full → FullRowsAscend full → IsSynced options first new revision full
 slots_synced options first then mid new revision turns full begins on more legal is tell all those sorted =
     subst (λ n. IsSynced options first new n full) (sym is)
     (turns_synced options first then new turns full legal begins (prefix_trans then mid new on more) all

@@ -1,7 +1,7 @@
 use Rattle.std.proofs.Common.{◌≡◌, ◌++◌, take}
 use Rattle.std.specs.String.{string_bytes}
-use Rattle.pol_answer.specs.Text.{printable}
-use Rattle.pol_answer.proofs.parts.push_printable.Given as goal
+use Rattle.pol_json.specs.Texts.{printable}
+use Rattle.pol_json.proofs.texts.push_printable.Given as goal
 
 -- what was written so far is the front of the name
 abbrev pub invariant-loop-byte : goal.invariant-loop-byte

@@ -9,7 +9,7 @@ use Rattle.std.specs.declared.cmp.Ordering.TheVariants.{Less, Equal, Greater}
 use Rattle.std.proofs.lemmas.Cmp.{nat_cmp_total, on_total, then_total}
 use Rattle.std.proofs.lemmas.List.Sorted.{ranks_by}
 use Rattle.pol_model.specs.declared.answer.FullSlot.{FullSlot}
-use Rattle.pol_history.specs.Calls.{RowsAscend, row_le}
+use Rattle.pol_model.specs.FullRows.{FullRowsAscend, full_row_le}
 
 abbrev pub by_name_and_revision : FullSlot → FullSlot → Ordering
 by_name_and_revision a b = ordering_then (slice_cmp nat_cmp a.name b.name) (nat_cmp a.revision b.revision)
@@ -28,10 +28,10 @@ at_most there Less turned later = cc
 at_most there Equal turned later = ap is_le turned
 at_most there Greater turned later = ap is_le turned
 
-follows : (a b : FullSlot) → comes_before b a ≡ false → row_le a b ≡ true
+follows : (a b : FullSlot) → comes_before b a ≡ false → full_row_le a b ≡ true
 follows a b later = at_most (by_name_and_revision a b) (by_name_and_revision b a) (rows_total.antisymm a b) later
 
-pub rows_ascend : (rows : List FullSlot) → IsSortedBy comes_before rows → RowsAscend rows
+pub rows_ascend : (rows : List FullSlot) → IsSortedBy comes_before rows → FullRowsAscend rows
 rows_ascend [] sorted = tt
 rows_ascend (row ∷ []) sorted = tt
 rows_ascend (row ∷ next ∷ rows) sorted = (
