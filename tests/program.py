@@ -21,15 +21,15 @@ PROGRAM = CRATE / "out" / NAME
 NOTE = CRATE / "out" / f"{NAME}.note"
 
 
+def crate_of(line):
+    """The crate that a line of crates.txt names, and the libraries that it names; None where it names none."""
+    head, _, libraries = line.partition("#")[0].partition(":")
+    return (head.split()[0], libraries.split()) if head.strip() else None
+
+
 def crates():
     """The crates of crates.txt in its order, each with the libraries that it names."""
-    found = {}
-    for line in (TOP / "crates.txt").read_text().splitlines():
-        line = line.partition("#")[0].strip()
-        if line:
-            head, _, libraries = line.partition(":")
-            found[head.split()[0]] = libraries.split()
-    return found
+    return dict(it for it in map(crate_of, (TOP / "crates.txt").read_text().splitlines()) if it)
 
 
 def parts():
