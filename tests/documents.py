@@ -10,6 +10,7 @@ import subprocess
 import compare
 import layers
 import program
+import rooms
 
 TOP = compare.TOP
 PLAY, WHAT_IF = "./play ", "recipes/what-if "
@@ -186,6 +187,12 @@ def sources(name):
     return "\n".join(it.read_text() for it in below)
 
 
+def libraries():
+    """The crates, and the libraries that they name."""
+    listed = program.crates()
+    return {*listed}.union(*listed.values())
+
+
 def lost_names(text, names):
     """Names in code marks that the code of none of the crates has."""
     code = "\n".join(map(sources, names))
@@ -193,7 +200,7 @@ def lost_names(text, names):
     for named in re.findall(r"`([A-Za-z_]\w*(?:::\w+)?)(?:<\w+>)?`", text):
         kind, _, call = named.rpartition("::")
         known = re.search(rf"\bfn {call}\b", code) and re.search(rf"\b{kind}\b", code) if kind else re.search(rf"\b{call}\b", code)
-        if not known and named not in program.crates() and f" {named}" not in (TOP / "crates.txt").read_text():
+        if not known and named not in libraries():
             lost.append(f"{' and '.join(names)}: nothing there is named {named}")
     return lost
 
@@ -232,6 +239,7 @@ def introduced(name):
 
 def checks():
     yield "diagram docs/ARCHITECTURE.md", diagram
+    yield from rooms.checks()
     for name in program.crates():
         yield f"readme crates/{name}", lambda name=name: introduced(name)
     yield "example examples/README.md", example
