@@ -8,6 +8,7 @@ import re
 import subprocess
 
 import compare
+import definitions
 import layers
 import program
 import rooms
@@ -240,6 +241,7 @@ def introduced(name):
 def checks():
     yield "diagram docs/ARCHITECTURE.md", diagram
     yield from rooms.checks()
+    yield from definitions.checks()
     for name in program.crates():
         yield f"readme crates/{name}", lambda name=name: introduced(name)
     yield "example examples/README.md", example
