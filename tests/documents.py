@@ -9,6 +9,7 @@ import subprocess
 
 import compare
 import definitions
+import kinds
 import layers
 import program
 import rooms
@@ -242,6 +243,7 @@ def checks():
     yield "diagram docs/ARCHITECTURE.md", diagram
     yield from rooms.checks()
     yield from definitions.checks()
+    yield from kinds.checks()
     for name in program.crates():
         yield f"readme crates/{name}", lambda name=name: introduced(name)
     yield "example examples/README.md", example
