@@ -11,6 +11,7 @@ import compare
 import definitions
 import kinds
 import layers
+import names
 import program
 import rooms
 
@@ -244,6 +245,7 @@ def checks():
     yield from rooms.checks()
     yield from definitions.checks()
     yield from kinds.checks()
+    yield from names.checks()
     for name in program.crates():
         yield f"readme crates/{name}", lambda name=name: introduced(name)
     yield "example examples/README.md", example

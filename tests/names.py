@@ -1,0 +1,54 @@
+"""A name of a public type stands once in the repository: no other type of any crate has it.
+
+A type is an `enum`, `struct`, `trait`, `union` or `type` that begins at the margin of a file of `src`; it is public
+where it is `pub`, whoever else it is handed on by. TWICE has the names that aren't so yet, each with the crates whose
+types have it. It may only shrink: a name that stands once, or whose crates are others, is told too.
+"""
+import re
+
+import program
+
+TYPE = re.compile(r"(?m)^(pub )?(?:pub\(\w+\) )?(?:enum|struct|trait|union|type) (\w+)")
+TWICE = {
+    "Change": "pol_changes pol_edits pol_face pol_requests",
+    "Endpoints": "pol_sanitize pol_tables",
+    "Entries": "pol_audit pol_rule",
+    "Hints": "pol_pool pol_trie",
+    "Kind": "ident_bench pol_json pol_mapkey pol_sanitize pol_summary repo_bench",
+    "Moves": "cache_bench pol_sets",
+    "Named": "pol_tables repo_bench",
+    "Node": "pol_arena pol_lpm pol_node pol_trie",
+    "Numbers": "pol_audit pol_numbers",
+    "Op": "pol_face pol_script",
+    "Place": "pol_ident pol_rule",
+    "Places": "pol_model pol_places",
+    "Played": "pol_sessions policyd",
+    "Reading": "pol_blocks pol_maps pol_phases",
+    "Row": "pol_core pol_face pol_selectors",
+    "Said": "pol_audit pol_core",
+    "Shown": "pol_core pol_face",
+    "Slot": "pol_arena pol_lpm pol_node",
+}
+
+
+def types():
+    """For each name of a public type the crates with types of that name; a crate stands there once for each of them."""
+    found, public = {}, set()
+    for crate in sorted(program.crates()):
+        for path in sorted((program.TOP / "crates" / crate / "src").rglob("*.rt")):
+            for is_public, name in TYPE.findall(path.read_text()):
+                found.setdefault(name, []).append(crate)
+                public.update([name] if is_public else [])
+    return {name: found[name] for name in sorted(public)}
+
+
+def once():
+    """Each name of a public type stands once, or is in TWICE with its crates."""
+    several = {name: " ".join(crates) for name, crates in types().items() if len(crates) > 1}
+    wrong = [f"{name} stands more than once, in {it}: a new type takes a name of its own" for name, it in several.items() if name not in TWICE]
+    wrong += [f"{name} stands in {it}, and TWICE has {TWICE[name]}" for name, it in several.items() if TWICE.get(name, it) != it]
+    return [*wrong, *(f"{name} stands once now: TWICE needs it no more" for name in TWICE if name not in several)]
+
+
+def checks():
+    yield "names of public types", once
