@@ -10,23 +10,18 @@ import program
 
 TYPE = re.compile(r"(?m)^(pub )?(?:pub\(\w+\) )?(?:enum|struct|trait|union|type) (\w+)")
 TWICE = {
-    "Change": "pol_changes pol_edits pol_face pol_requests",
+    "Change": "pol_changes pol_edits pol_requests",
     "Endpoints": "pol_sanitize pol_tables",
     "Entries": "pol_audit pol_rule",
     "Hints": "pol_pool pol_trie",
-    "Kind": "ident_bench pol_json pol_mapkey pol_sanitize pol_summary repo_bench",
+    "Kind": "ident_bench pol_json pol_mapkey pol_sanitize repo_bench",
     "Moves": "cache_bench pol_sets",
     "Named": "pol_tables repo_bench",
     "Node": "pol_arena pol_lpm pol_node pol_trie",
     "Numbers": "pol_audit pol_numbers",
-    "Op": "pol_face pol_script",
     "Place": "pol_ident pol_rule",
     "Places": "pol_model pol_places",
-    "Played": "pol_sessions policyd",
     "Reading": "pol_blocks pol_maps pol_phases",
-    "Row": "pol_core pol_face pol_selectors",
-    "Said": "pol_audit pol_core",
-    "Shown": "pol_core pol_face",
     "Slot": "pol_arena pol_lpm pol_node",
 }
 

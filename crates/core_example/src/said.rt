@@ -1,6 +1,6 @@
 //! Events of a machine, and what it replies.
 use anyhow::Result;
-use pol_core::{Event, Machine, Reply, Said};
+use pol_core::{Event, Machine, Reply, SerialAnswer};
 use pol_data::Steps;
 use pol_mapkey::Word;
 use pol_model::{Committed, FullSlot, Query, Request};
@@ -40,11 +40,11 @@ fn show<R: Print>(rt: &R, reply: Reply) -> Result<()> {
 }
 
 /// Shows an answer to one session.
-pub(crate) fn show_said<R: Print>(rt: &R, said: Said) -> Result<()> {
+pub(crate) fn show_said<R: Print>(rt: &R, said: SerialAnswer) -> Result<()> {
     match said {
-        Said::Replied(reply) => show(rt, reply),
-        Said::Synced { revision, full } => show_synced(rt, revision, full.as_slice()),
-        Said::Traced { revision, trace } => {
+        SerialAnswer::Replied(reply) => show(rt, reply),
+        SerialAnswer::Synced { revision, full } => show_synced(rt, revision, full.as_slice()),
+        SerialAnswer::Traced { revision, trace } => {
             println!(rt;
                 "trace {} at {revision} remote {}",
                 word_of(trace.word),

@@ -6,7 +6,7 @@ use Rattle.pol_history.specs.Commits.{commits_by}
 use Rattle.pol_history.specs.Grows.{PassGrows, PassGrowsWhole, PassState}
 use Rattle.pol_history.specs.Legal.{IsLegal}
 use Rattle.pol_history.proofs.Beginnings.{prefix_self}
-use Rattle.pol_face.specs.declared.change.Change.{Change}
+use Rattle.pol_face.specs.declared.change.FaceChange.{FaceChange}
 use Rattle.pol_face.specs.Changes.{IsChangeOf, Tells}
 
 -- the longer history, where there is one
@@ -26,7 +26,7 @@ last_same (z ∷ xs) (w ∷ ys) x y same =
     (ap (λ v. v ∷ xs) first ∙ ap (λ vs. w ∷ vs) both.0, both.1)
 
 -- the change of the event that the history ends with
-pub is_change : (options : Options) (new : Change) (history : List HistoryEvent) (last : HistoryEvent) (longer : List HistoryEvent)
+pub is_change : (options : Options) (new : FaceChange) (history : List HistoryEvent) (last : HistoryEvent) (longer : List HistoryEvent)
     → Tells options history new last → longer ≡ history ++ last ∷ [] → IsChangeOf options new longer
 is_change options new history last longer tells is = record {
   tells = λ before other same.
@@ -34,7 +34,7 @@ is_change options new history last longer tells is = record {
       subst (λ (h : List HistoryEvent). Tells options h new other) both.0 (subst (λ (e : HistoryEvent). Tells options history new e) both.1 tells);
 }
 
-pub longer-is_change : (options : Options) (new : Change) (history : List HistoryEvent) (last : HistoryEvent) (longer : Option (List HistoryEvent))
+pub longer-is_change : (options : Options) (new : FaceChange) (history : List HistoryEvent) (last : HistoryEvent) (longer : Option (List HistoryEvent))
     → Tells options history new last → IfSome longer (λ l. l ≡ history ++ last ∷ []) → IfSome longer (λ l. IsChangeOf options new l)
 longer-is_change options new history last None tells is = tt
 longer-is_change options new history last (Some longer) tells is = is_change options new history last longer tells is

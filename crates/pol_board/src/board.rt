@@ -7,7 +7,7 @@ use crate::pass::Pass;
 use crate::writer::BoardWriter;
 use left_right::{ReadHandle, WriteHandle};
 use pol_book::{NewBook, NodeName};
-use pol_face::{Face, Op};
+use pol_face::{Face, FaceOp};
 use pol_model::Mode;
 use std::alloc::Global;
 use std::sync::Wait;
@@ -87,7 +87,7 @@ impl Board {
 
 /// A handle for looks, for a pass from this number on.
 fn handle_of<N: NodeName, R: Wait + Drop>(
-    board: &WriteHandle<Face<N>, Op<N>, R>,
+    board: &WriteHandle<Face<N>, FaceOp<N>, R>,
     number: u32,
     first: u32,
 ) -> Result<Option<ReadHandle<Face<N>>>, BoardError> {

@@ -10,13 +10,13 @@ ghost use Rattle.pol_face.specs.Changes.{IsMadeOf, Tells};
 
 use pol_data::Memory;
 use pol_edits::ChangeList;
-use pol_face::Change;
+use pol_face::FaceChange;
 use pol_model::Request;
 use pol_taken::Taken;
 use std::alloc::Global;
 
 /// What a commit changes.
-pub(crate) fn commit_change(alloc: Global, request: &Request) -> Result<Change, Memory>
+pub(crate) fn commit_change(alloc: Global, request: &Request) -> Result<FaceChange, Memory>
     ensures { IfOk result (λ change. (options : Options) (history : List OneEvent) (pass number : ℕ) → Tells options history change (event.Commit pass number request.now)) }
 {
     Ok(match request {
@@ -24,17 +24,17 @@ pub(crate) fn commit_change(alloc: Global, request: &Request) -> Result<Change, 
             name,
             labels: _,
             address: _,
-        } => Change::Added {
+        } => FaceChange::Added {
             name: name.copy(alloc)?,
         },
-        Request::RemoveEndpoint { name } => Change::Removed {
+        Request::RemoveEndpoint { name } => FaceChange::Removed {
             name: name.copy(alloc)?,
         },
-        Request::AddIdentity { name: _, labels: _ } => Change::Nothing,
-        Request::RemoveIdentity { name: _ } => Change::Nothing,
-        Request::Apply(_) => Change::Nothing,
-        Request::Remove(_) => Change::Nothing,
-        Request::SetMode(_) => Change::Nothing,
+        Request::AddIdentity { name: _, labels: _ } => FaceChange::Nothing,
+        Request::RemoveIdentity { name: _ } => FaceChange::Nothing,
+        Request::Apply(_) => FaceChange::Nothing,
+        Request::Remove(_) => FaceChange::Nothing,
+        Request::SetMode(_) => FaceChange::Nothing,
     })
 }
 
@@ -43,13 +43,13 @@ pub(crate) fn published_change(
     alloc: Global,
     taken: &Taken,
     changes: &ChangeList,
-) -> Result<Change, Memory>
+) -> Result<FaceChange, Memory>
     ensures { IfOk result (λ change. (options : Options) (history : List OneEvent) (table : List OneEntry)
         → IsMadeOf options history taken.now.endpoint.name taken.now.revision changes.now (arc_value taken.now.addresses) table
         → Tells options history change (event.Publish (endpoint_id taken.now.endpoint) taken.now.revision table)) }
 {
     let addresses = taken.addresses.clone()?;
-    Ok(Change::Published {
+    Ok(FaceChange::Published {
         name: taken.endpoint.name.copy(alloc)?,
         added: taken.endpoint.added,
         revision: taken.revision,
@@ -59,11 +59,11 @@ pub(crate) fn published_change(
 }
 
 /// What a report that a map is too large changes.
-pub(crate) fn blocked_change(alloc: Global, taken: &Taken) -> Result<Change, Memory>
+pub(crate) fn blocked_change(alloc: Global, taken: &Taken) -> Result<FaceChange, Memory>
     ensures { IfOk result (λ change. (options : Options) (history : List OneEvent) (count : ℕ)
         → Tells options history change (event.Blocked (endpoint_id taken.now.endpoint) taken.now.revision count)) }
 {
-    Ok(Change::Blocked {
+    Ok(FaceChange::Blocked {
         name: taken.endpoint.name.copy(alloc)?,
         added: taken.endpoint.added,
         revision: taken.revision,

@@ -23,7 +23,7 @@ use left_right::{Absorb, WriteHandle};
 use pol_book::{Book, NodeName, Seen};
 use pol_data::{Memory, Text};
 use pol_edits::ChangeList;
-use pol_face::{Change, Face, Op};
+use pol_face::{Face, FaceChange, FaceOp};
 use pol_history::LastReport;
 use pol_model::{Committed, Request};
 use pol_taken::Taken;
@@ -36,12 +36,12 @@ const EVENTS: u64 = 1 << 61;
 /// The writer, with its history. It can't be dropped, and is ended by `close`.
 pub struct BoardWriter<N: NodeName, R: Wait + Drop>
 where
-    Face<N>: Absorb<Op<N>>,
+    Face<N>: Absorb<FaceOp<N>>,
 {
     /// What it has seen: all events.
     pub seen: Seen<N>,
     book: Book<N>,
-    board: WriteHandle<Face<N>, Op<N>, R>,
+    board: WriteHandle<Face<N>, FaceOp<N>, R>,
     spent: bool,
     counts: Vec<u64>,
     ghost shown: { published board ≡ seen },
@@ -85,9 +85,9 @@ fn until_fits<N: NodeName, W: Wait>(rt: &W, seen: &Seen<N>, counts: &[u64], pass
 
 /// Shows a history with an event more, where there is one. After want of memory the event is never shown.
 fn append<N: NodeName, R: Wait + Drop>(
-    board: &mut WriteHandle<Face<N>, Op<N>, R>,
+    board: &mut WriteHandle<Face<N>, FaceOp<N>, R>,
     longer: Option<Seen<N>>,
-    change: Change,
+    change: FaceChange,
 ) -> Result<Seen<N>, Memory>
     requires change { IfSome longer (λ l. IsChangeOf N.options change l) }
     ensures ok { IfOk result (λ l. (longer ≡ Some l) × (published board.new ≡ l)) }
@@ -99,7 +99,7 @@ fn append<N: NodeName, R: Wait + Drop>(
     let Some(longer) = longer else {
         return Err(Memory);
     };
-    let Ok(_) = board.append(Op::new(change, &longer)) else {
+    let Ok(_) = board.append(FaceOp::new(change, &longer)) else {
         return Err(Memory);
     };
     let Ok(_) = board.publish() else {
@@ -130,7 +130,7 @@ impl<N: NodeName, R: Wait + Drop> BoardWriter<N, R> {
     pub(crate) fn open(
         seen: Seen<N>,
         book: Book<N>,
-        board: WriteHandle<Face<N>, Op<N>, R>,
+        board: WriteHandle<Face<N>, FaceOp<N>, R>,
         counts: Vec<u64>,
     ) -> BoardWriter<N, R>
         requires shown { published board ≡ seen }

@@ -8,7 +8,7 @@ use Rattle.pol_taken.specs.declared.taken.Taken.{Taken}
 use Rattle.pol_core.specs.Parts.{TakesOf, with_slot}
 use Rattle.pol_core.specs.Rows.{RowsOf, live_held, row_held, with_one}
 use Rattle.pol_core.specs.Stands.{over_limit}
-use Rattle.pol_core.specs.declared.row.Row.{Row}
+use Rattle.pol_core.specs.declared.row.MachineRow.{MachineRow}
 use Rattle.pol_core.proofs.Choices.{if_mapped}
 
 -- ---- tests of numbers and names
@@ -40,7 +40,7 @@ count_over limit count many same is over =
 
 -- ---- rows of which one has changed
 
-module _ (rows : RowsOf) (name : List ℕ) (row now : Row) (there : rows name ≡ Some row) where
+module _ (rows : RowsOf) (name : List ℕ) (row now : MachineRow) (there : rows name ≡ Some row) where
   -- it is one of the same content
   held_step : (test : Bool) (n : List ℕ) → bytes_eq name n ≡ test → row_held now ≡ row_held row
       → cond test (Some (row_held now)) (live_held rows n) ≡ live_held rows n

@@ -47,7 +47,7 @@ use Rattle.pol_core.specs.Parts as parts
 use Rattle.pol_core.specs.Parts.{HasFewKeys, Finishes, FinishesRow, FinishesSlot, FinishesTaken, IsMadeOf, MayFinishTaken, PublishesRow, TakesOf, WasBlocked, WasFinished, WasGone, WasLeft, WasPublished, with_slot}
 use Rattle.pol_core.specs.Rows.{RowsOf, live_held, map_held, row_held, trie_of, with_one}
 use Rattle.pol_core.specs.Stands.{GoesFrom, IsKeptRow, IsKeptWork, IsTakenFor, Kept, StandsFor, Steps, options_of, taken_as}
-use Rattle.pol_core.specs.declared.row.Row.{Row}
+use Rattle.pol_core.specs.declared.row.MachineRow.{MachineRow}
 use Rattle.pol_core.proofs.AtHistory.{at_blocked, at_publish, revision_at}
 use Rattle.pol_core.proofs.Changed.{count_over, differs_itself, equal, fits_false, fits_true, held_changed, held_same, none_over, not_equal, slot_same, with_same}
 use Rattle.pol_core.proofs.Choices.{if_either, if_mapped}
@@ -142,14 +142,14 @@ module _ (k : Kept) (m : Machine) (stands : StandsFor k m) (slot : ℕ) where
           ];
     }
 
-    shows : (row : Option Row) → k.rows name ≡ row → ShowsRow options history name (option_map row_held row)
+    shows : (row : Option MachineRow) → k.rows name ≡ row → ShowsRow options history name (option_map row_held row)
     shows row is =
         subst (ShowsRow options history name) (sym (stands.live name) ∙ ap (option_map row_held) is) (content-rows options history stands.sound.legal name)
 
     absent : k.rows name ≡ None → live_endpoint id (state_now options history) ≡ None
     absent none = ap (if_added taken.endpoint.added) (shows None none)
 
-    other_one : (row : Row) → k.rows name ≡ Some row → row.added ≢ taken.endpoint.added → live_endpoint id (state_now options history) ≡ None
+    other_one : (row : MachineRow) → k.rows name ≡ Some row → row.added ≢ taken.endpoint.added → live_endpoint id (state_now options history) ≡ None
     other_one row is differ =
         let one = shows (Some row) is in
         ap (if_added taken.endpoint.added) one.found
@@ -167,7 +167,7 @@ module _ (k : Kept) (m : Machine) (stands : StandsFor k m) (slot : ℕ) where
 
     -- ---- the endpoint is live
 
-    module _ (row : Row) (row_there : k.rows name ≡ Some row) (own : row.added ≡ taken.endpoint.added) where
+    module _ (row : MachineRow) (row_there : k.rows name ≡ Some row) (own : row.added ≡ taken.endpoint.added) where
       abbrev live_row : Endpoint
       live_row = (shows (Some row) row_there).endpoint
 
@@ -232,14 +232,14 @@ module _ (k : Kept) (m : Machine) (stands : StandsFor k m) (slot : ℕ) where
 
       -- ---- rows of which this one has changed
 
-      module _ (now : Row) (same_added : now.added ≡ row.added) where
+      module _ (now : MachineRow) (same_added : now.added ≡ row.added) where
         changed_works : (later : List HistoryEvent) → IsPrefix history later → IsKeptRow options later name now
-            → (n : List ℕ) (r : Row) → with_one name (Some now) k.rows n ≡ Some r → IsKeptRow options later n r
+            → (n : List ℕ) (r : MachineRow) → with_one name (Some now) k.rows n ≡ Some r → IsKeptRow options later n r
         changed_works later begins keeps n r found =
             elim (if_either (bytes_eq name n) (Some now) (k.rows n) (Some r) found) as (λ _. IsKeptRow options later n r) [
               | inl here ↦
                   subst (λ (q : List ℕ). IsKeptRow options later q r) ((bytes_decides name n).0 here.0)
-                  (subst (λ (q : Row). IsKeptRow options later name q) (same_Some now r here.1) keeps)
+                  (subst (λ (q : MachineRow). IsKeptRow options later name q) (same_Some now r here.1) keeps)
               | inr was ↦ row_later options history later n r begins (stands.works n r was.1)
             ]
 
@@ -251,7 +251,7 @@ module _ (k : Kept) (m : Machine) (stands : StandsFor k m) (slot : ℕ) where
             (λ r there2 added. elim (if_either (bytes_eq name one.endpoint.name) (Some now) (k.rows one.endpoint.name) (Some r) there2) [
               | inl here ↦
                   absurd (apart other one differ found (sym ((bytes_decides name one.endpoint.name).0 here.0))
-                  (sym added ∙ ap (λ (q : Row). q.added) (sym (same_Some now r here.1)) ∙ same_added ∙ own))
+                  (sym added ∙ ap (λ (q : MachineRow). q.added) (sym (same_Some now r here.1)) ∙ same_added ∙ own))
               | inr was ↦ inr was.1
             ])
             (stands.takes other one found)
@@ -335,7 +335,7 @@ module _ (k : Kept) (m : Machine) (stands : StandsFor k m) (slot : ℕ) where
         abbrev published : HistoryEvent
         published = event.Publish id taken.revision table
 
-        module _ (now : Row) (publishes : PublishesRow (state_in k.repo).revision taken row made now) where
+        module _ (now : MachineRow) (publishes : PublishesRow (state_in k.repo).revision taken row made now) where
           trie_is : finite.entries publishes.shown.trie ≡ table
           trie_is = ap finite.entries (publishes.is.trie ∙ leads_to) ∙ has_entries options (state_after options history taken.revision) live_row
 
@@ -363,14 +363,14 @@ module _ (k : Kept) (m : Machine) (stands : StandsFor k m) (slot : ℕ) where
               })
 
           added_published : now.added ≡ row.added
-          added_published = ap (λ (r : Row). r.added) publishes.row
+          added_published = ap (λ (r : MachineRow). r.added) publishes.row
 
           keeps_published : length (map_of made.work) ≤ k.limit → IsKeptRow options (history ++ published ∷ []) name now
           keeps_published fits =
               let is = published_is options history k.rows slot taken for' stands.sound.legal row.work made of_taken is_made publishes.work publishes.follows in
               let own_id : id_in publishes.work ≡ record { name = name; added = row.added } = is.1 ∙ (λ i. record { name = name; added = sym own i }) in
               row_later options history (history ++ published ∷ []) name now (prefix_more history (published ∷ []))
-              (subst (λ (r : Row). IsKeptRow options history name r) (sym publishes.row)
+              (subst (λ (r : MachineRow). IsKeptRow options history name r) (sym publishes.row)
               (record {
                 shown = is.2;
                 work = record { follows = follows-later options for'.before history publishes.work for'.begins is.0; id = own_id };
@@ -400,9 +400,9 @@ module _ (k : Kept) (m : Machine) (stands : StandsFor k m) (slot : ℕ) where
         abbrev blocked : HistoryEvent
         blocked = event.Blocked id taken.revision (length table)
 
-        module _ (now : Row) (now_is : now ≡ parts.row_blocked (state_in k.repo).revision taken row made) where
+        module _ (now : MachineRow) (now_is : now ≡ parts.row_blocked (state_in k.repo).revision taken row made) where
           added_blocked : now.added ≡ row.added
-          added_blocked = ap (λ (r : Row). r.added) now_is
+          added_blocked = ap (λ (r : MachineRow). r.added) now_is
 
           held_blocked : row_held now ≡ row_blocked taken.revision (content_of options history).commits (row_held row)
           held_blocked =
@@ -416,7 +416,7 @@ module _ (k : Kept) (m : Machine) (stands : StandsFor k m) (slot : ℕ) where
           keeps_blocked : k.limit < length (map_of made.work) → IsKeptRow options (history ++ blocked ∷ []) name now
           keeps_blocked over =
               row_later options history (history ++ blocked ∷ []) name now (prefix_more history (blocked ∷ []))
-              (subst (λ (r : Row). IsKeptRow options history name r) (sym now_is)
+              (subst (λ (r : MachineRow). IsKeptRow options history name r) (sym now_is)
               (record { shown = made_shown; work = record { follows = made_follows; id = made_id }; full = (committed, count_over k.limit (length table) (length (map_of made.work)) many size_is over) }))
 
           block_is : is_reported taken.revision row.report ≡ false → k.limit < length (map_of made.work)
@@ -449,7 +449,7 @@ module _ (k : Kept) (m : Machine) (stands : StandsFor k m) (slot : ℕ) where
 
       -- ---- there was no memory
 
-      module _ (now : Row) (was : WasLeft taken row now) where
+      module _ (now : MachineRow) (was : WasLeft taken row now) where
         left_work : IfSome now.work (IsOfTaken options for'.before taken)
         left_work = tried options history k.rows slot taken for' stands.sound.legal row.work now.work of_taken was.work
 
@@ -477,10 +477,10 @@ module _ (k : Kept) (m : Machine) (stands : StandsFor k m) (slot : ℕ) where
         held_left : row_held now ≡ row_held row
         held_left = λ i. record { added = was.added i; report = was.report i; map = option_map map_held (was.map i) }
 
-        goes_left : (n : List ℕ) (r : Row) → n ≡ name → with_one name (Some now) k.rows n ≡ Some r → IfSome r.work (GoesFrom options for'.before taken)
+        goes_left : (n : List ℕ) (r : MachineRow) → n ≡ name → with_one name (Some now) k.rows n ≡ Some r → IfSome r.work (GoesFrom options for'.before taken)
         goes_left n r same found =
             elim (if_either (bytes_eq name n) (Some now) (k.rows n) (Some r) found) [
-              | inl here ↦ subst (λ (q : Row). IfSome q.work (GoesFrom options for'.before taken)) (same_Some now r here.1) (goes_each now.work left_work)
+              | inl here ↦ subst (λ (q : MachineRow). IfSome q.work (GoesFrom options for'.before taken)) (same_Some now r here.1) (goes_each now.work left_work)
               | inr other ↦ absurd (differs_itself n name same other.0)
             ]
 
@@ -554,14 +554,14 @@ module _ (k : Kept) (m : Machine) (stands : StandsFor k m) (slot : ℕ) where
 
     -- ---- whichever row there is
 
-    pub may_finish : (row : Option Row) → k.rows name ≡ row → MayFinishTaken k.limit taken row
+    pub may_finish : (row : Option MachineRow) → k.rows name ≡ row → MayFinishTaken k.limit taken row
     may_finish None is = tt
     may_finish (Some row) is = λ own. record {
       may_go = may_go options history k.rows slot taken for' stands.sound.legal row.work (for'.goes row is own);
       few = λ made is_made fits. few_keys row is own made is_made fits;
     }
 
-    finished_with : {E : Type 0} (row : Option Row) → k.rows name ≡ row → (later : RowsOf) (new : Option Taken) (result : Result Reply E)
+    finished_with : {E : Type 0} (row : Option MachineRow) → k.rows name ≡ row → (later : RowsOf) (new : Option Taken) (result : Result Reply E)
         → FinishesTaken k.limit (state_in k.repo).revision taken row k.rows later new result
         → Steps options m (step.Finish slot) (record k { rows = later; takes = with_slot slot new k.takes }) result
     finished_with None is later new result was = gone_so later new result (absent is) was

@@ -27,7 +27,7 @@ use Rattle.pol_core.specs.Full.{row_by, row_kept, row_told}
 use Rattle.pol_core.specs.Rows.{RowsOf, row_held}
 use Rattle.pol_core.specs.Serial.{ListsRows, row_of, row_reported, rows_in, turn_of, turns_at, turns_in}
 use Rattle.pol_core.specs.Stands.{Kept, StandsFor, TellsFull, options_of}
-use Rattle.pol_core.specs.declared.row.Row.{Row}
+use Rattle.pol_core.specs.declared.row.MachineRow.{MachineRow}
 use Rattle.pol_core.proofs.AtHistory.{state_at}
 use Rattle.pol_core.proofs.Led.{turns_of_slots}
 
@@ -61,11 +61,11 @@ module _ (k : Kept) (m : Machine) (stands : StandsFor k m) where
         (live-parts (endpoint_id e) (state_now options history) e
         (slot-live options history stands.sound.legal e.slot e (slot-found options history e there))).0
 
-    shows : (row : Option Row) → k.rows e.name ≡ row → ShowsRow options history e.name (option_map row_held row)
+    shows : (row : Option MachineRow) → k.rows e.name ≡ row → ShowsRow options history e.name (option_map row_held row)
     shows row is =
         subst (ShowsRow options history e.name) (sym (stands.live e.name) ∙ ap (option_map row_held) is) (content-rows options history stands.sound.legal e.name)
 
-    by_row : (row : Option Row) → k.rows e.name ≡ row → row_kept e row ≡ row_of options history e
+    by_row : (row : Option MachineRow) → k.rows e.name ≡ row → row_kept e row ≡ row_of options history e
     by_row None is = absurd (no_element e (sym (shows None is) ∙ found))
     by_row (Some row) is =
         let one = shows (Some row) is in

@@ -16,8 +16,8 @@ use Rattle.pol_model.specs.declared.row.Endpoint.{Endpoint}
 use Rattle.pol_core.specs.Serial.{LedTo, SaidTo, StandsWithin, turn_of, turns_at}
 use Rattle.pol_core.specs.Stands.{Stands, StepsTo, Stored}
 use Rattle.pol_core.specs.declared.asked.Asked.TheVariants.{Commit, Look}
-use Rattle.pol_core.specs.declared.asked.Said.{Said}
-use Rattle.pol_core.specs.declared.asked.Said.TheVariants.{Replied}
+use Rattle.pol_core.specs.declared.asked.SerialAnswer.{SerialAnswer}
+use Rattle.pol_core.specs.declared.asked.SerialAnswer.TheVariants.{Replied}
 
 pub events_append : (options : Options) (m : Machine) (first later : List Event)
     → machine_from options m (first ++ later) ≡ machine_from options (machine_from options m first) later
@@ -118,12 +118,12 @@ turns_of_slots (e ∷ es) = ap (λ (events : List Event). turn_of e.slot ++ even
 
 -- ---- questions
 
-pub said_commit : {E : Type 0} (options : Options) (m : Machine) (request : Request) (result : Result Said E)
-    → IfOk result (λ (said : Said). said ≡ Replied (step_of options m (step.Commit request)).0) → SaidTo options m (Commit request) result
+pub said_commit : {E : Type 0} (options : Options) (m : Machine) (request : Request) (result : Result SerialAnswer E)
+    → IfOk result (λ (said : SerialAnswer). said ≡ Replied (step_of options m (step.Commit request)).0) → SaidTo options m (Commit request) result
 said_commit options m request (Ok said) is = is
 said_commit options m request (Err error) is = tt
 
-pub said_look : {E : Type 0} (options : Options) (m : Machine) (query : Query) (result : Result Said E)
-    → IfOk result (λ (said : Said). said ≡ Replied (step_of options m (step.Look query)).0) → SaidTo options m (Look query) result
+pub said_look : {E : Type 0} (options : Options) (m : Machine) (query : Query) (result : Result SerialAnswer E)
+    → IfOk result (λ (said : SerialAnswer). said ≡ Replied (step_of options m (step.Look query)).0) → SaidTo options m (Look query) result
 said_look options m query (Ok said) is = is
 said_look options m query (Err error) is = tt

@@ -7,13 +7,13 @@ use Rattle.pol_history.specs.declared.machine.Reply.TheVariants as reply
 use Rattle.pol_history.specs.Machine.{is_reported}
 use Rattle.pol_taken.specs.declared.taken.Taken.{Taken}
 use Rattle.pol_core.specs.Parts.{FinishesRow, Follows, IsMadeOf, Reports, TakesOf, taken_in, with_slot}
-use Rattle.pol_core.specs.declared.row.Row.{Row}
+use Rattle.pol_core.specs.declared.row.MachineRow.{MachineRow}
 
-module _ (limit commits : ℕ) (taken : Taken) (old : Row) (not_reported : is_reported taken.revision old.report ≡ false) (made : Followed) (is : IsMadeOf old.work taken made) where
-  abbrev mid : Row
+module _ (limit commits : ℕ) (taken : Taken) (old : MachineRow) (not_reported : is_reported taken.revision old.report ≡ false) (made : Followed) (is : IsMadeOf old.work taken made) where
+  abbrev mid : MachineRow
   mid = record old { work = Some made }
 
-  reported_so : {E : Type 0} (new : Row) (result : Result Reply E) → Reports limit commits taken mid made new result → FinishesRow limit commits taken old new result
+  reported_so : {E : Type 0} (new : MachineRow) (result : Result Reply E) → Reports limit commits taken mid made new result → FinishesRow limit commits taken old new result
   reported_so new (Ok (reply.Published revision)) was = record {
     not_reported = not_reported;
     same = was.0;
@@ -41,17 +41,17 @@ module _ (limit commits : ℕ) (taken : Taken) (old : Row) (not_reported : is_re
   reported_so new (Ok (reply.NoEndpoint r)) was = absurd was
   reported_so new (Ok (reply.NotYet r)) was = absurd was
   reported_so new (Err error) was = record {
-    added = ap (λ (r : Row). r.added) was;
-    report = ap (λ (r : Row). r.report) was;
-    map = ap (λ (r : Row). r.map) was;
-    work = inr (made, ap (λ (r : Row). r.work) was, is.went);
-    full = ap (λ (r : Row). r.full) was;
+    added = ap (λ (r : MachineRow). r.added) was;
+    report = ap (λ (r : MachineRow). r.report) was;
+    map = ap (λ (r : MachineRow). r.map) was;
+    work = inr (made, ap (λ (r : MachineRow). r.work) was, is.went);
+    full = ap (λ (r : MachineRow). r.full) was;
   }
 
 -- where the map was made before
-pub reported_row : {E : Type 0} (limit commits : ℕ) (taken again : Taken) → again ≡ taken → (old : Row) (work : Option Followed)
+pub reported_row : {E : Type 0} (limit commits : ℕ) (taken again : Taken) → again ≡ taken → (old : MachineRow) (work : Option Followed)
     → is_reported taken.revision old.report ≡ false → {F : Type 0} (followed : Result (Unit {0}) F) (done : Unit {0}) → followed ≡ Ok done
-    → Follows old.work taken work followed → (new : Row) (result : Result Reply E)
+    → Follows old.work taken work followed → (new : MachineRow) (result : Result Reply E)
     → ((made : Followed) → work ≡ Some made → Reports limit commits again (record old { work = work }) made new result)
     → FinishesRow limit commits taken old new result
 reported_row {E} limit commits taken again same old work not_reported {F} followed done is follows new result reports =

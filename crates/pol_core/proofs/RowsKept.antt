@@ -17,7 +17,7 @@ use Rattle.pol_taken.specs.declared.taken.Taken.{Taken}
 use Rattle.pol_core.specs.Parts.{SameTakes, TakesOf}
 use Rattle.pol_core.specs.Rows.{RowsOf, SameRows, new_row, rows_after}
 use Rattle.pol_core.specs.Stands.{GoesFrom, IsKeptRow, IsKeptWork, IsTakenFor, TellsFull, over_limit}
-use Rattle.pol_core.specs.declared.row.Row.{Row}
+use Rattle.pol_core.specs.declared.row.MachineRow.{MachineRow}
 use Rattle.pol_core.proofs.Choices.{if_either}
 
 -- ---- the same rows and takes
@@ -45,7 +45,7 @@ full_later options old new id (Some report) full begins is = (
 )
 
 -- what is told of it stays so with the report
-pub full_same : (options : Options) (history : List HistoryEvent) (name : List ℕ) (row now : Row) → now.added ≡ row.added → now.report ≡ row.report
+pub full_same : (options : Options) (history : List HistoryEvent) (name : List ℕ) (row now : MachineRow) → now.added ≡ row.added → now.report ≡ row.report
     → now.full ≡ row.full → TellsFull options history (record { name = name; added = row.added }) row.report row.full
     → TellsFull options history (record { name = name; added = now.added }) now.report now.full
 full_same options history name row now added report full is =
@@ -53,7 +53,7 @@ full_same options history name row now added report full is =
     (subst (λ (r : Option LastReport). TellsFull options history (record { name = name; added = now.added }) r row.full) (sym report)
     (subst (λ (n : ℕ). TellsFull options history (record { name = name; added = n }) row.report row.full) (sym added) is))
 
-pub row_later : (options : Options) (old new : List HistoryEvent) (name : List ℕ) (row : Row) → IsPrefix old new → IsKeptRow options old name row
+pub row_later : (options : Options) (old new : List HistoryEvent) (name : List ℕ) (row : MachineRow) → IsPrefix old new → IsKeptRow options old name row
     → IsKeptRow options new name row
 row_later options old new name row begins is = record {
   shown = is.shown;
@@ -66,23 +66,23 @@ new_kept : (options : Options) (history : List HistoryEvent) (name : List ℕ) (
 new_kept options history name revision = record { shown = refl; work = tt; full = refl }
 
 -- the row is one that was there before, or of an endpoint that has just come
-abbrev pub IsOldOrNew : RowsOf → List ℕ → Row → Type 0
+abbrev pub IsOldOrNew : RowsOf → List ℕ → MachineRow → Type 0
 IsOldOrNew rows name row = ((revision : ℕ) × (row ≡ new_row revision)) ⊎ (rows name ≡ Some row)
 
 abbrev pub AreOldOrNew : RowsOf → RowsOf → List ℕ → Type 0
-AreOldOrNew rows later name = (row : Row) → later name ≡ Some row → IsOldOrNew rows name row
+AreOldOrNew rows later name = (row : MachineRow) → later name ≡ Some row → IsOldOrNew rows name row
 
 pub works_later : (options : Options) (old new : List HistoryEvent) (rows later : RowsOf) → IsPrefix old new → ((name : List ℕ) → AreOldOrNew rows later name)
-    → ((name : List ℕ) (row : Row) → rows name ≡ Some row → IsKeptRow options old name row)
-    → (name : List ℕ) (row : Row) → later name ≡ Some row → IsKeptRow options new name row
+    → ((name : List ℕ) (row : MachineRow) → rows name ≡ Some row → IsKeptRow options old name row)
+    → (name : List ℕ) (row : MachineRow) → later name ≡ Some row → IsKeptRow options new name row
 works_later options old new rows later begins are works name row there =
     elim (are name row there) as (λ _. IsKeptRow options new name row) [
-      | inl fresh ↦ subst (λ (r : Row). IsKeptRow options new name r) (sym fresh.1) (new_kept options new name fresh.0)
+      | inl fresh ↦ subst (λ (r : MachineRow). IsKeptRow options new name r) (sym fresh.1) (new_kept options new name fresh.0)
       | inr was ↦ row_later options old new name row begins (works name row was)
     ]
 
 pub take_later : (options : Options) (old new : List HistoryEvent) (rows later : RowsOf) (slot : ℕ) (taken : Taken) → IsPrefix old new
-    → ((row : Row) → later taken.endpoint.name ≡ Some row → row.added ≡ taken.endpoint.added → IsOldOrNew rows taken.endpoint.name row)
+    → ((row : MachineRow) → later taken.endpoint.name ≡ Some row → row.added ≡ taken.endpoint.added → IsOldOrNew rows taken.endpoint.name row)
     → IsTakenFor options old rows slot taken → IsTakenFor options new later slot taken
 take_later options old new rows later slot taken begins are is = record {
   before = is.before;
@@ -92,7 +92,7 @@ take_later options old new rows later slot taken begins are is = record {
   made = is.made;
   goes = λ row there added.
       elim (are row there added) as (λ _. IfSome row.work (GoesFrom options is.before taken)) [
-        | inl fresh ↦ subst (λ (r : Row). IfSome r.work (GoesFrom options is.before taken)) (sym fresh.1) tt
+        | inl fresh ↦ subst (λ (r : MachineRow). IfSome r.work (GoesFrom options is.before taken)) (sym fresh.1) tt
         | inr was ↦ is.goes row was added
       ];
 }

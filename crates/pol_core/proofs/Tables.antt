@@ -27,7 +27,7 @@ use Rattle.pol_model.specs.declared.options.Options.{Options}
 use Rattle.pol_model.specs.declared.row.Endpoint.{Endpoint}
 use Rattle.pol_model.specs.FullRows.{fits_limit}
 use Rattle.pol_core.specs.Rows.{map_held, trie_of}
-use Rattle.pol_core.specs.declared.row.Shown.{Shown}
+use Rattle.pol_core.specs.declared.row.MachineMap.{MachineMap}
 
 pub has_entries : (options : Options) (s : State) (endpoint : Endpoint) → finite.entries (table_of (policy_map options s endpoint)) ≡ policy_map options s endpoint
 has_entries options s endpoint =
@@ -47,7 +47,7 @@ module _ (options : Options) (history : List HistoryEvent) (row : Endpoint) (liv
   then_map revision since committed =
       ap (option_map (policy_map options (state_after options history revision))) (lives-then options history id row revision committed since live)
 
-  pub shown_table : (map : Option Shown) (shown : Option ℕ) → last_published id history ≡ shown → ShowsMap options history row (option_map map_held map)
+  pub shown_table : (map : Option MachineMap) (shown : Option ℕ) → last_published id history ≡ shown → ShowsMap options history row (option_map map_held map)
       → trie_of map ≡ table_then options history id shown
   shown_table None shown last shows =
       let none : shown ≡ None = sym last ∙ shows in
@@ -61,7 +61,7 @@ module _ (options : Options) (history : List HistoryEvent) (row : Endpoint) (liv
       same ∙ ap table_of (sym entries) ∙ ap (table_then options history id) (sym some)
 
   -- it has as many keys as the limit says at most
-  pub shown_few : (limit : ℕ) → options.map_max ≡ Some limit → IsLegal options history → (map : Option Shown)
+  pub shown_few : (limit : ℕ) → options.map_max ≡ Some limit → IsLegal options history → (map : Option MachineMap)
       → ShowsMap options history row (option_map map_held map) → finite.len (trie_of map) ≤ limit
   shown_few limit limited legal None shows = let none = finite.len-empty key_cmp Kind in omega (arith, none)
   shown_few limit limited legal (Some map) shows =

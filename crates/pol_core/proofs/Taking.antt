@@ -25,7 +25,7 @@ use Rattle.pol_taken.specs.declared.taken.Taken.{Taken}
 use Rattle.pol_core.specs.Parts.{Takes, TakesOf, WasTaken, with_slot}
 use Rattle.pol_core.specs.Rows.{kept_in, since_of}
 use Rattle.pol_core.specs.Stands.{GoesFrom, IsKeptWork, IsTakenFor, Kept, StandsFor, Steps, options_of, taken_as}
-use Rattle.pol_core.specs.declared.row.Row.{Row}
+use Rattle.pol_core.specs.declared.row.MachineRow.{MachineRow}
 use Rattle.pol_core.proofs.AtHistory.{revision_at, state_at}
 use Rattle.pol_core.proofs.Choices.{if_either, if_mapped}
 use Rattle.pol_core.proofs.RowsKept.{takes_same}
@@ -45,7 +45,7 @@ module _ (k : Kept) (m : Machine) (stands : StandsFor k m) where
   abbrev history : List HistoryEvent
   history = m.history
 
-  row_within : (name : List ℕ) (row : Option Row) → k.rows name ≡ row → IfSome (kept_in row) (λ revision. revision ≤ revision_of history)
+  row_within : (name : List ℕ) (row : Option MachineRow) → k.rows name ≡ row → IfSome (kept_in row) (λ revision. revision ≤ revision_of history)
   row_within name None there = tt
   row_within name (Some row) there = work_within options history name row.added row.work (stands.works name row there).work
 
@@ -98,7 +98,7 @@ module _ (k : Kept) (m : Machine) (stands : StandsFor k m) where
         made = map_is;
         goes = λ row there added.
             goes_now taken.endpoint.name row.added taken row.work (stands.works taken.endpoint.name row there).work
-            (subst (λ (r : Option Row). TellsMovesSince options (commits_in history) (kept_in r) taken.sets taken.moves) there moves_are);
+            (subst (λ (r : Option MachineRow). TellsMovesSince options (commits_in history) (kept_in r) taken.sets taken.moves) there moves_are);
       }
 
       abbrev took : Kept

@@ -25,8 +25,8 @@ use Rattle.pol_repo.specs.Repository.{Repository, state_in}
 use Rattle.pol_taken.specs.OfState.{IsTakenOf}
 use Rattle.pol_taken.specs.declared.taken.Taken.{Taken}
 use Rattle.pol_core.specs.Rows.{RowsOf, SameRows, rows_after, since_of, trie_of, with_one}
-use Rattle.pol_core.specs.declared.row.Row.{Row}
-use Rattle.pol_core.specs.declared.row.Shown.{Shown}
+use Rattle.pol_core.specs.declared.row.MachineRow.{MachineRow}
+use Rattle.pol_core.specs.declared.row.MachineMap.{MachineMap}
 
 -- ---- what the slots have taken
 
@@ -110,16 +110,16 @@ Follows old taken new (Ok done) = (made : Followed) × (new ≡ Some made) × Is
 Follows old taken new (Err error) = WasTried old taken new
 
 -- the published map has few keys, and so has the one that the changes lead to
-pub record HasFewKeys (map : Option Shown) (changes : List Change) : Type 0 where
+pub record HasFewKeys (map : Option MachineMap) (changes : List Change) : Type 0 where
   pub before : finite.len (trie_of map) ≤ 65536
   pub after : finite.len (changed changes (trie_of map)) ≤ 65536
 
 -- where the map that was made fits the limit
-abbrev pub IsSmallMap : ℕ → Option Shown → Followed → Type 0
+abbrev pub IsSmallMap : ℕ → Option MachineMap → Followed → Type 0
 IsSmallMap limit map made = length (map_of made.work) ≤ limit → HasFewKeys map made.pending
 
 -- the changes are made in the published map, or in an empty one
-pub record IsShownOf (map : Option Shown) (changes : List Change) (taken : Taken) (shown : Shown) : Type 0 where
+pub record IsShownOf (map : Option MachineMap) (changes : List Change) (taken : Taken) (shown : MachineMap) : Type 0 where
   pub revision : shown.revision ≡ taken.revision
   pub trie : shown.trie ≡ changed changes (trie_of map)
   pub addresses : arc_value shown.addresses ≡ arc_value taken.addresses
@@ -127,8 +127,8 @@ pub record IsShownOf (map : Option Shown) (changes : List Change) (taken : Taken
 -- ---- finish
 
 -- the map that was made is published in the row
-pub record PublishesRow (commits : ℕ) (taken : Taken) (old : Row) (made : Followed) (new : Row) : Type 0 where
-  pub shown : Shown
+pub record PublishesRow (commits : ℕ) (taken : Taken) (old : MachineRow) (made : Followed) (new : MachineRow) : Type 0 where
+  pub shown : MachineMap
   pub is : IsShownOf old.map made.pending taken shown
   pub work : Followed
   pub follows : IsShown made work
@@ -141,7 +141,7 @@ pub record PublishesRow (commits : ℕ) (taken : Taken) (old : Row) (made : Foll
   }
 
 -- the row after the map that was made was reported as too large
-abbrev pub row_blocked : ℕ → Taken → Row → Followed → Row
+abbrev pub row_blocked : ℕ → Taken → MachineRow → Followed → MachineRow
 row_blocked commits taken old made = record {
   added = old.added;
   report = Some (record { revision = taken.revision; commits = commits; published = published_before old.report });
@@ -151,7 +151,7 @@ row_blocked commits taken old made = record {
 }
 
 -- the map that was made is published or reported as too large, or nothing has changed for want of memory
-abbrev pub Reports : {E : Type 0} → ℕ → ℕ → Taken → Row → Followed → Row → Result Reply E → Type 0
+abbrev pub Reports : {E : Type 0} → ℕ → ℕ → Taken → MachineRow → Followed → MachineRow → Result Reply E → Type 0
 Reports limit commits taken old made new (Ok (reply.Published revision)) =
     (revision ≡ taken.revision) × (length (map_of made.work) ≤ limit) × PublishesRow commits taken old made new
 Reports limit commits taken old made new (Ok (reply.Full revision count)) =
@@ -159,7 +159,7 @@ Reports limit commits taken old made new (Ok (reply.Full revision count)) =
 Reports limit commits taken old made new (Ok other) = ⊥
 Reports limit commits taken old made new (Err error) = new ≡ old
 
-pub record WasPublished (limit commits : ℕ) (taken : Taken) (old new : Row) (revision : ℕ) : Type 0 where
+pub record WasPublished (limit commits : ℕ) (taken : Taken) (old new : MachineRow) (revision : ℕ) : Type 0 where
   pub not_reported : is_reported taken.revision old.report ≡ false
   pub same : revision ≡ taken.revision
   pub made : Followed
@@ -167,7 +167,7 @@ pub record WasPublished (limit commits : ℕ) (taken : Taken) (old new : Row) (r
   pub fits : length (map_of made.work) ≤ limit
   pub publishes : PublishesRow commits taken old made new
 
-pub record WasBlocked (limit commits : ℕ) (taken : Taken) (old new : Row) (revision count : ℕ) : Type 0 where
+pub record WasBlocked (limit commits : ℕ) (taken : Taken) (old new : MachineRow) (revision count : ℕ) : Type 0 where
   pub not_reported : is_reported taken.revision old.report ≡ false
   pub same : revision ≡ taken.revision
   pub made : Followed
@@ -177,14 +177,14 @@ pub record WasBlocked (limit commits : ℕ) (taken : Taken) (old new : Row) (rev
   pub row : new ≡ row_blocked commits taken old made
 
 -- nothing was reported, for want of memory
-pub record WasLeft (taken : Taken) (old new : Row) : Type 0 where
+pub record WasLeft (taken : Taken) (old new : MachineRow) : Type 0 where
   pub added : new.added ≡ old.added
   pub report : new.report ≡ old.report
   pub map : new.map ≡ old.map
   pub work : WasTried old.work taken new.work
   pub full : new.full ≡ old.full
 
-abbrev pub FinishesRow : {E : Type 0} → ℕ → ℕ → Taken → Row → Row → Result Reply E → Type 0
+abbrev pub FinishesRow : {E : Type 0} → ℕ → ℕ → Taken → MachineRow → MachineRow → Result Reply E → Type 0
 FinishesRow limit commits taken old new (Ok (reply.Already revision)) =
     (is_reported taken.revision old.report ≡ true) × (revision ≡ taken.revision) × (new ≡ old)
 FinishesRow limit commits taken old new (Ok (reply.Published revision)) = WasPublished limit commits taken old new revision
@@ -203,14 +203,14 @@ pub record WasGone {E : Type 0} (rows later : RowsOf) (new : Option Taken) (resu
   pub spent : new ≡ None
   pub same : SameRows rows later
 
-pub record WasFinished {E : Type 0} (limit commits : ℕ) (taken : Taken) (row : Row) (rows later : RowsOf) (new : Option Taken) (result : Result Reply E) : Type 0 where
-  pub now : Row
+pub record WasFinished {E : Type 0} (limit commits : ℕ) (taken : Taken) (row : MachineRow) (rows later : RowsOf) (new : Option Taken) (result : Result Reply E) : Type 0 where
+  pub now : MachineRow
   pub finishes : FinishesRow limit commits taken row now result
   pub rows_are : (name : List ℕ) → later name ≡ with_one taken.endpoint.name (Some now) rows name
   pub left : new ≡ left_over taken result
 
 -- what was taken is finished, where this is the row of its endpoint's name
-abbrev pub FinishesTaken : {E : Type 0} → ℕ → ℕ → Taken → Option Row → RowsOf → RowsOf → Option Taken → Result Reply E → Type 0
+abbrev pub FinishesTaken : {E : Type 0} → ℕ → ℕ → Taken → Option MachineRow → RowsOf → RowsOf → Option Taken → Result Reply E → Type 0
 FinishesTaken limit commits taken None rows later new result = WasGone rows later new result
 FinishesTaken limit commits taken (Some row) rows later new result =
     ((row.added ≢ taken.endpoint.added) × WasGone rows later new result)
@@ -221,11 +221,11 @@ Finishes limit commits None rows later new result = (result ≡ Ok reply.Idle) �
 Finishes limit commits (Some taken) rows later new result = FinishesTaken limit commits taken (rows taken.endpoint.name) rows later new result
 
 -- it may be finished
-pub record MayFinish (limit : ℕ) (taken : Taken) (row : Row) : Type 0 where
+pub record MayFinish (limit : ℕ) (taken : Taken) (row : MachineRow) : Type 0 where
   pub may_go : MayGo row.work taken
   pub few : (made : Followed) → IsMadeOf row.work taken made → IsSmallMap limit row.map made
 
-abbrev pub MayFinishTaken : ℕ → Taken → Option Row → Type 0
+abbrev pub MayFinishTaken : ℕ → Taken → Option MachineRow → Type 0
 MayFinishTaken limit taken row = IfSome row (λ r. r.added ≡ taken.endpoint.added → MayFinish limit taken r)
 
 -- what the slot has taken is finished, and nothing else that was taken changes

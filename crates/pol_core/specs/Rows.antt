@@ -11,14 +11,14 @@ use Rattle.pol_history.specs.Content.{BoardRow, PublishedMap}
 use Rattle.pol_model.specs.declared.request.Request.{Request}
 use Rattle.pol_model.specs.declared.request.Request.TheVariants.{AddEndpoint, RemoveEndpoint, AddIdentity, RemoveIdentity, Apply, Remove, SetMode}
 use Rattle.pol_model.specs.declared.row.Endpoint.{Endpoint}
-use Rattle.pol_core.specs.declared.row.Row.{Row}
-use Rattle.pol_core.specs.declared.row.Shown.{Shown}
+use Rattle.pol_core.specs.declared.row.MachineRow.{MachineRow}
+use Rattle.pol_core.specs.declared.row.MachineMap.{MachineMap}
 
 -- the rows, by name
 abbrev pub RowsOf : Type 0
-RowsOf = List ℕ → Option Row
+RowsOf = List ℕ → Option MachineRow
 
-abbrev pub by_name : {S : Type 0} → IndexMap (List ℕ) Row S → RowsOf
+abbrev pub by_name : {S : Type 0} → IndexMap (List ℕ) MachineRow S → RowsOf
 by_name rows name = get text.ghosts.eq rows name
 
 -- the same rows
@@ -26,30 +26,30 @@ abbrev pub SameRows : RowsOf → RowsOf → Type 0
 SameRows old new = (name : List ℕ) → new name ≡ old name
 
 -- the row of one name is now this
-abbrev pub with_one : List ℕ → Option Row → RowsOf → RowsOf
+abbrev pub with_one : List ℕ → Option MachineRow → RowsOf → RowsOf
 with_one name now rows other = if bytes_eq name other then now else rows other
 
 -- ---- the content that rows hold
 
-abbrev pub map_held : Shown → PublishedMap
+abbrev pub map_held : MachineMap → PublishedMap
 map_held shown =
     record { revision = shown.revision; table = finite.entries shown.trie; numbers = λ address. number_in address (arc_value shown.addresses) }
 
-abbrev pub row_held : Row → BoardRow
+abbrev pub row_held : MachineRow → BoardRow
 row_held row = record { added = row.added; report = row.report; map = option_map map_held row.map }
 
 abbrev pub live_held : RowsOf → List ℕ → Option BoardRow
 live_held rows name = option_map row_held (rows name)
 
 -- the entries of the published map, none where there is none
-abbrev pub trie_of : Option Shown → PolicyMap
+abbrev pub trie_of : Option MachineMap → PolicyMap
 trie_of None = finite.empty
 trie_of (Some shown) = shown.trie
 
 -- ---- commits
 
 -- an endpoint without a report, of which no map was made
-abbrev pub new_row : ℕ → Row
+abbrev pub new_row : ℕ → MachineRow
 new_row revision = record { added = revision; report = None; map = None; work = None; full = None }
 
 -- the rows after a request, which is the commit of this number
@@ -65,7 +65,7 @@ rows_after revision (SetMode mode) rows = rows
 -- ---- takes
 
 -- the revision of the map that was made last
-abbrev pub kept_in : Option Row → Option ℕ
+abbrev pub kept_in : Option MachineRow → Option ℕ
 kept_in None = None
 kept_in (Some row) = option_map (λ f. f.kept) row.work
 

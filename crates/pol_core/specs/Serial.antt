@@ -24,8 +24,8 @@ use Rattle.pol_core.specs.Full.{row_told}
 use Rattle.pol_core.specs.Stands.{Stands, Stored, over_limit}
 use Rattle.pol_core.specs.declared.asked.Asked.{Asked}
 use Rattle.pol_core.specs.declared.asked.Asked.TheVariants.{Commit, Sync, Look, Explain}
-use Rattle.pol_core.specs.declared.asked.Said.{Said}
-use Rattle.pol_core.specs.declared.asked.Said.TheVariants.{Replied, Synced, Traced}
+use Rattle.pol_core.specs.declared.asked.SerialAnswer.{SerialAnswer}
+use Rattle.pol_core.specs.declared.asked.SerialAnswer.TheVariants.{Replied, Synced, Traced}
 
 -- ---- a sync
 
@@ -72,25 +72,25 @@ pub record ListsRows (options : Options) (history : List HistoryEvent) (full : L
   pub sorted : FullRowsAscend full
 
 -- what is said of a query's reasons, at the revision of the history: no endpoint of its name is live, or they are these
-abbrev pub IsExplained : Options → List HistoryEvent → Query → Option Trace → Said → Type 0
+abbrev pub IsExplained : Options → List HistoryEvent → Query → Option Trace → SerialAnswer → Type 0
 IsExplained options history query None said = said ≡ Replied (reply.NoEndpoint (revision_of history))
 IsExplained options history query (Some trace) said = said ≡ Traced (revision_of history) trace
 
 -- The answer: the machine's reply, the rows after a sync with its revision, or the reasons.
-abbrev pub SyncSaid : Options → Machine → Said → Type 0
+abbrev pub SyncSaid : Options → Machine → SerialAnswer → Type 0
 SyncSaid options m (Replied now) = ⊥
 SyncSaid options m (Synced revision full) =
     (revision ≡ revision_of m.history) × ListsRows options (machine_asked options m Sync).history full
 SyncSaid options m (Traced revision trace) = ⊥
 
-abbrev pub IsSaid : Options → Machine → Asked → Said → Type 0
+abbrev pub IsSaid : Options → Machine → Asked → SerialAnswer → Type 0
 IsSaid options m (Commit request) said = said ≡ Replied (step_of options m (step.Commit request)).0
 IsSaid options m Sync said = SyncSaid options m said
 IsSaid options m (Look query) said = said ≡ Replied (step_of options m (step.Look query)).0
 IsSaid options m (Explain query) said = IsExplained options m.history query (explain_of options (state_now options m.history) query) said
 
 -- nothing is said after want of memory
-abbrev pub SaidTo : {E : Type 0} → Options → Machine → Asked → Result Said E → Type 0
+abbrev pub SaidTo : {E : Type 0} → Options → Machine → Asked → Result SerialAnswer E → Type 0
 SaidTo options m asked (Ok said) = IsSaid options m asked said
 SaidTo options m asked (Err error) = ⊤
 

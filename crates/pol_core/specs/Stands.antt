@@ -29,7 +29,7 @@ use Rattle.pol_taken.specs.OfState.{IsTakenOf}
 use Rattle.pol_taken.specs.declared.taken.Taken.{Taken}
 use Rattle.pol_core.specs.Parts.{TakesOf, taken_in}
 use Rattle.pol_core.specs.Rows.{RowsOf, live_held}
-use Rattle.pol_core.specs.declared.row.Row.{Row}
+use Rattle.pol_core.specs.declared.row.MachineRow.{MachineRow}
 
 -- what is kept: how many entries a published map may have, the repository, by name each live endpoint, and what each slot has
 -- taken
@@ -43,7 +43,7 @@ pub record Kept : Type 0 where
 pub record Stored : Type 0 where
   pub limit : ℕ
   pub repo : Repository
-  pub rows : List (List ℕ × Row)
+  pub rows : List (List ℕ × MachineRow)
   pub takes : List (ℕ × Option Taken)
 
 abbrev pub kept_of : Stored → Kept
@@ -87,7 +87,7 @@ TellsFull options history endpoint None full = full ≡ None
 TellsFull options history endpoint (Some report) full =
     (report.revision ≤ revision_of history) × (full ≡ over_limit options.map_max (size_at options history endpoint report.revision))
 
-pub record IsKeptRow (options : Options) (history : List HistoryEvent) (name : List ℕ) (row : Row) : Type 0 where
+pub record IsKeptRow (options : Options) (history : List HistoryEvent) (name : List ℕ) (row : MachineRow) : Type 0 where
   pub shown : shown_in row.work ≡ published_before row.report
   pub work : IfSome row.work (IsKeptWork options history name row.added)
   pub full : TellsFull options history (record { name = name; added = row.added }) row.report row.full
@@ -110,7 +110,7 @@ pub record IsTakenFor (options : Options) (history : List HistoryEvent) (rows : 
   pub revision : taken.revision ≡ revision_of before
   pub is : IsTakenOf options (state_now options before) slot taken
   pub made : distilled (arc_value taken.filters) taken.sets ≡ policy_map options (state_now options before) taken.endpoint
-  pub goes : (row : Row) → rows taken.endpoint.name ≡ Some row → row.added ≡ taken.endpoint.added → IfSome row.work (GoesFrom options before taken)
+  pub goes : (row : MachineRow) → rows taken.endpoint.name ≡ Some row → row.added ≡ taken.endpoint.added → IfSome row.work (GoesFrom options before taken)
 
 -- ---- what it stands for
 
@@ -121,7 +121,7 @@ pub record StandsFor (k : Kept) (m : Machine) : Type 0 where
   pub sound : IsSound (options_of k) m
   pub at : IsAt (options_of k) m.history k.repo
   pub live : (name : List ℕ) → live_held k.rows name ≡ (content_of (options_of k) m.history).live name
-  pub works : (name : List ℕ) (row : Row) → k.rows name ≡ Some row → IsKeptRow (options_of k) m.history name row
+  pub works : (name : List ℕ) (row : MachineRow) → k.rows name ≡ Some row → IsKeptRow (options_of k) m.history name row
   pub taken : (slot : ℕ) → option_map taken_as (k.takes slot) ≡ m.taken slot
   pub takes : (slot : ℕ) (taken : Taken) → k.takes slot ≡ Some taken → IsTakenFor (options_of k) m.history k.rows slot taken
 

@@ -32,7 +32,7 @@ impl Asked {
 
 /// An answer of a serial run.
 #[derive(Debug, Drop)]
-pub enum Said {
+pub enum SerialAnswer {
     /// To a commit and to a look: the machine's reply. To an explanation: no endpoint of that name is live.
     Replied(Reply),
     /// To a sync: its revision, and the live endpoints whose maps are too large.

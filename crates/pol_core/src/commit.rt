@@ -10,7 +10,7 @@ ghost use Rattle.pol_repo.specs.Repository.{state_in};
 ghost use Rattle.pol_core.specs.Parts.{Commits};
 ghost use Rattle.pol_core.specs.Rows.{SameRows, by_name, new_row, rows_after, with_one};
 
-use crate::row::{Row, Rows};
+use crate::row::{MachineRow, Rows};
 use pol_data::{Memory, Steps, Text};
 use pol_history::Reply;
 use pol_model::{CommitError, Request};
@@ -26,7 +26,7 @@ fn add_row(alloc: Global, rows: &mut Rows, name: &Text, revision: u64) -> Result
     let key = name.copy(alloc)?;
     rows.insert(
         key,
-        Row {
+        MachineRow {
             added: revision,
             report: None,
             map: None,

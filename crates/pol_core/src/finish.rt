@@ -10,7 +10,7 @@ ghost use Rattle.pol_core.specs.Parts.{Finishes, FinishesRow, FinishesSlot, Fini
 ghost use Rattle.pol_core.specs.Rows.{by_name};
 
 use crate::double::DoubleTrie;
-use crate::row::{Row, Rows, Shown};
+use crate::row::{MachineMap, MachineRow, Rows};
 use crate::take::Takes;
 use pol_data::Memory;
 use pol_edits::ChangeList;
@@ -63,12 +63,12 @@ fn follow(alloc: Global, work: &mut Option<Followed>, taken: Taken) -> (Taken, R
 /// then the map and the changes are as before.
 fn show(
     alloc: Global,
-    map: &mut Option<Shown>,
+    map: &mut Option<MachineMap>,
     changes: &mut ChangeList,
     taken: &Taken,
 ) -> Result<(), Memory>
     requires few { HasFewKeys map.old changes.old }
-    ensures ok { OnOk result ((shown : Shown) × (map.new ≡ Some shown) × IsShownOf map.old changes.old taken.now shown) }
+    ensures ok { OnOk result ((shown : MachineMap) × (map.new ≡ Some shown) × IsShownOf map.old changes.old taken.now shown) }
     ensures err { OnErr result ((map.new ≡ map.old) × (changes.new ≡ changes.old)) }
 {
     // The call tells that the changes are in key order.
@@ -84,7 +84,7 @@ fn show(
         None => {
             let mut trie = DoubleTrie::new(alloc);
             trie.change(alloc, changes)?;
-            *map = Some(Shown {
+            *map = Some(MachineMap {
                 revision,
                 trie,
                 addresses,
@@ -95,7 +95,7 @@ fn show(
 }
 
 /// Publishes the map that was made, after so many commits. The one error is want of memory, and then the row is as before.
-fn publish(alloc: Global, row: &mut Row, commits: u64, taken: &Taken) -> Result<(), Memory>
+fn publish(alloc: Global, row: &mut MachineRow, commits: u64, taken: &Taken) -> Result<(), Memory>
     requires made { (made : OneFollowed) × (row.old.work ≡ Some made) }
     requires few { IfSome row.old.work (λ made. HasFewKeys row.old.map made.pending) }
     ensures ok { OnOk result ((made : OneFollowed) → row.old.work ≡ Some made → PublishesRow commits taken.now row.old made row.new) }
@@ -118,7 +118,7 @@ fn publish(alloc: Global, row: &mut Row, commits: u64, taken: &Taken) -> Result<
 }
 
 /// Notes that the map at the revision has so many entries, which are too many, after so many commits. It takes no memory.
-fn block(row: &mut Row, commits: u64, revision: u64, count: u64)
+fn block(row: &mut MachineRow, commits: u64, revision: u64, count: u64)
     ensures { row.new ≡ record row.old { report = Some (record { revision = revision; commits = commits; published = published_before row.old.report }); full = Some count } }
 {
     let published = published(row.report);
@@ -131,7 +131,7 @@ fn block(row: &mut Row, commits: u64, revision: u64, count: u64)
 }
 
 /// How many entries the map that was made has.
-fn count_of(row: &Row) -> u64
+fn count_of(row: &MachineRow) -> u64
     requires made { (made : OneFollowed) × (row.now.work ≡ Some made) }
     ensures { IfSome row.now.work (λ made. result ≡ length (map_of made.work)) }
 {
@@ -147,7 +147,7 @@ fn report(
     alloc: Global,
     limit: u64,
     commits: u64,
-    row: &mut Row,
+    row: &mut MachineRow,
     taken: &Taken,
 ) -> Result<Reply, Memory>
     requires made { (made : OneFollowed) × (row.old.work ≡ Some made) }
@@ -172,7 +172,7 @@ fn finish_row(
     alloc: Global,
     limit: u64,
     commits: u64,
-    row: &mut Row,
+    row: &mut MachineRow,
     taken: Taken,
 ) -> (Taken, Result<Reply, Memory>)
     requires sets { HaveSets taken.sets (arc_value taken.filters) }

@@ -16,9 +16,9 @@ mod row;
 mod serial;
 mod take;
 
-pub use asked::{Asked, Said};
+pub use asked::{Asked, SerialAnswer};
 pub use double::DoubleTrie;
 pub use machine::Machine;
 pub use pol_history::{Event, Reply};
-pub use row::{Row, Shown};
+pub use row::{MachineMap, MachineRow};
 pub use serial::answer;

@@ -18,7 +18,7 @@ use std::sync::ledger::Ledger;
 
 /// A published map, with what each address was at its revision.
 #[derive(Drop)]
-pub struct Shown {
+pub struct MachineMap {
     /// The revision of the map.
     pub revision: u64,
     /// The map.
@@ -29,13 +29,13 @@ pub struct Shown {
 
 /// A live endpoint.
 #[derive(Drop)]
-pub struct Row {
+pub struct MachineRow {
     /// The revision that added it.
     pub added: u64,
     /// Its last report.
     pub report: Option<LastReport>,
     /// Its last published map.
-    pub map: Option<Shown>,
+    pub map: Option<MachineMap>,
     /// The map that was made of it last, with what it is made of.
     pub work: Option<Followed>,
     /// How many entries the map has that was reported last, where it was too large.
@@ -43,10 +43,10 @@ pub struct Row {
 }
 
 /// The live endpoints, by name.
-pub(crate) type Rows = IndexMap<Text, Row>;
+pub(crate) type Rows = IndexMap<Text, MachineRow>;
 
 /// The number that a query's remote had at the map's revision.
-fn number_of(shown: &Shown, remote: Remote) -> u32
+fn number_of(shown: &MachineMap, remote: Remote) -> u32
     ensures { result ≡ number_shown (map_held shown.now) remote }
 {
     match remote {
@@ -58,7 +58,7 @@ fn number_of(shown: &Shown, remote: Remote) -> u32
 /// What the published map says of a packet.
 fn look_at_map<L: Ledger>(
     commits: u64,
-    map: &Option<Shown>,
+    map: &Option<MachineMap>,
     query: &Query,
     steps: &mut Steps<L>,
 ) -> Reply

@@ -22,10 +22,10 @@ use Rattle.pol_history.specs.MayFollow.{MayFollow}
 use Rattle.pol_history.proofs.Contents.{content-more}
 use Rattle.pol_history.proofs.LegalEvents.{legal_front, legal_last}
 use Rattle.pol_history.proofs.Lists.{by_growth}
-use Rattle.pol_face.specs.declared.change.Change.{Change}
-use Rattle.pol_face.specs.declared.change.Change.TheVariants as change
-use Rattle.pol_face.specs.declared.row.Row.{Row}
-use Rattle.pol_face.specs.declared.row.Shown.{Shown}
+use Rattle.pol_face.specs.declared.change.FaceChange.{FaceChange}
+use Rattle.pol_face.specs.declared.change.FaceChange.TheVariants as change
+use Rattle.pol_face.specs.declared.row.FaceRow.{FaceRow}
+use Rattle.pol_face.specs.declared.row.FaceMap.{FaceMap}
 use Rattle.pol_face.specs.Changes.{Tells, table_held}
 use Rattle.pol_face.specs.Room.{HaveRoom, IsLimited}
 use Rattle.pol_face.specs.Rows.{HasRoom, Holds, HoldsMap, HoldsRow, Leads, RowHasRoom, table_in}
@@ -99,7 +99,7 @@ few_set edits ascending trie table makes few =
     let made = ap length makes in
     omega (arith, fits, many, made, few)
 
-map_room : (shown : Option Shown) (held : Option PublishedMap) (edits : List Edit) (table : List MapEntry) → HoldsMap shown held → FewIn held
+map_room : (shown : Option FaceMap) (held : Option PublishedMap) (edits : List Edit) (table : List MapEntry) → HoldsMap shown held → FewIn held
     → Leads edits (table_in held) table → length table ≤ 65536 → HasRoom shown edits
 map_room None None edits table holds was leads few = λ ascending.
     let sets = few_set edits ascending finite.empty table (leads finite.empty no_entries) few in omega (arith, sets)
@@ -112,7 +112,7 @@ map_room (Some shown) (Some map) edits table holds was leads few = λ whole asce
     let held = ap length is.table in
     omega (arith, sets, many, held, was)
 
-row_room : (row : Option Row) (held : Option BoardRow) (edits : List Edit) (table : List MapEntry) → HoldsRow row held → FewAt held
+row_room : (row : Option FaceRow) (held : Option BoardRow) (edits : List Edit) (table : List MapEntry) → HoldsRow row held → FewAt held
     → Leads edits (table_held held) table → length table ≤ 65536 → RowHasRoom row edits
 row_room None held edits table holds was leads few = tt
 row_room (Some row) None edits table holds was leads few = absurd holds
@@ -120,7 +120,7 @@ row_room (Some row) (Some held) edits table holds was leads few = map_room row.m
 
 -- the rows of a face have room for the change of the next event
 pub have_room : {S : Type 0} (options : Options) (history : List HistoryEvent) (new : HistoryEvent) → IsLimited options → IsLegal options (history ++ new ∷ [])
-    → (rows : IndexMap (List ℕ) Row S) → Holds rows (content_of options history).live → (told : Change) → Tells options history told new → HaveRoom rows told
+    → (rows : IndexMap (List ℕ) FaceRow S) → Holds rows (content_of options history).live → (told : FaceChange) → Tells options history told new → HaveRoom rows told
 have_room options history new limited legal rows holds change.Nothing tells = tt
 have_room options history new limited legal rows holds (change.Added name) tells = tt
 have_room options history new limited legal rows holds (change.Removed name) tells = tt

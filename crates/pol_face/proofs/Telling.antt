@@ -28,9 +28,9 @@ use Rattle.pol_history.proofs.Names.{live-id}
 use Rattle.pol_history.proofs.Same.{live-parts}
 use Rattle.pol_history.proofs.Cuts.{revision-append}
 use Rattle.pol_book.specs.Asked.{id_of}
-use Rattle.pol_face.specs.declared.change.Change.{Change}
-use Rattle.pol_face.specs.declared.change.Change.TheVariants as change
-use Rattle.pol_face.specs.declared.row.Row.{Row}
+use Rattle.pol_face.specs.declared.change.FaceChange.{FaceChange}
+use Rattle.pol_face.specs.declared.change.FaceChange.TheVariants as change
+use Rattle.pol_face.specs.declared.row.FaceRow.{FaceRow}
 use Rattle.pol_face.specs.Changes.{IsMadeOf, Tells, commit_count, table_held}
 use Rattle.pol_face.specs.Rows.{ChangesMap, Holds, HoldsRow, IsHeld, row_with}
 
@@ -116,7 +116,7 @@ module _ (options : Options) (history : List HistoryEvent) where
 -- ---- rows that hold the content
 
 -- what rows hold once a change was taken in, where they held the live endpoints before
-abbrev pub HoldsAfter : {S : Type 0} → IndexMap (List ℕ) Row S → ℕ → (List ℕ → Option BoardRow) → Change → Type 0
+abbrev pub HoldsAfter : {S : Type 0} → IndexMap (List ℕ) FaceRow S → ℕ → (List ℕ → Option BoardRow) → FaceChange → Type 0
 HoldsAfter rows n live change.Nothing = Holds rows live
 HoldsAfter rows n live (change.Added name) = Holds rows (with_row name (Some (added_row (n + 1))) live)
 HoldsAfter rows n live (change.Removed name) = Holds rows (with_row name None live)
@@ -125,12 +125,12 @@ HoldsAfter rows n live (change.Published name added revision edits addresses) =
     → Holds rows (with_change (id_of name added) (row_with n revision map) live)
 HoldsAfter rows n live (change.Blocked name added revision) = Holds rows (with_change (id_of name added) (row_blocked revision n) live)
 
-module _ {S : Type 0} (options : Options) (history : List HistoryEvent) (rows : IndexMap (List ℕ) Row S) (commits : ℕ) (count : commits ≡ revision_of history) where
+module _ {S : Type 0} (options : Options) (history : List HistoryEvent) (rows : IndexMap (List ℕ) FaceRow S) (commits : ℕ) (count : commits ≡ revision_of history) where
   held_by : (new : HistoryEvent) (live : List ℕ → Option BoardRow) → live_then options history new ≡ live → Holds rows live
       → Holds rows (content_of options (history ++ new ∷ [])).live
   held_by new live same holds = subst (λ (l : List ℕ → Option BoardRow). Holds rows l) (sym same) holds
 
-  pub taken-in : (is : Change) (new : HistoryEvent) → Tells options history is new → HoldsAfter rows commits (content_of options history).live is
+  pub taken-in : (is : FaceChange) (new : HistoryEvent) → Tells options history is new → HoldsAfter rows commits (content_of options history).live is
       → Holds rows (content_of options (history ++ new ∷ [])).live
   taken-in change.Nothing new tells holds = held_by new (content_of options history).live (live-nothing options history new tells) holds
   taken-in (change.Added name) new tells holds =
@@ -157,7 +157,7 @@ module _ {S : Type 0} (options : Options) (history : List HistoryEvent) (rows : 
 
 -- ---- the number of commits
 
-event_count : (options : Options) (history : List HistoryEvent) (is : Change) (new : HistoryEvent) → Tells options history is new → revision_of (new ∷ []) ≡ commit_count is
+event_count : (options : Options) (history : List HistoryEvent) (is : FaceChange) (new : HistoryEvent) → Tells options history is new → revision_of (new ∷ []) ≡ commit_count is
 event_count options history change.Nothing (event.Commit pass number request) tells = refl
 event_count options history change.Nothing (event.Publish endpoint at table) tells = absurd tells
 event_count options history change.Nothing (event.Blocked endpoint at n) tells = absurd tells
@@ -174,7 +174,7 @@ event_count options history (change.Blocked name added revision) (event.Commit p
 event_count options history (change.Blocked name added revision) (event.Publish endpoint at table) tells = absurd tells
 event_count options history (change.Blocked name added revision) (event.Blocked endpoint at n) tells = refl
 
-pub counted-after : (options : Options) (history : List HistoryEvent) (commits : ℕ) (is : Change) (new : HistoryEvent) → commits ≡ revision_of history
+pub counted-after : (options : Options) (history : List HistoryEvent) (commits : ℕ) (is : FaceChange) (new : HistoryEvent) → commits ≡ revision_of history
     → Tells options history is new → commits + commit_count is ≡ revision_of (history ++ new ∷ [])
 counted-after options history commits is new count tells =
     let one = event_count options history is new tells in
@@ -183,11 +183,11 @@ counted-after options history commits is new count tells =
 
 -- ---- what a call is told
 
-pub taken-in-by : {S : Type 0} (options : Options) (history : List HistoryEvent) (rows : IndexMap (List ℕ) Row S) (count : ℕ) → count ≡ revision_of history
-    → (is was : Change) → was ≡ is → (new : HistoryEvent) → Tells options history was new → HoldsAfter rows count (content_of options history).live is
+pub taken-in-by : {S : Type 0} (options : Options) (history : List HistoryEvent) (rows : IndexMap (List ℕ) FaceRow S) (count : ℕ) → count ≡ revision_of history
+    → (is was : FaceChange) → was ≡ is → (new : HistoryEvent) → Tells options history was new → HoldsAfter rows count (content_of options history).live is
     → Holds rows (content_of options (history ++ new ∷ [])).live
 taken-in-by options history rows count same is was one new tells holds =
-    taken-in options history rows count same is new (subst (λ (c : Change). Tells options history c new) one tells) holds
+    taken-in options history rows count same is new (subst (λ (c : FaceChange). Tells options history c new) one tells) holds
 
 pub on_ok : {A E P Q : Type 0} (r : Result A E) → (P → Q) → OnOk r P → OnOk r Q
 on_ok (Ok a) f told = f told
@@ -208,12 +208,12 @@ one_more old new begins long =
 
 -- ---- the last report of a live endpoint
 
-abbrev pub report_in : Option Row → Option LastReport
+abbrev pub report_in : Option FaceRow → Option LastReport
 report_in None = None
 report_in (Some row) = row.report
 
 reported : (options : Options) (history : List HistoryEvent) (name : List ℕ) (added : ℕ) → Lives (state_now options history) (id_of name added)
-    → (row : Option Row) (held : Option BoardRow) → HoldsRow row held → ShowsRow options history name held → report_in row ≡ last_report (id_of name added) history
+    → (row : Option FaceRow) (held : Option BoardRow) → HoldsRow row held → ShowsRow options history name held → report_in row ≡ last_report (id_of name added) history
 reported options history name added lives None None holds shows =
     absurd (let found = (live-parts (id_of name added) (state_now options history) lives.row lives.found).0 in
     let none : None ≡ Some lives.row = sym shows ∙ found in no_element lives.row none)
@@ -231,8 +231,8 @@ reported options history name added lives (Some row) (Some held) holds shows =
     same_row a b same = cc
 
 pub reported-at : {S : Type 0} (options : Options) (history : List HistoryEvent) (name : List ℕ) (added : ℕ) → IsLegal options history
-    → Lives (state_now options history) (id_of name added) → (rows : IndexMap (List ℕ) Row S) (row : Option Row) → get text.ghosts.eq rows name ≡ row
+    → Lives (state_now options history) (id_of name added) → (rows : IndexMap (List ℕ) FaceRow S) (row : Option FaceRow) → get text.ghosts.eq rows name ≡ row
     → Holds rows (content_of options history).live → report_in row ≡ last_report (id_of name added) history
 reported-at options history name added legal lives rows row is holds =
     reported options history name added lives row ((content_of options history).live name)
-    (subst (λ (o : Option Row). HoldsRow o ((content_of options history).live name)) is (holds.each name)) (content-rows options history legal name)
+    (subst (λ (o : Option FaceRow). HoldsRow o ((content_of options history).live name)) is (holds.each name)) (content-rows options history legal name)

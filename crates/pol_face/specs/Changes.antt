@@ -15,8 +15,8 @@ use Rattle.pol_history.specs.declared.event.HistoryEvent.TheVariants as event
 use Rattle.pol_history.specs.Commits.{commits_in}
 use Rattle.pol_history.specs.Content.{BoardRow, Content, content_of, numbers_in}
 use Rattle.pol_book.specs.Asked.{id_of}
-use Rattle.pol_face.specs.declared.change.Change.{Change}
-use Rattle.pol_face.specs.declared.change.Change.TheVariants as change
+use Rattle.pol_face.specs.declared.change.FaceChange.{FaceChange}
+use Rattle.pol_face.specs.declared.change.FaceChange.TheVariants as change
 use Rattle.pol_face.specs.Rows.{Leads, table_in}
 
 -- the entries of the last published map of the endpoint of that name, none where there is none
@@ -40,7 +40,7 @@ pub record IsMadeOf (options : Options) (history : List HistoryEvent) (name : Li
   pub numbers : (address : Addr) → number_in address addresses ≡ numbers_in (state_of options (take revision (commits_in history))) address
 
 -- the change is that of the event, which comes after the history
-abbrev pub Tells : Options → List HistoryEvent → Change → HistoryEvent → Type 0
+abbrev pub Tells : Options → List HistoryEvent → FaceChange → HistoryEvent → Type 0
 Tells options history (change.Added name) (event.Commit pass number (AddEndpoint added labels address)) = name ≡ added
 Tells options history (change.Removed name) (event.Commit pass number (RemoveEndpoint removed)) = name ≡ removed
 Tells options history change.Nothing (event.Commit pass number request) = moves_endpoints request ≡ false
@@ -50,7 +50,7 @@ Tells options history (change.Blocked name added revision) (event.Blocked endpoi
 Tells options history other new = ⊥
 
 -- how many commits the change's event is
-abbrev pub commit_count : Change → ℕ
+abbrev pub commit_count : FaceChange → ℕ
 commit_count change.Nothing = 1
 commit_count (change.Added name) = 1
 commit_count (change.Removed name) = 1
@@ -58,5 +58,5 @@ commit_count (change.Published name added revision edits addresses) = 0
 commit_count (change.Blocked name added revision) = 0
 
 -- the change is that of the last event
-pub record IsChangeOf (options : Options) (new : Change) (history : List HistoryEvent) : Type 0 where
+pub record IsChangeOf (options : Options) (new : FaceChange) (history : List HistoryEvent) : Type 0 where
   pub tells : (before : List HistoryEvent) (last : HistoryEvent) → history ≡ before ++ last ∷ [] → Tells options before new last

@@ -3,9 +3,9 @@ use Rattle.std.specs.Prelude.{⊤, ◌≡◌, ℕ, ◌≤◌, List, Some}
 use Rattle.indexmap.specs.IndexMap.{IndexMap, get}
 use Rattle.pol_data.specs.contracts.text.TextPartialEq.TheImpl as text
 use Rattle.pol_model.specs.declared.options.Options.{Options}
-use Rattle.pol_face.specs.declared.change.Change.{Change}
-use Rattle.pol_face.specs.declared.change.Change.TheVariants as change
-use Rattle.pol_face.specs.declared.row.Row.{Row}
+use Rattle.pol_face.specs.declared.change.FaceChange.{FaceChange}
+use Rattle.pol_face.specs.declared.change.FaceChange.TheVariants as change
+use Rattle.pol_face.specs.declared.row.FaceRow.{FaceRow}
 use Rattle.pol_face.specs.Rows.{RowHasRoom}
 
 -- maps of more than so many entries aren't published
@@ -15,6 +15,6 @@ pub record IsLimited (options : Options) : Type 0 where
   pub low : limit ≤ 65536
 
 -- the rows have room for the change
-abbrev pub HaveRoom : {S : Type 0} → IndexMap (List ℕ) Row S → Change → Type 0
+abbrev pub HaveRoom : {S : Type 0} → IndexMap (List ℕ) FaceRow S → FaceChange → Type 0
 HaveRoom rows (change.Published name added revision edits addresses) = RowHasRoom (get text.ghosts.eq rows name) edits
 HaveRoom rows other = ⊤

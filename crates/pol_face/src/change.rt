@@ -13,7 +13,7 @@ ghost use Rattle.pol_face.specs.Changes.{Tells, commit_count};
 ghost use Rattle.pol_face.specs.Rows.{ChangesMap, HasRoom, Holds, HoldsRow, IsHeld, RowHasRoom, row_with};
 ghost use Rattle.pol_face.specs.Room.{HaveRoom};
 
-use crate::row::{Row, Rows, show_map};
+use crate::row::{FaceRow, Rows, show_map};
 use pol_addresses::Addresses;
 use pol_data::{Memory, Text};
 use pol_edits::ChangeList;
@@ -23,7 +23,7 @@ use std::sync::Arc;
 
 /// What an event changes.
 #[derive(Drop)]
-pub enum Change {
+pub enum FaceChange {
     /// A commit that no endpoint comes or goes by.
     Nothing,
     /// A commit that adds the endpoint of that name.
@@ -68,7 +68,7 @@ fn add_row(alloc: Global, rows: &mut Rows, name: &Text, commits: u64) -> Result<
     let key = name.copy(alloc)?;
     rows.insert(
         key,
-        Row {
+        FaceRow {
             added: commits,
             report: None,
             map: None,
@@ -87,7 +87,7 @@ fn remove_row(rows: &mut Rows, name: &Text)
 /// A map of the endpoint that was added at a revision was published, after so many commits, if this is its row.
 fn publish_row(
     alloc: Global,
-    row: &mut Row,
+    row: &mut FaceRow,
     added: u64,
     commits: u64,
     revision: u64,
@@ -121,7 +121,7 @@ fn published(report: &Option<LastReport>) -> Option<u64>
 }
 
 /// A map of the endpoint was too large, after so many commits, if this is its row. It takes no memory.
-fn block_row(row: &mut Row, added: u64, commits: u64, revision: u64)
+fn block_row(row: &mut FaceRow, added: u64, commits: u64, revision: u64)
     ensures { (held : BoardRow) → IsHeld row.old held → HoldsRow (Some row.new) (if_of added (row_blocked revision commits) (Some held)) }
 {
     if row.added != added {
@@ -174,7 +174,7 @@ pub(crate) fn take_in(
     alloc: Global,
     rows: &mut Rows,
     commits: u64,
-    change: &Change,
+    change: &FaceChange,
 ) -> Result<(), Memory>
     requires count { commits < 2 ^ 63 }
     requires room { HaveRoom rows.old change.now }
@@ -183,13 +183,13 @@ pub(crate) fn take_in(
     ensures err { OnErr result ((live : List ℕ → Option BoardRow) → Holds rows.old live → Holds rows.new live) }
 {
     match change {
-        Change::Nothing => Ok(()),
-        Change::Added { name } => add_row(alloc, rows, name, commits + 1),
-        Change::Removed { name } => {
+        FaceChange::Nothing => Ok(()),
+        FaceChange::Added { name } => add_row(alloc, rows, name, commits + 1),
+        FaceChange::Removed { name } => {
             remove_row(rows, name);
             Ok(())
         }
-        Change::Published {
+        FaceChange::Published {
             name,
             added,
             revision,
@@ -198,7 +198,7 @@ pub(crate) fn take_in(
         } => publish(
             alloc, rows, commits, name, *added, *revision, changes, addresses,
         ),
-        Change::Blocked {
+        FaceChange::Blocked {
             name,
             added,
             revision,
@@ -210,22 +210,22 @@ pub(crate) fn take_in(
 }
 
 /// How many commits the event of the change is.
-pub(crate) fn commits_of(change: &Change) -> u64
+pub(crate) fn commits_of(change: &FaceChange) -> u64
     ensures count { result ≡ commit_count change.now }
     ensures few { result ≤ 1 }
 {
     match change {
-        Change::Nothing => 1,
-        Change::Added { name: _ } => 1,
-        Change::Removed { name: _ } => 1,
-        Change::Published {
+        FaceChange::Nothing => 1,
+        FaceChange::Added { name: _ } => 1,
+        FaceChange::Removed { name: _ } => 1,
+        FaceChange::Published {
             name: _,
             added: _,
             revision: _,
             changes: _,
             addresses: _,
         } => 0,
-        Change::Blocked {
+        FaceChange::Blocked {
             name: _,
             added: _,
             revision: _,

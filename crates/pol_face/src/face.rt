@@ -12,7 +12,7 @@ ghost use Rattle.pol_face.specs.Room.{IsLimited};
 
 use crate::answer::{LookError, Verdict};
 use crate::change::{commits_of, take_in};
-use crate::op::Op;
+use crate::op::FaceOp;
 use crate::row::{Rows, look_in_rows};
 use indexmap::IndexMap;
 use left_right::Absorb;
@@ -103,14 +103,14 @@ impl<N: NodeName> Face<N> {
     }
 }
 
-impl<N: NodeName> Absorb<Op<N>> for Face<N> {
+impl<N: NodeName> Absorb<FaceOp<N>> for Face<N> {
     type State = LinkedList<HistoryEvent>;
 
     ghost state = { λ f. f };
 
     ghost applied = { λ history op. op };
 
-    fn absorb_first(&mut self, operation: &Op<N>, _other: &Face<N>) -> Result<(), AllocError> {
+    fn absorb_first(&mut self, operation: &FaceOp<N>, _other: &Face<N>) -> Result<(), AllocError> {
         if operation.seen.len() == 0
             || operation.seen.len() > EVENTS
             || self.seen.len() != operation.seen.len() - 1

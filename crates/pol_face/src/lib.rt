@@ -2,7 +2,7 @@
 //!
 //! A face has the number of commits, by name each live endpoint with its last report and its last published map, and the
 //! token of the history that it stands for (`Face`). An operation carries the change of one event with the token of the
-//! history that ends with it (`Op`), so a face that takes it in stands for one event more. A look finds the endpoint by one
+//! history that ends with it (`FaceOp`), so a face that takes it in stands for one event more. A look finds the endpoint by one
 //! hash look-up and reads its map, with no copy.
 #![tactic(auto)]
 
@@ -13,7 +13,7 @@ mod op;
 mod row;
 
 pub use answer::{LookError, Verdict};
-pub use change::Change;
+pub use change::FaceChange;
 pub use face::Face;
-pub use op::Op;
-pub use row::{Row, Shown};
+pub use op::FaceOp;
+pub use row::{FaceMap, FaceRow};

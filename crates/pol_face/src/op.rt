@@ -2,18 +2,18 @@
 ghost use Rattle.std.specs.Prelude.{◌≡◌};
 ghost use Rattle.pol_face.specs.Changes.{IsChangeOf};
 
-use crate::change::Change;
+use crate::change::FaceChange;
 use pol_book::{NodeName, Seen};
 use std::marker::Model;
 
 /// What one event changes, with the token of the history that ends with it. Contracts see it as that history.
 #[derive(Drop)]
-pub struct Op<N: NodeName> {
-    pub(crate) change: Change,
+pub struct FaceOp<N: NodeName> {
+    pub(crate) change: FaceChange,
     pub(crate) seen: Seen<N>,
 }
 
-impl<N: NodeName> Model for Op<N> {
+impl<N: NodeName> Model for FaceOp<N> {
     ghost use Rattle.std.specs.Prelude.{List};
     ghost use Rattle.pol_history.specs.declared.event.HistoryEvent.{HistoryEvent as OneEvent};
     ghost use Rattle.pol_face.specs.Changes.{IsChangeOf};
@@ -25,13 +25,13 @@ impl<N: NodeName> Model for Op<N> {
     ghost invariant = { λ o. IsChangeOf N.options o.change o.seen };
 }
 
-impl<N: NodeName> Op<N> {
+impl<N: NodeName> FaceOp<N> {
     /// The operation of the last event of a history. It takes no memory.
-    pub fn new(change: Change, seen: &Seen<N>) -> Op<N>
+    pub fn new(change: FaceChange, seen: &Seen<N>) -> FaceOp<N>
         requires change { IsChangeOf N.options change seen.now }
         ensures { result ≡ seen.now }
     {
-        Op {
+        FaceOp {
             change,
             seen: seen.again(),
         }

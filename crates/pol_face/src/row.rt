@@ -22,7 +22,7 @@ use std::sync::ledger::Ledger;
 
 /// A published map, with what each address was at its revision.
 #[derive(Drop)]
-pub struct Shown {
+pub struct FaceMap {
     /// The revision of the map.
     pub revision: u64,
     /// The map.
@@ -35,20 +35,20 @@ pub struct Shown {
 
 /// A live endpoint.
 #[derive(Drop)]
-pub struct Row {
+pub struct FaceRow {
     /// The revision that added it.
     pub added: u64,
     /// Its last report.
     pub report: Option<LastReport>,
     /// Its last published map.
-    pub map: Option<Shown>,
+    pub map: Option<FaceMap>,
 }
 
 /// The live endpoints, by name.
-pub(crate) type Rows = IndexMap<Text, Row>;
+pub(crate) type Rows = IndexMap<Text, FaceRow>;
 
 /// The number that a query's remote had at the map's revision.
-fn number_of(shown: &Shown, remote: Remote) -> u32
+fn number_of(shown: &FaceMap, remote: Remote) -> u32
     ensures { result ≡ number_then shown.now remote }
 {
     match remote {
@@ -58,7 +58,7 @@ fn number_of(shown: &Shown, remote: Remote) -> u32
 }
 
 /// What the map says of a packet.
-fn read_shown<L: Ledger>(shown: &Shown, query: &Query, steps: &mut Steps<L>) -> Verdict
+fn read_shown<L: Ledger>(shown: &FaceMap, query: &Query, steps: &mut Steps<L>) -> Verdict
     ensures revision { result.revision ≡ shown.now.revision }
     ensures word { result.word ≡ read_map (finite.entries shown.now.trie) query.now.dir (number_then shown.now query.now.remote) query.now.proto query.now.port }
     ensures forward { steps.old ≤ steps.new }
@@ -76,7 +76,7 @@ fn read_shown<L: Ledger>(shown: &Shown, query: &Query, steps: &mut Steps<L>) -> 
 /// What is found of a live endpoint, after so many commits. It takes no memory.
 fn look_at_map<L: Ledger>(
     commits: u64,
-    map: &Option<Shown>,
+    map: &Option<FaceMap>,
     query: &Query,
     steps: &mut Steps<L>,
 ) -> Result<Verdict, LookError>
@@ -117,7 +117,7 @@ pub(crate) fn look_in_rows<L: Ledger>(
 
 /// The map after changes.
 fn show_more(
-    shown: &mut Shown,
+    shown: &mut FaceMap,
     revision: u64,
     changes: &ChangeList,
     addresses: &Arc<Addresses>,
@@ -146,7 +146,7 @@ fn show_first(
     revision: u64,
     changes: &ChangeList,
     addresses: &Arc<Addresses>,
-) -> Result<Shown, Memory>
+) -> Result<FaceMap, Memory>
     requires room { HasRoom None changes.now }
     ensures { IfOk result (λ shown. IsShownFirst shown changes.now (arc_value addresses.now) revision) }
 {
@@ -155,7 +155,7 @@ fn show_first(
     let addresses = addresses.clone()?;
     let mut trie = PolicyTrie::new(alloc);
     changes.apply_to(&mut trie)?;
-    Ok(Shown {
+    Ok(FaceMap {
         revision,
         trie,
         addresses,
@@ -166,7 +166,7 @@ fn show_first(
 /// A published map in place of the one before.
 pub(crate) fn show_map(
     alloc: Global,
-    map: &mut Option<Shown>,
+    map: &mut Option<FaceMap>,
     revision: u64,
     changes: &ChangeList,
     addresses: &Arc<Addresses>,

@@ -26,7 +26,7 @@ use left_right::Absorb;
 use pol_board::{BoardWriter, NodeName, Pass};
 use pol_data::{Memory, Steps};
 use pol_edits::ChangeList;
-use pol_face::{Face, Op};
+use pol_face::{Face, FaceOp};
 use pol_history::LastReport;
 use pol_model::{CommitError, Committed, Query, Request};
 use pol_repo::{EndpointRow, Repo};
@@ -39,7 +39,7 @@ use std::sync::ledger::Ledger;
 /// The repository and the board's writer, which are at one history. It can't be dropped, and is ended by `close`.
 pub struct Desk<N: NodeName, R: Wait + Drop>
 where
-    Face<N>: Absorb<Op<N>>,
+    Face<N>: Absorb<FaceOp<N>>,
 {
     /// The board's writer.
     pub writer: BoardWriter<N, R>,

@@ -26,7 +26,7 @@ use crate::slot::Slot;
 use left_right::Absorb;
 use pol_board::{BoardWriter, LookError, NodeName, Pass, Verdict};
 use pol_data::{Memory, Steps};
-use pol_face::{Face, Op};
+use pol_face::{Face, FaceOp};
 use pol_history::SlotTurn;
 use pol_model::{CommitError, Committed, Query, Request};
 use pol_repo::Repo;
@@ -38,7 +38,7 @@ use std::sync::{Mutex, MutexGuard, Wait};
 /// dropped, and is ended by `close`.
 pub struct Node<N: NodeName, R: Wait + Drop>
 where
-    Face<N>: Absorb<Op<N>>,
+    Face<N>: Absorb<FaceOp<N>>,
 {
     desk: Mutex<Desk<N, R>>,
     slots: Vec<Mutex<Slot<N>>>,

@@ -25,7 +25,7 @@ struct Done<N: NodeName> {
 
 /// The passes of the sessions after a phase, and what each session was told in it.
 #[derive(Drop)]
-pub struct Played<N: NodeName> {
+pub struct PlayedPhase<N: NodeName> {
     pub passes: Vec<Pass<N>>,
     pub told: Vec<Answers>,
 }
@@ -78,7 +78,7 @@ fn play_sessions<
     hint_pass: HintPass,
     passes: Vec<Pass<N>>,
     lines: Vec<Commands>,
-) -> Result<Played<N>, Memory>
+) -> Result<PlayedPhase<N>, Memory>
     requires handed_out { AllByRecursion (λ pass. has N.passes pass.number ≡ true) passes.items }
     requires one_each { length lines.items ≡ length passes.items }
     requires few { length passes.items ≤ 40 }
@@ -88,7 +88,7 @@ fn play_sessions<
     let mut passes = passes;
     let mut lines = lines;
     let Some(pass) = passes.pop() else {
-        return Ok(Played {
+        return Ok(PlayedPhase {
             passes: Vec::new(alloc),
             told: Vec::new(alloc),
         });
@@ -125,7 +125,7 @@ fn play_in_turn<
     lines: Vec<Commands>,
     pass: Pass<N>,
     own: Commands,
-) -> Result<Played<N>, Memory>
+) -> Result<PlayedPhase<N>, Memory>
     requires handed_out { AllByRecursion (λ pass. has N.passes pass.number ≡ true) passes.items }
     requires one_each { length lines.items ≡ length passes.items }
     requires few { length passes.items ≤ 39 }
@@ -159,7 +159,7 @@ fn play_at_once<
     lines: Vec<Commands>,
     pass: Pass<N>,
     own: Commands,
-) -> Result<Played<N>, Memory>
+) -> Result<PlayedPhase<N>, Memory>
     requires handed_out { AllByRecursion (λ pass. has N.passes pass.number ≡ true) passes.items }
     requires one_each { length lines.items ≡ length passes.items }
     requires few { length passes.items ≤ 39 }
@@ -172,7 +172,7 @@ fn play_at_once<
     let other = hints.split(rt, &mut hint_pass)?;
     let (front, back) = join(
         rt,
-        || -> Result<Played<N>, Memory>
+        || -> Result<PlayedPhase<N>, Memory>
             requires handed_out { AllByRecursion (λ pass. has N.passes pass.number ≡ true) passes.items }
             requires one_each { length lines.items ≡ length passes.items }
             requires few { length passes.items ≤ 39 }
@@ -194,19 +194,19 @@ fn is_alone(own: &Commands, others: &[Commands]) -> bool {
 }
 
 // One session more, whatever it and the others went on from.
-fn more<N: NodeName>(front: Played<N>, back: Done<N>) -> Result<Played<N>, Memory>
+fn more<N: NodeName>(front: PlayedPhase<N>, back: Done<N>) -> Result<PlayedPhase<N>, Memory>
     ensures { (olds : List PassState) (lines : List (List Command)) (old : PassState) (own : List Command)
         → HaveGoneOn N.options olds lines front.told.items front.passes.items → HasGoneOn N.options old own back.answers back.pass
         → IfOk result (λ played. HaveGoneOn N.options (olds ++ old ∷ []) (lines ++ own ∷ []) played.told.items played.passes.items) }
 {
-    let Played {
+    let PlayedPhase {
         mut passes,
         mut told,
     } = front;
     let Done { pass, answers } = back;
     passes.push(pass)?;
     told.push(answers)?;
-    Ok(Played { passes, told })
+    Ok(PlayedPhase { passes, told })
 }
 
 /// Plays the sessions of a phase, each in a thread, and then all passes meet. The one error is want of memory.
@@ -224,7 +224,7 @@ pub fn play_phase<
     hint_pass: HintPass,
     passes: Vec<Pass<N>>,
     lines: Vec<Commands>,
-) -> Result<Played<N>, Memory>
+) -> Result<PlayedPhase<N>, Memory>
     requires handed_out { AllByRecursion (λ pass. has N.passes pass.number ≡ true) passes.items }
     requires one_each { length lines.items ≡ length passes.items }
     requires few { length passes.items ≤ 40 }

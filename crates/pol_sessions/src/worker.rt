@@ -7,7 +7,7 @@ ghost use Rattle.pol_placed.specs.Seats.{ArePhases};
 use crate::phase::{PlayedPhases, play_phases};
 use left_right::Absorb;
 use pol_data::{Items, Memory};
-use pol_face::{Face, Op};
+use pol_face::{Face, FaceOp};
 use pol_node::{Node, NodeName, Pass};
 use pol_phases::Commands;
 use pol_pool::{Calls, Gate, HintPass, Hints, Job, Over, work};
@@ -19,7 +19,7 @@ use std::thread::{Threads, join};
 #[derive(Drop)]
 struct Regenerating<'a, N: NodeName, R: Wait + Drop>
 where
-    Face<N>: Absorb<Op<N>>,
+    Face<N>: Absorb<FaceOp<N>>,
 {
     node: &'a Node<N, R>,
 }

@@ -8,7 +8,7 @@ use Rattle.pol_data.proofs.Counts.{count_by-cons}
 use Rattle.pol_generated.specs.Requests.{is_committed, is_verdict}
 use Rattle.pol_mapkey.specs.declared.Word.TheVariants.{Allowed, DeniedByRule, DeniedByDefault}
 use Rattle.pol_summary.specs.Summary.{count_of, is_of}
-use Rattle.pol_summary.specs.declared.summary.Kind.TheVariants as kind
+use Rattle.pol_summary.specs.declared.summary.AnswerKind.TheVariants as kind
 use Rattle.pol_run.specs.Run.{is_marked, status_of}
 
 -- ---- commits

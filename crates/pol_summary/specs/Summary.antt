@@ -6,12 +6,12 @@ use Rattle.pol_model.specs.declared.options.Options.{Options}
 use Rattle.pol_answer.specs.declared.answer.Answer.{Answer}
 use Rattle.pol_answer.specs.declared.answer.Answer.TheVariants as answer
 use Rattle.pol_gen.specs.Generated.{generated}
-use Rattle.pol_summary.specs.declared.summary.Kind.{Kind}
-use Rattle.pol_summary.specs.declared.summary.Kind.TheVariants as kind
+use Rattle.pol_summary.specs.declared.summary.AnswerKind.{AnswerKind}
+use Rattle.pol_summary.specs.declared.summary.AnswerKind.TheVariants as kind
 use Rattle.pol_run.specs.Run.{readings_of}
 use Rattle.pol_run.specs.Serial.{serial_answers}
 
-abbrev pub is_of : Kind → Answer → Bool
+abbrev pub is_of : AnswerKind → Answer → Bool
 is_of kind.Commit (answer.Committed revision identity) = true
 is_of kind.Refusal (answer.BadLine fault) = true
 is_of kind.Refusal (answer.Refused refused) = true
@@ -21,7 +21,7 @@ is_of kind.DeniedByDefault (answer.Verdict revision DeniedByDefault) = true
 is_of _ _ = false
 
 -- how many of the answers are of the kind
-unfoldable pub count_of : Kind → List Answer → ℕ
+unfoldable pub count_of : AnswerKind → List Answer → ℕ
 count_of kind answers = count_by (is_of kind) answers
 
 -- `commits C refused F allowed A denied-by-rule D denied-by-default E`, of these answers

@@ -7,7 +7,7 @@ ghost use Rattle.pol_generated.specs.Maps.{HasRoom, most_entries};
 ghost use Rattle.pol_generated.specs.OneRun.{IsRunOfRounds};
 ghost use Rattle.pol_model.specs.declared.options.Options.{Options as AllOptions};
 ghost use Rattle.pol_summary.specs.Summary.{count_of, summary, summary_text};
-ghost use Rattle.pol_summary.specs.declared.summary.Kind.TheVariants as kind;
+ghost use Rattle.pol_summary.specs.declared.summary.AnswerKind.TheVariants as kind;
 ghost use Rattle.pol_run.specs.Run.{readings_of};
 ghost use Rattle.pol_run.specs.Serial.{serial_answers};
 

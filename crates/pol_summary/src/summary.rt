@@ -11,7 +11,7 @@ use std::alloc::Global;
 
 /// The ways in which a line of a generated script is answered.
 #[derive(Clone, Copy, Debug, PartialEq, Eq)]
-pub enum Kind {
+pub enum AnswerKind {
     /// A request that was committed.
     Commit,
     /// A line or a request that was refused.
@@ -24,27 +24,27 @@ pub enum Kind {
     DeniedByDefault,
 }
 
-fn is_of(kind: Kind, answer: &Answer) -> bool
+fn is_of(kind: AnswerKind, answer: &Answer) -> bool
     ensures { result ≡ is_of kind answer.now }
 {
     match kind {
-        Kind::Commit => matches!(answer, Answer::Committed { .. }),
-        Kind::Refusal => matches!(answer, Answer::BadLine(_) | Answer::Refused(_)),
-        Kind::Allowed => matches!(
+        AnswerKind::Commit => matches!(answer, Answer::Committed { .. }),
+        AnswerKind::Refusal => matches!(answer, Answer::BadLine(_) | Answer::Refused(_)),
+        AnswerKind::Allowed => matches!(
             answer,
             Answer::Verdict {
                 word: Word::Allowed,
                 ..
             }
         ),
-        Kind::DeniedByRule => matches!(
+        AnswerKind::DeniedByRule => matches!(
             answer,
             Answer::Verdict {
                 word: Word::DeniedByRule,
                 ..
             }
         ),
-        Kind::DeniedByDefault => matches!(
+        AnswerKind::DeniedByDefault => matches!(
             answer,
             Answer::Verdict {
                 word: Word::DeniedByDefault,
@@ -55,7 +55,7 @@ fn is_of(kind: Kind, answer: &Answer) -> bool
 }
 
 #[tactic(auto, unfolding(crate::specs::Summary::count_of))]
-fn count_of(kind: Kind, answers: &[Answer]) -> usize
+fn count_of(kind: AnswerKind, answers: &[Answer]) -> usize
     ensures { result ≡ count_of kind answers.now }
 {
     let mut count = 0;
@@ -68,7 +68,12 @@ fn count_of(kind: Kind, answers: &[Answer]) -> usize
 }
 
 #[tactic(auto, using(std::proofs::Common::append_assoc))]
-fn push_count(out: &mut String, text: &str, kind: Kind, answers: &[Answer]) -> Result<(), Memory>
+fn push_count(
+    out: &mut String,
+    text: &str,
+    kind: AnswerKind,
+    answers: &[Answer],
+) -> Result<(), Memory>
     ensures { OnOk result (string_bytes out.new ≡ string_bytes out.old ++ text.now ++ decimal (count_of kind answers.now)) }
 {
     out.push_str(text)?;
@@ -85,11 +90,16 @@ fn push_newline(out: &mut String) -> Result<(), Memory>
 fn push_summary(out: &mut String, answers: &[Answer]) -> Result<(), Memory>
     ensures { OnOk result (string_bytes out.new ≡ string_bytes out.old ++ summary_text answers.now) }
 {
-    push_count(out, "commits ", Kind::Commit, answers)?;
-    push_count(out, " refused ", Kind::Refusal, answers)?;
-    push_count(out, " allowed ", Kind::Allowed, answers)?;
-    push_count(out, " denied-by-rule ", Kind::DeniedByRule, answers)?;
-    push_count(out, " denied-by-default ", Kind::DeniedByDefault, answers)?;
+    push_count(out, "commits ", AnswerKind::Commit, answers)?;
+    push_count(out, " refused ", AnswerKind::Refusal, answers)?;
+    push_count(out, " allowed ", AnswerKind::Allowed, answers)?;
+    push_count(out, " denied-by-rule ", AnswerKind::DeniedByRule, answers)?;
+    push_count(
+        out,
+        " denied-by-default ",
+        AnswerKind::DeniedByDefault,
+        answers,
+    )?;
     push_newline(out)
 }
 

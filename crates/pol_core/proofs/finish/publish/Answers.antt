@@ -3,8 +3,8 @@ use Rattle.std.proofs.Common.{◌≡◌, Option, Some, None, ap, subst, sym, ◌
 use Rattle.std.proofs.lemmas.Option.{same_Some}
 use Rattle.pol_follow.specs.declared.follow.Followed.{Followed}
 use Rattle.pol_follow.specs.Follow.{IsShown}
-use Rattle.pol_core.specs.declared.row.Row.{Row}
-use Rattle.pol_core.specs.declared.row.Shown.{Shown}
+use Rattle.pol_core.specs.declared.row.MachineRow.{MachineRow}
+use Rattle.pol_core.specs.declared.row.MachineMap.{MachineMap}
 use Rattle.pol_core.specs.Parts.{IsShownOf}
 use Rattle.pol_core.proofs.finish.publish.Goals as goal
 
@@ -13,7 +13,7 @@ returns-clause-ok c made is =
     let same : c.in-Some.work ≡ made = same_Some c.in-Some.work made (sym c.in-Some.is ∙ is) in
     let map = c.in_ok-show-in-Some.ensures.ok in
     let on = c.published.ensures.shown in
-    let row : Option Shown → Row = λ m. record {
+    let row : Option MachineMap → MachineRow = λ m. record {
       added = c.args.row.now.added;
       report = Some (record { revision = c.args.taken.now.revision; commits = c.args.commits; published = Some c.args.taken.now.revision });
       map = m;

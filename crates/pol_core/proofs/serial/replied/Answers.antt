@@ -1,5 +1,5 @@
 use Rattle.std.proofs.Common.{[], ◌∷◌, ap}
-use Rattle.pol_core.specs.declared.asked.Said.TheVariants as told
+use Rattle.pol_core.specs.declared.asked.SerialAnswer.TheVariants as told
 use Rattle.pol_core.specs.Stands.{options_in}
 use Rattle.pol_core.proofs.Led.{left}
 use Rattle.pol_core.proofs.serial.replied.Goals as goal

@@ -1,7 +1,7 @@
 use Rattle.std.proofs.Common.{rules, subst}
-use Rattle.pol_face.specs.declared.change.Change.TheVariants as change
+use Rattle.pol_face.specs.declared.change.FaceChange.TheVariants as change
 use Rattle.pol_history.specs.Content.{content_of}
-use Rattle.pol_face.specs.declared.change.Change.{Change}
+use Rattle.pol_face.specs.declared.change.FaceChange.{FaceChange}
 use Rattle.pol_face.specs.Room.{HaveRoom}
 use Rattle.pol_face.proofs.Telling.{on_ok, taken-in-by}
 use Rattle.pol_face.proofs.change.take_in.Goals as goal
@@ -38,4 +38,4 @@ returns-in-Blocked-clause-ok c options history new count tells holds =
     c.args.change.now c.in-Blocked.is new tells (c.block.ensures (content_of options history).live holds)
 
 pub publish-requires : goal.publish-requires
-publish-requires c = record { room = subst (λ (told : Change). HaveRoom c.args.rows.now told) c.in-Published.is c.requires.room }
+publish-requires c = record { room = subst (λ (told : FaceChange). HaveRoom c.args.rows.now told) c.in-Published.is c.requires.room }

@@ -9,7 +9,7 @@ use Rattle.pol_history.proofs.Own.{revision-few}
 use Rattle.pol_face.specs.Rows.{Holds}
 use Rattle.pol_face.proofs.Fitting.{have_room}
 use Rattle.pol_face.proofs.Telling.{counted-after, one_more}
-use Rattle.pol_face.proofs.face.FaceAbsorbOp.absorb_first.Goals as goal
+use Rattle.pol_face.proofs.face.FaceAbsorbFaceOp.absorb_first.Goals as goal
 
 pub take_in-requires : goal.take_in-requires
 take_in-requires g c =
