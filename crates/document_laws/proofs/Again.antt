@@ -1,5 +1,5 @@
 -- Members that are read again from the fields that write them.
-use Rattle.std.proofs.Common.{◌≡◌, ℕ, List, [], ◌∷◌, map, Option, None, Some, option_map, option_and_then, unwrap_or, refl, ap, ◌∙◌}
+use Rattle.std.proofs.Common.{◌≡◌, ℕ, false, if◌then◌else◌, List, [], ◌∷◌, map, Option, None, Some, option_map, option_and_then, unwrap_or, refl, ap, ◌∙◌}
 use Rattle.std.specs.Option.{option_or}
 use Rattle.serde_json.specs.Data.{Data, string}
 use Rattle.serde_json.specs.Find.{as_array, as_number, as_str, as_u64}
@@ -8,8 +8,8 @@ use Rattle.document_laws.proofs.Named.{shown}
 use Rattle.document_laws.specs.Fields.{array_of, unless_empty}
 use Rattle.document_laws.specs.Written.{whole_document}
 use Rattle.pol_json.proofs.Views.{items_list_view}
-use Rattle.pol_json.specs.Build.{items_if_there, member_items, member_text}
-use Rattle.pol_json.specs.Members.{items_list, present}
+use Rattle.pol_json.specs.Build.{items_if_there, member_items, member_of, member_text}
+use Rattle.pol_json.specs.Members.{is_null, items_list, present}
 
 -- what a member lists, and its text
 abbrev listed : Option Data → Option (List Data)
@@ -46,6 +46,16 @@ module _ {A : Type 0} (read : Data → A) (write : A → Data) (again : (x : A) 
   pub items_come_again : (name : List ℕ) (d : Data) (xs : List A) → present name d ≡ shown (option_or (unless_empty (array_of write) xs) None)
       → member_items read name d ≡ xs
   items_come_again name d xs is = ap (λ found. map read (unwrap_or (listed found) [])) is ∙ unless_left_out xs
+
+module _ {A : Type 0} (read : Data → A) (write : A → Data) (again : (x : A) → read (write x) ≡ x) (there : (x : A) → is_null (write x) ≡ false) where
+  if_there : (found : Option A) → option_map read (shown (option_or (option_map write found) None)) ≡ found
+  if_there None = refl
+  if_there (Some x) = ap (λ null. option_map read (if null then None else Some (write x))) (there x) ∙ ap Some (again x)
+
+  -- a value that may be absent
+  pub member_again : (name : List ℕ) (d : Data) (found : Option A) → present name d ≡ shown (option_or (option_map write found) None)
+      → member_of read name d ≡ found
+  member_again name d found is = ap (option_map read) is ∙ if_there found
 
 pub text_again : (name : List ℕ) (d : Data) (text : List ℕ) → present name d ≡ Some (string text) → member_text name d ≡ text
 text_again name d text is = ap said is

@@ -22,7 +22,7 @@ use Rattle.pol_rule.specs.declared.raw.RawPortItem.{RawPortItem}
 
 -- ---- they are read again
 
-cidr_set_again : (s : RawCidrSet) → cidr_set_of (cidr_set_document s) ≡ s
+pub cidr_set_again : (s : RawCidrSet) → cidr_set_of (cidr_set_document s) ≡ s
 cidr_set_again s =
     let except = items_come_again text_of string text_is_again (codes "except") (cidr_set_document s) s.except (has (codes "except") (cidr_set_fields s)) in
     λ i. record { cidr = s.cidr; except = except i }
@@ -74,7 +74,7 @@ set_sound s well =
     sound_unless_empty string (member_shape set_shape (codes "except")) s.except tt (each_sound IsWellFormedCidr _ cidr_sound s.except well.except) in
     sound_object set_shape set_is (cidr_set_fields s) (set_cause s.cidr s.except) (cidr_sound s.cidr well.cidr, (except, tt))
 
-whole_sound : (n : Option ℕ) → IfSome (option_map whole_document n) (IsSound number_shape)
+pub whole_sound : (n : Option ℕ) → IfSome (option_map whole_document n) (IsSound number_shape)
 whole_sound None = tt
 whole_sound (Some n) = sound_at number_shape (whole_document n) refl refl
 

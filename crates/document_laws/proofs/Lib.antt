@@ -11,3 +11,8 @@ pub mod Needed
 pub mod TextRead
 pub mod Writable
 pub mod Printing
+pub mod NetworkShapes
+pub mod NetworkAgain
+pub mod NetworkSound
+pub mod NetworkPolicies
+pub mod NetworkWritable

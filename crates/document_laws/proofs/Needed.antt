@@ -25,7 +25,7 @@ use Rattle.pol_rule.specs.declared.raw.RawRule.{RawRule}
 
 -- ---- entries
 
-abbrev cidr_cause : List ℕ → Option Cause
+abbrev pub cidr_cause : List ℕ → Option Cause
 cidr_cause text = unless (not (list_any (λ byte. byte == 58) text)) (left_out (codes "ipv6"))
 
 abbrev port_cause : List ℕ → Option Cause
@@ -34,10 +34,10 @@ port_cause text = unless (not (list_any is_letter text)) (left_out (codes "named
 abbrev protocol_cause : List ℕ → Option Cause
 protocol_cause text = unless (not (is_icmp text)) (left_out (codes "icmp"))
 
-cidr_passes : (text : List ℕ) → cidr_cause text ≡ None → IsWellFormedCidr text
+pub cidr_passes : (text : List ℕ) → cidr_cause text ≡ None → IsWellFormedCidr text
 cidr_passes text none = passed (not (list_any (λ byte. byte == 58) text)) (left_out (codes "ipv6")) none
 
-cidr_well : (d : Data) → IsSound cidr_shape d → IsWellFormedCidr (text_of d)
+pub cidr_well : (d : Data) → IsSound cidr_shape d → IsWellFormedCidr (text_of d)
 cidr_well d sound = text_well IsWellFormedCidr cidr_cause refl cidr_passes cidr_shape d (λ e. refl) sound
 
 set_well : (d : Data) → IsSound set_shape d → IsWellFormedSet (cidr_set_of d)
@@ -116,7 +116,7 @@ no_head : (head : Option DocFault) (found : Option Found) → option_or head (op
 no_head None found none = refl
 no_head (Some fault) found none = absurd cc
 
-no_fault : (fault : Option DocFault) (raw policy : RawPolicy) → unless_fault fault raw ≡ Ok policy → (fault ≡ None) × (raw ≡ policy)
+pub no_fault : {A : Type 0} (fault : Option DocFault) (raw policy : A) → unless_fault fault raw ≡ Ok policy → (fault ≡ None) × (raw ≡ policy)
 no_fault None raw policy is = (refl, cc)
 no_fault (Some fault) raw policy is = absurd cc
 

@@ -77,7 +77,7 @@ namespace_sound : (cluster_wide : Bool) (namespace : List ℕ) → (cluster_wide
 namespace_sound true namespace well = tt
 namespace_sound false namespace well = name_sound namespace (well refl)
 
-metadata_sound : (key : PolicyKey) → IsWellFormedKey key → IsSound metadata_shape (metadata_document key)
+pub metadata_sound : (key : PolicyKey) → IsWellFormedKey key → IsSound metadata_shape (metadata_document key)
 metadata_sound key well =
     sound_object metadata_shape metadata_is (metadata_fields key) refl
     (name_sound key.name well.name, (namespace_sound key.cluster_wide key.namespace well.namespace, tt))
@@ -108,14 +108,14 @@ kind_from : (cluster_wide : Bool) (namespace name : List ℕ) (spec : Option Raw
 kind_from true namespace name spec specs = refl
 kind_from false namespace name spec specs = refl
 
-long_name : (name : List ℕ) → is_dns_name name ≡ true → nat_lt 0 (length name) ≡ true
+pub long_name : (name : List ℕ) → is_dns_name name ≡ true → nat_lt 0 (length name) ≡ true
 long_name name well =
     let both = and_parts (has_name_length name) (list_all is_dns_byte name) well in
     let lengths = and_parts (nat_le 1 (length name)) (nat_le (length name) name_max) both.0 in
     let least : 1 ≤ length name = leb-true 1 (length name) lengths.0 in
     lt-ltb 0 (length name) (omega (arith, least))
 
-no_head_fault : (policy name spec : Bool) (a b c : Option DocFault) → policy ≡ true → name ≡ true → spec ≡ true
+pub no_head_fault : (policy name spec : Bool) (a b c : Option DocFault) → policy ≡ true → name ≡ true → spec ≡ true
     → (if not policy then a else if not name then b else if not spec then c else None) ≡ None
 no_head_fault true true true a b c is_policy is_named has_spec = refl
 no_head_fault _ _ _ a b c is_policy is_named has_spec = absurd cc
@@ -129,12 +129,12 @@ head_again key spec specs well has_rule =
 
 -- ---- all of it
 
-no_fault : (head : Option DocFault) (found : Option Found) → head ≡ None → found ≡ None → option_or head (option_map fault_of found) ≡ None
-no_fault None None none more = refl
-no_fault None (Some f) none more = absurd cc
-no_fault (Some fault) found none more = absurd cc
+pub neither_fault : (head : Option DocFault) (found : Option Found) → head ≡ None → found ≡ None → option_or head (option_map fault_of found) ≡ None
+neither_fault None None none more = refl
+neither_fault None (Some f) none more = absurd cc
+neither_fault (Some fault) found none more = absurd cc
 
-read_as : (fault : Option DocFault) (raw policy : RawPolicy) → fault ≡ None → raw ≡ policy → unless_fault fault raw ≡ Ok policy
+pub read_as : {A : Type 0} (fault : Option DocFault) (raw policy : A) → fault ≡ None → raw ≡ policy → unless_fault fault raw ≡ Ok policy
 read_as None raw policy none is = ap Ok is
 read_as (Some fault) raw policy none is = absurd cc
 
@@ -143,7 +143,7 @@ written_again : (key : PolicyKey) (spec : Option RawRule) (specs : List RawRule)
     → read_document (document_with key spec specs) ≡ Ok (policy_made key (one_rule spec ++ specs))
 written_again key spec specs well first others has_rule =
     let d = document_with key spec specs in
-    let none = no_fault (head_fault d) (first_found (places_of d)) (head_again key spec specs well has_rule) (policy_sound key spec specs well first others) in
+    let none = neither_fault (head_fault d) (first_found (places_of d)) (head_again key spec specs well has_rule) (policy_sound key spec specs well first others) in
     read_as (first_fault d) (policy_of d) (policy_made key (one_rule spec ++ specs)) none (policy_again key spec specs well)
 
 never_empty : (n : ℕ) → not (suc n == 0) ≡ true

@@ -15,7 +15,7 @@ use Rattle.pol_rule.specs.declared.policy.PolicyKey.{PolicyKey}
 use Rattle.pol_rule.specs.declared.raw.RawPolicy.{RawPolicy}
 use Rattle.pol_rule.specs.declared.raw.RawRule.{RawRule}
 
-document_again : (d : Data) → IsWritable 10 d → read (compact_text d) ≡ Some d
+pub document_again : (d : Data) → IsWritable 10 d → read (compact_text d) ≡ Some d
 document_again d written =
     let shallow : depth d ≤ max_depth = omega (arith, written.shallow) in
     text_again d written.plain written.ascend shallow

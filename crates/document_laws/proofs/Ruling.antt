@@ -1,19 +1,16 @@
 -- Rules are read again, and nothing is wrong in a well-formed one.
-use Rattle.std.proofs.Common.{◌≡◌, ℕ, List, codes, Option, None, Some, option_map, IfSome, refl, sym, ap, subst, ◌∙◌}
+use Rattle.std.proofs.Common.{◌≡◌, ℕ, List, codes, Option, None, Some, option_map, IfSome, refl, sym, subst}
 use Rattle.std.specs.List.{AllByRecursion}
-use Rattle.std.specs.Option.{option_or}
-use Rattle.serde_json.specs.Data.{Data}
-use Rattle.document_laws.proofs.Again.{items_come_again}
+use Rattle.document_laws.proofs.Again.{items_come_again, member_again}
 use Rattle.document_laws.proofs.Entering.{entry_again, entry_sound}
-use Rattle.document_laws.proofs.Named.{has, shown}
+use Rattle.document_laws.proofs.Named.{has}
 use Rattle.document_laws.proofs.Nothing.{IsListing, IsSound, each_sound, sound_object, sound_unless_empty}
 use Rattle.document_laws.proofs.Selecting.{selector_again, selector_sound}
 use Rattle.document_laws.proofs.Shapes.{entry_shape, item_shape, member_shape, rule_is, rule_shape, selector_shape}
 use Rattle.document_laws.specs.Fields.{unless_empty}
 use Rattle.document_laws.specs.WellFormed.{IsWellFormedEntry, IsWellFormedRule, IsWellFormedSection}
 use Rattle.document_laws.specs.Written.{entry_document, rule_document, rule_fields, section_document, selector_document}
-use Rattle.pol_json.specs.Build.{entry_of, member_of, rule_of, selector_of}
-use Rattle.pol_json.specs.Members.{present}
+use Rattle.pol_json.specs.Build.{entry_of, rule_of, selector_of}
 use Rattle.pol_ports.specs.declared.Direction.{Direction}
 use Rattle.pol_ports.specs.declared.Direction.TheVariants.{Ingress, Egress}
 use Rattle.pol_rule.specs.declared.raw.RawEntry.{RawEntry}
@@ -22,20 +19,11 @@ use Rattle.pol_rule.specs.declared.raw.RawSelector.{RawSelector}
 
 -- ---- they are read again
 
-subject_if_there : (subject : Option RawSelector) → option_map selector_of (shown (option_or (option_map selector_document subject) None)) ≡ subject
-subject_if_there None = refl
-subject_if_there (Some selector) = ap Some (selector_again selector)
-
-subject_again : (d : Data) (subject : Option RawSelector)
-    → present (codes "endpointSelector") d ≡ shown (option_or (option_map selector_document subject) None)
-    → member_of selector_of (codes "endpointSelector") d ≡ subject
-subject_again d subject is = ap (option_map selector_of) is ∙ subject_if_there subject
-
 pub rule_again : (r : RawRule) → rule_of (rule_document r) ≡ r
 rule_again r =
     let d = rule_document r in
     let fields = rule_fields r in
-    let subject = subject_again d r.subject (has (codes "endpointSelector") fields) in
+    let subject = member_again selector_of selector_document selector_again (λ s. refl) (codes "endpointSelector") d r.subject (has (codes "endpointSelector") fields) in
     let ingress = items_come_again (entry_of Ingress) (entry_document Ingress) (entry_again Ingress) (codes "ingress") d r.ingress (has (codes "ingress") fields) in
     let ingress_deny = items_come_again (entry_of Ingress) (entry_document Ingress) (entry_again Ingress) (codes "ingressDeny") d r.ingress_deny (has (codes "ingressDeny") fields) in
     let egress = items_come_again (entry_of Egress) (entry_document Egress) (entry_again Egress) (codes "egress") d r.egress (has (codes "egress") fields) in
@@ -44,7 +32,7 @@ rule_again r =
 
 -- ---- nothing is wrong
 
-subject_sound : (subject : Option RawSelector) → IfSome (option_map selector_document subject) (IsSound selector_shape)
+pub subject_sound : (subject : Option RawSelector) → IfSome (option_map selector_document subject) (IsSound selector_shape)
 subject_sound None = tt
 subject_sound (Some selector) = selector_sound selector
 

@@ -8,7 +8,7 @@ use Rattle.pol_json.specs.Table.{Shape, unknown, list_of, one}
 use Rattle.pol_ports.specs.declared.Direction.{Direction}
 use Rattle.pol_ports.specs.declared.Direction.TheVariants.{Ingress, Egress}
 
-abbrev first_shape : List Place → Shape
+abbrev pub first_shape : List Place → Shape
 first_shape [] = unknown
 first_shape (place ∷ others) = place.shape
 

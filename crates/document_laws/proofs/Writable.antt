@@ -38,7 +38,7 @@ record ListWritable (n : ℕ) (ds : Items) : Type 0 where
   ascend : ItemsAscend ds
   shallow : items_depth ds ≤ n
 
-text_writable : (n : ℕ) (text : List ℕ) → IsWritable n (string text)
+pub text_writable : (n : ℕ) (text : List ℕ) → IsWritable n (string text)
 text_writable n text = record { plain = tt; ascend = tt; shallow = omega arith }
 
 -- ---- objects
@@ -54,15 +54,15 @@ object_writable : (n : ℕ) (ms : Members) → AreWritable n ms → IsWritable (
 object_writable n ms are = record { plain = are.plain; ascend = are.ascend; shallow = omega (arith, are.shallow) }
 
 -- the name comes before those of the fields, and the names of fields ascend
-abbrev NameBelow : List ℕ → Fields → Type 0
+abbrev pub NameBelow : List ℕ → Fields → Type 0
 NameBelow name [] = Unit {0}
 NameBelow name (field ∷ others) = (slice_cmp nat_cmp name field.0 ≡ Less) × NameBelow name others
 
-abbrev FieldsAscend : Fields → Type 0
+abbrev pub FieldsAscend : Fields → Type 0
 FieldsAscend [] = Unit {0}
 FieldsAscend (field ∷ others) = NameBelow field.0 others × FieldsAscend others
 
-abbrev FieldsWritable : ℕ → Fields → Type 0
+abbrev pub FieldsWritable : ℕ → Fields → Type 0
 FieldsWritable n [] = Unit {0}
 FieldsWritable n (field ∷ others) = IfSome field.1 (IsWritable n) × FieldsWritable n others
 
@@ -84,7 +84,7 @@ members_writable n [] ascend are = record { plain = tt; ascend = tt; shallow = o
 members_writable n (field ∷ others) ascend are =
     with_writable n field.0 field.1 (members_of others) are.0 (below_fields field.0 others ascend.0) (members_writable n others ascend.1 are.1)
 
-fields_writable : (n : ℕ) (fields : Fields) → FieldsAscend fields → FieldsWritable n fields → IsWritable (suc n) (object_of fields)
+pub fields_writable : (n : ℕ) (fields : Fields) → FieldsAscend fields → FieldsWritable n fields → IsWritable (suc n) (object_of fields)
 fields_writable n fields ascend are = object_writable n (members_of fields) (members_writable n fields ascend are)
 
 -- ---- lists
@@ -101,7 +101,7 @@ module _ {A : Type 0} (n : ℕ) (write : A → Data) where
       let list = items_writable xs are in
       record { plain = list.plain; ascend = list.ascend; shallow = omega (arith, list.shallow) }
 
-  list_unless_empty : (xs : List A) → AllByRecursion (λ x. IsWritable n (write x)) xs → IfSome (unless_empty (array_of write) xs) (IsWritable (suc n))
+  pub list_unless_empty : (xs : List A) → AllByRecursion (λ x. IsWritable n (write x)) xs → IfSome (unless_empty (array_of write) xs) (IsWritable (suc n))
   list_unless_empty [] are = tt
   list_unless_empty (x ∷ xs) are = list_writable (x ∷ xs) are
 
@@ -117,7 +117,7 @@ each_list : {A : Type 0} (P Q : A → Type 0) → ((x : A) → P x → Q x) → 
 each_list P Q lifts None all = tt
 each_list P Q lifts (Some xs) all = each_sound P Q lifts xs all
 
-texts_unless_empty : (n : ℕ) (texts : List (List ℕ)) → IfSome (unless_empty texts_document texts) (IsWritable (suc n))
+pub texts_unless_empty : (n : ℕ) (texts : List (List ℕ)) → IfSome (unless_empty texts_document texts) (IsWritable (suc n))
 texts_unless_empty n texts = list_unless_empty n string texts (all_sound _ (text_writable n) texts)
 
 texts_if_there : (n : ℕ) (texts : Option (List (List ℕ))) → IfSome (option_map texts_document texts) (IsWritable (suc n))
@@ -153,11 +153,11 @@ selector_writable n s kept =
 
 -- ---- entries
 
-set_writable : (n : ℕ) (s : RawCidrSet) → IsWritable (suc (suc n)) (cidr_set_document s)
+pub set_writable : (n : ℕ) (s : RawCidrSet) → IsWritable (suc (suc n)) (cidr_set_document s)
 set_writable n s =
     fields_writable (suc n) (cidr_set_fields s) ((refl, tt), (tt, tt)) (text_writable (suc n) s.cidr, (texts_unless_empty n s.except, tt))
 
-whole_writable : (n : ℕ) (end : Option ℕ) → IfSome end (λ m. m < 2 ^ 64) → IfSome (option_map whole_document end) (IsWritable n)
+pub whole_writable : (n : ℕ) (end : Option ℕ) → IfSome end (λ m. m < 2 ^ 64) → IfSome (option_map whole_document end) (IsWritable n)
 whole_writable n None small = tt
 whole_writable n (Some m) small = record { plain = small; ascend = tt; shallow = omega arith }
 
@@ -204,7 +204,7 @@ section_writable : (n : ℕ) (dir : Direction) (entries : List RawEntry) → IsK
 section_writable n dir entries kept =
     list_unless_empty (suc (suc (suc (suc (suc (suc n)))))) (entry_document dir) entries (each_sound IsKeptEntry _ (entry_writable n dir) entries kept)
 
-subject_writable : (n : ℕ) (subject : Option RawSelector) → IfSome subject IsKeptSelector
+pub subject_writable : (n : ℕ) (subject : Option RawSelector) → IfSome subject IsKeptSelector
     → IfSome (option_map selector_document subject) (IsWritable (suc (suc (suc (suc n)))))
 subject_writable n None kept = tt
 subject_writable n (Some selector) kept = selector_writable n selector kept
@@ -231,7 +231,7 @@ namespace_writable : (n : ℕ) (cluster_wide : Bool) (namespace : List ℕ) → 
 namespace_writable n true namespace = tt
 namespace_writable n false namespace = text_writable n namespace
 
-metadata_writable : (n : ℕ) (key : PolicyKey) → IsWritable (suc n) (metadata_document key)
+pub metadata_writable : (n : ℕ) (key : PolicyKey) → IsWritable (suc n) (metadata_document key)
 metadata_writable n key =
     fields_writable n (metadata_fields key) ((refl, tt), (tt, tt)) (text_writable n key.name, (namespace_writable n key.cluster_wide key.namespace, tt))
 

@@ -1,6 +1,8 @@
-//! Policies as the documents that write them, and the laws that each is read again.
+//! Policies as the documents that write them, and the laws that each is read again: of Cilium's in `laws`, of Kubernetes' in
+//! `networks`.
 //!
 //! Nothing stands on this crate. Each law is the contract of a function that does nothing.
 #![tactic(auto)]
 
 pub mod laws;
+pub mod networks;
