@@ -1,7 +1,7 @@
 //! Policies as the documents that write them, and the laws that each is read again: of Cilium's in `laws`, of Kubernetes' in
 //! `networks`.
 //!
-//! Nothing stands on this crate. Each law is the contract of a function that does nothing.
+//! Only `script_examples` stands on this crate, on which nothing does. Each law is the contract of a function that does nothing.
 #![tactic(auto)]
 
 pub mod laws;

@@ -1,4 +1,5 @@
 pub mod Answers
+pub mod Commands
 pub mod Printed
 pub mod Rules
 pub mod Values

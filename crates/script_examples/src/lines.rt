@@ -1,19 +1,14 @@
-//! What lines of the script ask, and what they are refused for, on small lines.
-ghost use Rattle.std.specs.Prelude.{◌≡◌, ℕ, List, [], ◌∷◌, ◌++◌, codes, true, false, Ok, Err};
-ghost use Rattle.serde_json.specs.Data.{unsigned, null, number};
-ghost use Rattle.pol_json.specs.Texts.{is_name};
-ghost use Rattle.pol_model.specs.declared.options.Mode.{Mode};
+//! What lines of the script ask, and what they are refused for, on small lines; and that each command is read again.
+ghost use Rattle.std.specs.Prelude.{◌≡◌, ℕ, List, [], ◌∷◌, codes, Ok, Err};
+ghost use Rattle.serde_json.specs.Data.{Data, unsigned, null, number};
 ghost use Rattle.pol_model.specs.declared.options.Mode.TheVariants as mode;
-ghost use Rattle.pol_model.specs.declared.request.Remote.TheVariants.{Identity};
 ghost use Rattle.pol_model.specs.declared.request.Request.TheVariants as request;
-ghost use Rattle.pol_ports.specs.declared.Direction.{Direction};
-ghost use Rattle.pol_ports.specs.declared.Proto.{Proto};
-ghost use Rattle.pol_script.specs.Forms.{is_within};
-ghost use Rattle.pol_script.specs.Reading.{read_object};
+ghost use Rattle.pol_script.specs.Reading.{object_of, read_object, reading_of};
+ghost use Rattle.pol_script.specs.declared.command.Command.{Command};
 ghost use Rattle.pol_script.specs.declared.command.Command.TheVariants as command;
 ghost use Rattle.pol_script.specs.declared.line_fault.LineFault.TheVariants as fault;
 ghost use Rattle.script_examples.specs.Answers.{own, wide};
-ghost use Rattle.script_examples.specs.Printed.{delete_line, is_session, line_in, mode_line, named_line, network_delete_line, query_line, wide_delete_line};
+ghost use Rattle.script_examples.specs.Commands.{Writes};
 ghost use Rattle.script_examples.specs.Values.{fields, items, text};
 
 /// A `delete` takes each name of the script, also one that no policy can have; a namespace that isn't named is `default`,
@@ -61,29 +56,15 @@ pub fn faults_of_lines_are_in_order()
     ensures phase_has_no_session { read_object (fields ((codes "op", text (codes "phase")) ∷ (codes "session", number (unsigned 1)) ∷ [])) ≡ Err (fault.UnknownField (codes "session")) }
 {}
 
-/// Commands whose members are names, words and numbers are read again from the values that write them: those of `sync`,
-/// `phase`, `mode`, `delete`, `remove-endpoint` and `remove-identity`, and queries of an identity ('profile').
-pub fn commands_are_read_again()
-    ensures sync { (session : ℕ) → is_session session ≡ true → read_object (line_in session ((codes "op", text (codes "sync")) ∷ [])) ≡ Ok (command.Sync session) }
-    ensures phase { read_object (fields ((codes "op", text (codes "phase")) ∷ [])) ≡ Ok command.Phase }
-    ensures mode { (session : ℕ) (mode : Mode) → is_session session ≡ true → read_object (mode_line session mode) ≡ Ok (command.Commit session (request.SetMode mode)) }
-    ensures remove_endpoint { (session : ℕ) (name : List ℕ) → is_session session ≡ true → is_name name ≡ true
-        → read_object (named_line (codes "remove-endpoint") session name) ≡ Ok (command.Commit session (request.RemoveEndpoint name)) }
-    ensures remove_identity { (session : ℕ) (name : List ℕ) → is_session session ≡ true → is_name name ≡ true
-        → read_object (named_line (codes "remove-identity") session name) ≡ Ok (command.Commit session (request.RemoveIdentity name)) }
-    ensures delete { (session : ℕ) (namespace name : List ℕ) → is_session session ≡ true → is_name namespace ≡ true → is_name name ≡ true
-        → read_object (delete_line session namespace name) ≡ Ok (command.Commit session (request.Remove (record { cluster_wide = false; namespace = namespace; name = name }))) }
-    ensures delete_network { (session : ℕ) (namespace name : List ℕ) → is_session session ≡ true → is_name namespace ≡ true → is_name name ≡ true
-        → read_object (network_delete_line session namespace name)
-        ≡ Ok (command.Commit session (request.Remove (record { cluster_wide = false; namespace = namespace; name = codes "networkpolicy/" ++ name }))) }
-    ensures delete_wide { (session : ℕ) (name : List ℕ) → is_session session ≡ true → is_name name ≡ true
-        → read_object (wide_delete_line session name) ≡ Ok (command.Commit session (request.Remove (record { cluster_wide = true; namespace = []; name = name }))) }
-    ensures verdict { (session : ℕ) (endpoint : List ℕ) (dir : Direction) (identity : ℕ) (proto : Proto) (port : ℕ)
-        → is_session session ≡ true → is_name endpoint ≡ true → is_within 0 4294967295 identity ≡ true → is_within 0 65535 port ≡ true
-        → read_object (query_line (codes "verdict") session endpoint dir identity proto port)
-        ≡ Ok (command.Look session (record { endpoint = endpoint; dir = dir; remote = Identity identity; proto = proto; port = port })) }
-    ensures trace { (session : ℕ) (endpoint : List ℕ) (dir : Direction) (identity : ℕ) (proto : Proto) (port : ℕ)
-        → is_session session ≡ true → is_name endpoint ≡ true → is_within 0 4294967295 identity ≡ true → is_within 0 65535 port ≡ true
-        → read_object (query_line (codes "trace") session endpoint dir identity proto port)
-        ≡ Ok (command.Trace session (record { endpoint = endpoint; dir = dir; remote = Identity identity; proto = proto; port = port })) }
+/// Every command is read again from each value that writes it ('profile'): a session or a namespace that is the one left out
+/// may be named or not, labels and addresses stand as any of their texts, and a policy as the document of any policy of
+/// Cilium's or Kubernetes' that says it. So it is from whatever bytes are read as that value.
+pub fn every_command_is_read_again()
+    ensures value { (d : Data) (asked : Command) → Writes d asked → read_object d ≡ Ok asked }
+    ensures bytes { (line : List ℕ) (d : Data) (asked : Command) → object_of line ≡ Ok d → Writes d asked → reading_of line ≡ Ok asked }
+{}
+
+/// What is read is a command that some value writes, so that no condition of a written command could be left out.
+pub fn what_is_read_is_written()
+    ensures { (d : Data) (asked : Command) → read_object d ≡ Ok asked → (e : Data) × Writes e asked }
 {}
