@@ -1,5 +1,5 @@
 -- The ranges of a group, of a number's groups, and of several numbers' groups.
-use Rattle.std.proofs.Common.{◌≡◌, ℕ, zero, suc, ◌+◌, ◌<◌, ◌≤◌, List, [], ◌∷◌, ◌++◌, take, get_or, length, refl, sym, ap, subst, ◌∙◌, inl, inr, ◌↔◌, append_assoc, arith}
+use Rattle.std.proofs.Common.{◌≡◌, ℕ, zero, suc, ◌+◌, ◌<◌, ◌≤◌, List, [], ◌∷◌, ◌++◌, take, get_or, length, refl, sym, ap, subst, ◌∙◌, inl, inr, append_assoc, arith}
 use Rattle.std.specs.List.{Contains, flat_map}
 use Rattle.std.specs.List.Sorted.{IsStrictlySortedBy}
 use Rattle.std.specs.Ordering.{nat_cmp}
@@ -14,7 +14,7 @@ use Rattle.pol_ports.specs.declared.Proto.{Proto}
 use Rattle.pol_ports.specs.declared.Proto.TheVariants.{Tcp, Udp, Sctp}
 use Rattle.pol_mapkey.specs.Entries.{Entry}
 use Rattle.pol_audit.specs.declared.difference.Difference.{Difference}
-use Rattle.pol_audit.specs.declared.tries.Group.{Group}
+use Rattle.pol_audit.specs.declared.group.Group.{Group}
 use Rattle.pol_audit.specs.Cuts.{all_cuts, cuts_at}
 use Rattle.pol_audit.specs.Exact.{AreAmong, AreOf, Grown, groups_at, words_of}
 use Rattle.pol_audit.specs.Ranges.{ranges_from}
@@ -39,14 +39,11 @@ above_zero p ps up = (
 
 -- ---- one group
 module _ (left right own_left own_right every_left every_right : List Entry) (g : Group) (ports : List ℕ) where
-  AreCuts : Type 0
-  AreCuts = (n : ℕ) → Contains ports n ↔ Contains (all_cuts g.proto own_left own_right every_left every_right) n
-
-  module _ (cuts : (n : ℕ) → Contains ports n ↔ Contains (all_cuts g.proto own_left own_right every_left every_right) n) where
+  module _ (cuts : (n : ℕ) → Contains (all_cuts g.proto own_left own_right every_left every_right) n → Contains ports n) where
     has_left : AreAmong g.dir g.id left own_left every_left → HasCuts g left ports
     has_left among e there dir number for' n inside =
         let at = of_cuts g.proto e n for' inside in
-        (cuts n).1 (elim (among e there dir number) [
+        cuts n (elim (among e there dir number) [
           | inl own ↦ in_left g.proto own_left own_right every_left every_right n (in_flat_map (cuts_at g.proto) own_left e n own at)
           | inr every ↦ in_left_every g.proto own_left own_right every_left every_right n (in_flat_map (cuts_at g.proto) every_left e n every at)
         ])
@@ -54,7 +51,7 @@ module _ (left right own_left own_right every_left every_right : List Entry) (g 
     has_right : AreAmong g.dir g.id right own_right every_right → HasCuts g right ports
     has_right among e there dir number for' n inside =
         let at = of_cuts g.proto e n for' inside in
-        (cuts n).1 (elim (among e there dir number) [
+        cuts n (elim (among e there dir number) [
           | inl own ↦ in_right g.proto own_left own_right every_left every_right n (in_flat_map (cuts_at g.proto) own_right e n own at)
           | inr every ↦ in_right_every g.proto own_left own_right every_left every_right n (in_flat_map (cuts_at g.proto) every_right e n every at)
         ])

@@ -4,9 +4,10 @@ pub mod Pieces
 pub mod Steady
 pub mod Segments
 pub mod Results
-pub mod Filled
 pub mod Groups
 pub mod Whole
+pub mod Open
+pub mod Deciding
 pub mod Parts
 pub mod Audited
 pub mod Shares

@@ -9,7 +9,7 @@ use Rattle.pol_ports.specs.declared.Direction.{Direction}
 use Rattle.pol_ports.specs.declared.Proto.{Proto}
 use Rattle.pol_audit.specs.declared.difference.Difference.{Difference}
 use Rattle.pol_audit.specs.declared.difference.Numbers.TheVariants.{EveryOther, One}
-use Rattle.pol_audit.specs.declared.tries.Group.{Group}
+use Rattle.pol_audit.specs.declared.group.Group.{Group}
 use Rattle.pol_audit.specs.Difference.{Ascend, IsBefore, IsBelow, least_number}
 use Rattle.pol_audit.specs.Exact.{AreOf, IsOf}
 use Rattle.pol_audit.specs.Packets.{ComesBefore}

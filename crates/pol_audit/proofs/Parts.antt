@@ -1,12 +1,12 @@
 -- The entries of one direction in a table: their numbers don't descend, and are those that stand in it.
-use Rattle.std.proofs.Common.{◌≡◌, ℕ, ◌<◌, ◌≤◌, ◌==◌, Bool, true, false, List, [], ◌∷◌, ◌++◌, filter, get_or, length, map, sym, ap, subst, ◌∙◌, inl, inr, ◌↔◌, arith}
+use Rattle.std.proofs.Common.{◌≡◌, ℕ, ◌<◌, ◌≤◌, ◌==◌, Bool, true, false, cond, List, [], ◌∷◌, ◌++◌, filter, get_or, length, map, sym, ap, subst, ◌∙◌, inl, inr, ◌↔◌, arith}
 use Rattle.std.specs.List.{Contains, list_any}
 use Rattle.std.specs.List.Sorted.{IsNonDecreasingBy}
 use Rattle.std.specs.Cmp.{nat_cmp_is}
 use Rattle.std.specs.Ordering.{nat_cmp, ordering_then}
 use Rattle.std.specs.declared.cmp.Ordering.{Ordering}
 use Rattle.std.specs.declared.cmp.Ordering.TheVariants.{Less, Greater}
-use Rattle.std.proofs.lemmas.Bool.{and_from, and_parts, cases_Bool, cases_lt, cases_order, eq-eqb, eqb-true, or_cases, or_left, or_right}
+use Rattle.std.proofs.lemmas.Bool.{and_from, and_parts, cases_Bool, cases_lt, cases_order, eq-eqb, eqb-true, ne_eqb, or_cases, or_left, or_right}
 use Rattle.std.proofs.lemmas.List.Elements.{Contains-append_cases, Contains-append_left, Contains-append_right, Contains-get_or}
 use Rattle.std.proofs.lemmas.List.Kept.{IsStrictlySortedBy-filter}
 use Rattle.std.proofs.lemmas.Map.Keys.{Less-from_sorted}
@@ -18,9 +18,9 @@ use Rattle.pol_ports.specs.Direction.{direction_cmp, same_direction}
 use Rattle.pol_mapkey.specs.Entries.{Entry}
 use Rattle.pol_mapkey.specs.KeyProto.{key_proto_cmp}
 use Rattle.pol_ports.specs.PortPrefix.{prefix_cmp}
-use Rattle.pol_audit.specs.Exact.{AreNumbers, IsDirectionOf}
+use Rattle.pol_audit.specs.Exact.{AreNumbers}
+use Rattle.pol_audit.specs.Kinds.{PortsAscend, numbered, own_of}
 use Rattle.pol_audit.specs.Tables.{IsTable, entry_order, is_at, stands}
-use Rattle.pol_audit.proofs.Whole.{same_dir}
 
 -- ---- the order of the numbers
 not_greater : (x y : ℕ) (o : Ordering) → ordering_then (nat_cmp x y) o ≡ Less → x ≤ y
@@ -63,9 +63,6 @@ module _ (dir : Direction) where
   abbrev of_dir : Entry → Bool
   of_dir e = same_direction e.0.dir dir
 
-  has_direction : (entries : List Entry) (e : Entry) → Contains entries e → e.0.dir ≡ dir → Contains (filter of_dir entries) e
-  has_direction entries e there same = Contains-filter of_dir entries e (ap (λ d. same_direction e.0.dir d) (sym same) ∙ same_dir e.0.dir) there
-
   ascends : (entries : List Entry) → IsTable entries → IsNonDecreasingBy (λ (e : Entry). e.0.id) (filter of_dir entries)
   ascends entries up i j d le below = elim (cases_order i j) [
     | inl same ↦ subst (λ k. (get_or part i d).0.id ≤ (get_or part k d).0.id) same (omega arith)
@@ -81,10 +78,8 @@ module _ (dir : Direction) where
       at : (k : ℕ) → k < length part → (get_or part k d).0.dir ≡ dir
       at k small = same_direction-is (get_or part k d).0.dir dir (passes-from_filter of_dir entries (get_or part k d) (Contains-get_or part k d small))
 
-  pub direction_of : (entries table part : List Entry) → IsTable table → entries ≡ table → part ≡ filter of_dir table → IsDirectionOf dir entries part
-  direction_of entries table part up same is =
-      subst (λ es. IsDirectionOf dir es part) (sym same)
-      (subst (λ p. IsDirectionOf dir table p) (sym is) (record { ascends = ascends table up; has = has_direction table }))
+  pub ids_ascend : (table part : List Entry) → IsTable table → part ≡ filter of_dir table → IsNonDecreasingBy (λ (e : Entry). e.0.id) part
+  ids_ascend table part up is = subst (IsNonDecreasingBy (λ (e : Entry). e.0.id)) (sym is) (ascends table up)
 
   stands_here : (entries part : List Entry) → part ≡ filter of_dir entries → (n : ℕ) → Contains (map (λ (e : Entry). e.0.id) part) n → stands dir n entries ≡ true
   stands_here entries part is n there =
@@ -128,3 +123,18 @@ module _ (dir : Direction) where
 
       all : List ℕ
       all = ((0 ∷ []) ++ lefts) ++ rights
+
+-- ---- the entries of a number that isn't 0
+pub own_none : (id : ℕ) (part : List Entry) → id ≡ 0 → [] ≡ own_of id part
+own_none id part zero' = ap (λ b. cond b [] (numbered id part)) (sym (eq-eqb id 0 zero'))
+
+pub own_some : (id : ℕ) (part : List Entry) → (id ≡ 0 → ⊥) → numbered id part ≡ own_of id part
+own_some id part other = ap (λ b. cond b [] (numbered id part)) (sym (ne_eqb id 0 other))
+
+-- their ports begin in order, where those of each number's do
+pub own_ascends : (part : List Entry) → ((n : ℕ) → PortsAscend (numbered n part)) → (id : ℕ) → PortsAscend (own_of id part)
+own_ascends part all id = by (id == 0)
+  where
+    by : (b : Bool) → PortsAscend (cond b [] (numbered id part))
+    by true proto i j d le below = absurd (omega arith)
+    by false proto i j d le below = all id proto i j d le below

@@ -8,7 +8,7 @@ use Rattle.pol_mapkey.specs.declared.Word.{Word}
 use Rattle.pol_mapkey.specs.declared.Word.TheVariants.{Allowed, DeniedByRule, DeniedByDefault}
 use Rattle.pol_mapkey.specs.Entries.{Entry}
 use Rattle.pol_audit.specs.declared.difference.Difference.{Difference}
-use Rattle.pol_audit.specs.declared.tries.Group.{Group}
+use Rattle.pol_audit.specs.declared.group.Group.{Group}
 use Rattle.pol_audit.specs.Difference.{Ascend}
 use Rattle.pol_audit.specs.Exact.{AreOf, Found, IsOf, Tells, words_of}
 use Rattle.pol_audit.specs.Ranges.{numbers_of, piece, ranges_from, same_word, same_words}

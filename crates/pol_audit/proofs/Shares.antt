@@ -19,7 +19,7 @@ use Rattle.pol_ports.specs.declared.Direction.{Direction}
 use Rattle.pol_ports.specs.declared.Proto.{Proto}
 use Rattle.pol_mapkey.specs.declared.Word.{Word}
 use Rattle.pol_mapkey.specs.Entries.{Entry}
-use Rattle.pol_audit.specs.declared.tries.Group.{Group}
+use Rattle.pol_audit.specs.declared.group.Group.{Group}
 use Rattle.pol_audit.specs.Cuts.{all_cuts, cuts_at}
 use Rattle.pol_audit.specs.Extent.{entries_for, extent_in, numbers_in, part_of, share_of}
 use Rattle.pol_audit.specs.Ranges.{piece, ranges_from, same_words}

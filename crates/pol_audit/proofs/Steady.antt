@@ -15,7 +15,7 @@ use Rattle.pol_mapkey.specs.KeyProto.{key_proto, proto_covers}
 use Rattle.pol_mapkey.specs.MapKey.{covers, covers_packet}
 use Rattle.pol_mapkey.specs.Entries.{Entry, longest, reaches, read_map, word_of, all_cover}
 use Rattle.pol_mapkey.proofs.Keys.{packet_from, packet_is}
-use Rattle.pol_audit.specs.declared.tries.Group.{Group}
+use Rattle.pol_audit.specs.declared.group.Group.{Group}
 use Rattle.pol_audit.specs.Cuts.{all_cuts, cuts_at, ends_of}
 use Rattle.pol_audit.specs.Exact.{words_of}
 use Rattle.pol_audit.proofs.Pieces.{Steady}
@@ -145,7 +145,7 @@ module _ (g : Group) (entries : List Entry) (cuts : List ℕ) (has : HasCuts g e
       λ i. word_of (longest_agree entries g.dir g.id g.proto a b (reach_agree g.id (inl refl)) i) (longest_agree entries g.dir 0 g.proto a b (reach_agree 0 (inr refl)) i)
 
 -- ---- from port to port
-less_is : (x y : ℕ) → nat_cmp x y ≡ Less → x < y
+pub less_is : (x y : ℕ) → nat_cmp x y ≡ Less → x < y
 less_is x y less = by (nat_lt x y) refl (x == y) less
   where
     by : (b : Bool) → nat_lt x y ≡ b → (e : Bool) → cond b Less (cond e Equal Greater) ≡ Less → x < y
@@ -193,3 +193,11 @@ module _ (left right : List Entry) (g : Group) (cuts : List ℕ) (has_left : Has
         ])
         (λ n there. from n (Contains-later c cs n there)),
   )
+
+-- an ascending list that has 0 begins with it
+pub begins_with_0 : (xs : List ℕ) → IsStrictlySortedBy nat_cmp xs → Contains xs 0 → (rest : List ℕ) × (xs ≡ 0 ∷ rest)
+begins_with_0 [] up there = absurd (let below = there.1 in omega arith)
+begins_with_0 (x ∷ xs) up there = elim (Contains-cases x xs 0 there) [
+  | inl is ↦ (xs, ap (λ n. n ∷ xs) is)
+  | inr later ↦ absurd (let above = above_head x xs up 0 later in omega arith)
+]

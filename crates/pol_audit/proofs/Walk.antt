@@ -1,8 +1,9 @@
 -- Steps of the walk along the ports.
-use Rattle.std.proofs.Common.{◌≡◌, ℕ, zero, suc, ◌+◌, ◌-◌, ◌<◌, ◌≤◌, Bool, true, false, cond, List, [], ◌∷◌, ◌++◌, drop, get_or, length, refl, sym, ap, ◌∙◌, append_assoc, arith}
+use Rattle.std.proofs.Common.{◌≡◌, ℕ, zero, suc, ◌+◌, ◌-◌, ◌<◌, ◌≤◌, Bool, true, false, cond, List, [], ◌∷◌, ◌++◌, drop, get_or, length, map, refl, sym, ap, ◌∙◌, append_assoc, arith}
+use Rattle.std.proofs.lemmas.List.{get_or-map}
 use Rattle.pol_mapkey.specs.declared.Word.{Word}
 use Rattle.pol_audit.specs.declared.difference.Difference.{Difference}
-use Rattle.pol_audit.specs.declared.tries.Group.{Group}
+use Rattle.pol_audit.specs.declared.group.Group.{Group}
 use Rattle.pol_audit.specs.Ranges.{piece, ranges_from, same_words}
 
 -- what is left begins with the element at the place
@@ -68,3 +69,11 @@ module _ (said : ℕ → Word × Word) (first port : ℕ) (a b : Word × Word) (
 
   pub are_same : is ≡ true → is ≡ same_words a b → a ≡ said first → b ≡ said port → same_words (said first) (said port) ≡ true
   are_same same one two three = sym (agreed one two three) ∙ same
+
+-- what two lists of words have at a place, where they are those of the ports
+pub both_at : (said : ℕ → Word × Word) (ports : List ℕ) (left right : List Word) (i : ℕ) (v w : Word) → i < length ports
+    → left ≡ map (λ port. (said port).0) ports → right ≡ map (λ port. (said port).1) ports → (get_or left i v, get_or right i w) ≡ said (get_or ports i 0)
+both_at said ports left right i v w below lefts rights =
+    let one = ap (λ ws. get_or ws i v) lefts ∙ get_or-map (λ port. (said port).0) ports i 0 v below in
+    let two = ap (λ ws. get_or ws i w) rights ∙ get_or-map (λ port. (said port).1) ports i 0 w below in
+    λ k. (one k, two k)

@@ -16,7 +16,7 @@ use Rattle.pol_mapkey.proofs.Keys.{packet_is}
 use Rattle.pol_mapkey.proofs.Longest.{longest_none}
 use Rattle.pol_audit.specs.declared.difference.Difference.{Difference}
 use Rattle.pol_audit.specs.declared.difference.Numbers.TheVariants.{EveryOther, One}
-use Rattle.pol_audit.specs.declared.tries.Group.{Group}
+use Rattle.pol_audit.specs.declared.group.Group.{Group}
 use Rattle.pol_audit.specs.Difference.{IsDifference, IsNamed, IsTold, has_number}
 use Rattle.pol_audit.specs.Exact.{AreNumbers, AreOf, GrownIn, Tells, groups_at, words_of}
 use Rattle.pol_audit.specs.Packets.{direction_place, words}
@@ -30,7 +30,7 @@ pub same_dir : (dir : Direction) → same_direction dir dir ≡ true
 same_dir Ingress = refl
 same_dir Egress = refl
 
-twice : (x : Option Entry) → word_of None x ≡ word_of x x
+pub twice : (x : Option Entry) → word_of None x ≡ word_of x x
 twice None = refl
 twice (Some (key, Allow)) = refl
 twice (Some (key, Deny)) = refl

@@ -1,17 +1,18 @@
 -- What a list of ranges has to do with the packets of some groups: of a direction, number and protocol each.
 use Rattle.std.specs.Prelude.{◌≡◌, ◌≢◌, ◌<◌, ◌≤◌, ◌^◌, ◌⊎◌, ◌↔◌, ◌||◌, IsTrue, ℕ, List, [], ◌∷◌, ◌++◌}
 use Rattle.std.specs.List.{Contains, flat_map}
-use Rattle.std.specs.List.Sorted.{IsNonDecreasingBy}
 use Rattle.pol_ports.specs.declared.Direction.{Direction}
 use Rattle.pol_ports.specs.declared.Proto.TheVariants.{Tcp, Udp, Sctp}
 use Rattle.pol_mapkey.specs.declared.Word.{Word}
 use Rattle.pol_mapkey.specs.Entries.{Entry}
 use Rattle.pol_audit.specs.declared.difference.Difference.{Difference}
-use Rattle.pol_audit.specs.declared.tries.Group.{Group}
+use Rattle.pol_audit.specs.declared.group.Group.{Group}
 use Rattle.pol_audit.specs.Difference.{Ascend}
+use Rattle.pol_audit.specs.Extent.{part_of}
+use Rattle.pol_audit.specs.Kinds.{numbered, own_of}
 use Rattle.pol_audit.specs.Packets.{words}
 use Rattle.pol_audit.specs.Ranges.{numbers_of}
-use Rattle.pol_audit.specs.Tables.{stands}
+use Rattle.pol_audit.specs.Tables.{IsTable, stands}
 
 abbrev pub words_of : List Entry → List Entry → Group → ℕ → Word × Word
 words_of left right group port = words left right group.dir group.id group.proto port
@@ -54,14 +55,15 @@ groups_at dir id =
 abbrev pub AreAmong : Direction → ℕ → List Entry → List Entry → List Entry → Type 0
 AreAmong dir id entries own every = (e : Entry) → Contains entries e → e.0.dir ≡ dir → (e.0.id ≡ id) ⊎ (e.0.id ≡ 0) → Contains own e ⊎ Contains every e
 
--- the entries of a number and of 0 are in one or the other list
-abbrev pub IsSplit : ℕ → List Entry → List Entry → List Entry → Type 0
-IsSplit id entries own every = (e : Entry) → Contains entries e → (e.0.id ≡ id) ⊎ (e.0.id ≡ 0) → Contains own e ⊎ Contains every e
+-- the entries of a direction, of its number and of 0 in a table
+pub record IsSplit (dir : Direction) (id : ℕ) (own every entries : List Entry) : Type 0 where
+  pub table : IsTable entries
+  pub own_is : own ≡ own_of id (part_of dir entries)
+  pub every_is : every ≡ numbered 0 (part_of dir entries)
 
--- the entries of a direction, whose numbers don't descend
-pub record IsDirectionOf (dir : Direction) (entries part : List Entry) : Type 0 where
-  pub ascends : IsNonDecreasingBy (λ (e : Entry). e.0.id) part
-  pub has : (e : Entry) → Contains entries e → e.0.dir ≡ dir → Contains part e
+-- the entries of a direction in a table
+abbrev pub IsPart : Direction → List Entry → List Entry → Type 0
+IsPart dir part entries = IsTable entries × (part ≡ part_of dir entries)
 
 -- these are 0 and the numbers of either table in the direction
 abbrev pub AreNumbers : List Entry → List Entry → Direction → List ℕ → Type 0

@@ -2,6 +2,7 @@ pub mod Tables
 pub mod Packets
 pub mod Difference
 pub mod Audit
+pub mod Kinds
 pub mod Cuts
 pub mod Ranges
 pub mod Exact

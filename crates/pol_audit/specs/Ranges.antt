@@ -5,7 +5,7 @@ use Rattle.pol_mapkey.specs.declared.Word.TheVariants.{Allowed, DeniedByRule, De
 use Rattle.pol_audit.specs.declared.difference.Difference.{Difference}
 use Rattle.pol_audit.specs.declared.difference.Numbers.{Numbers}
 use Rattle.pol_audit.specs.declared.difference.Numbers.TheVariants.{EveryOther, One}
-use Rattle.pol_audit.specs.declared.tries.Group.{Group}
+use Rattle.pol_audit.specs.declared.group.Group.{Group}
 
 -- a number for each word
 abbrev pub word_place : Word → ℕ

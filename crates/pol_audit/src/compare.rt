@@ -1,5 +1,5 @@
 //! Whether two tables are alike.
-ghost use Rattle.std.specs.Prelude.{◌≡◌, ◌≤◌, ◌+◌, ◌*◌, IfOk, length};
+ghost use Rattle.std.specs.Prelude.{◌≡◌, ◌≤◌, ◌+◌, ◌*◌, IfOk};
 ghost use Rattle.pol_audit.specs.Audit.{IsAudit, least_packet};
 ghost use Rattle.pol_audit.specs.Extent.{extent};
 
@@ -38,11 +38,9 @@ pub fn audit<L: Ledger>(
     right: &Entries,
     steps: &mut Steps<L>,
 ) -> Result<Audit, Memory>
-    requires left_few { length left.now ≤ 1000000 }
-    requires right_few { length right.now ≤ 1000000 }
     ensures audit { IfOk result (λ audit. IsAudit left.now right.now audit) }
     ensures forward { steps.old ≤ steps.new }
-    ensures cost { steps.new ≤ steps.old + 432 * extent left.now right.now }
+    ensures cost { steps.new ≤ steps.old + 30 * extent left.now right.now }
 {
     let list = differences(alloc, left, right, steps)?;
     match list.as_slice().first() {

@@ -1,5 +1,5 @@
 //! The ports at which what a table says may change.
-ghost use Rattle.std.specs.Prelude.{◌≡◌, ◌↔◌, ◌<◌, ◌≤◌, ◌+◌, ◌*◌, ℕ, ◌++◌, ◌∷◌, [], IfOk, OnOk, if◌then◌else◌, nat_lt, length};
+ghost use Rattle.std.specs.Prelude.{◌≡◌, List, ◌<◌, ◌≤◌, ◌+◌, ◌*◌, ℕ, ◌++◌, ◌∷◌, [], IfOk, OnOk, if◌then◌else◌, nat_lt, length};
 ghost use Rattle.std.specs.List.{Contains, flat_map};
 ghost use Rattle.std.specs.List.Sorted.{IsStrictlySortedBy};
 ghost use Rattle.std.specs.Ordering.{nat_cmp};
@@ -25,7 +25,7 @@ fn push_ends(cuts: &mut Vec<u16>, prefix: &PortPrefix) -> Result<(), Memory>
 }
 
 /// Whether a key's protocol is for the packets of this one.
-fn is_for(key: &MapKey, proto: Proto) -> bool
+pub(crate) fn is_for(key: &MapKey, proto: Proto) -> bool
     ensures { result ≡ proto_covers key.now.proto (key_proto proto) }
 {
     key.proto == KeyProto::Every || key.proto == KeyProto::from(proto)
@@ -52,13 +52,15 @@ pub(crate) struct Parts<'a> {
     pub right_every: &'a [(MapKey, Kind)],
 }
 
-/// The ports where a prefix of an entry for the protocol begins or has just ended, in order, each once.
+/// 0 and the ports where a prefix of an entry for the protocol begins or has just ended, in order, each once.
 pub(crate) fn cuts_of(alloc: Global, parts: &Parts, proto: Proto) -> Result<Vec<u16>, Memory>
     ensures ascend { IfOk result (λ cuts. IsStrictlySortedBy nat_cmp cuts.items) }
-    ensures members { IfOk result (λ cuts. (port : ℕ) → Contains cuts.items port ↔ Contains (all_cuts proto parts.now.left.now parts.now.right.now parts.now.left_every.now parts.now.right_every.now) port) }
-    ensures few { IfOk result (λ cuts. length cuts.items ≤ 2 * (length parts.now.left.now + length parts.now.right.now + length parts.now.left_every.now + length parts.now.right_every.now)) }
+    ensures first { IfOk result (λ cuts. (rest : List ℕ) × (cuts.items ≡ 0 ∷ rest)) }
+    ensures has { IfOk result (λ cuts. (port : ℕ) → Contains (all_cuts proto parts.now.left.now parts.now.right.now parts.now.left_every.now parts.now.right_every.now) port → Contains cuts.items port) }
+    ensures few { IfOk result (λ cuts. length cuts.items ≤ 2 * (length parts.now.left.now + length parts.now.right.now + length parts.now.left_every.now + length parts.now.right_every.now) + 1) }
 {
     let mut cuts = Vec::new(alloc);
+    cuts.push(0)?;
     push_cuts(&mut cuts, parts.left, proto)?;
     push_cuts(&mut cuts, parts.right, proto)?;
     push_cuts(&mut cuts, parts.left_every, proto)?;

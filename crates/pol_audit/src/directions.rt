@@ -1,29 +1,28 @@
 //! The whole difference of two tables.
-ghost use Rattle.std.specs.Prelude.{◌≡◌, ◌≤◌, ◌+◌, ◌*◌, ◌∷◌, [], List, IfOk, OnOk, length};
+ghost use Rattle.std.specs.Prelude.{◌≡◌, ◌≤◌, ◌+◌, ◌*◌, ◌∷◌, [], ℕ, List, IfOk, OnOk, length};
 ghost use Rattle.pol_audit.specs.declared.difference.Difference.{Difference as Range};
 ghost use Rattle.std.specs.List.{flat_map, sum_by};
 ghost use Rattle.std.specs.List.Sorted.{IsNonDecreasingBy, IsStrictlySortedBy};
 ghost use Rattle.std.specs.Ordering.{nat_cmp};
-ghost use Rattle.std.specs.FinMap as map;
 ghost use Rattle.pol_mapkey.specs.Entries.{Entry};
 ghost use Rattle.pol_audit.specs.Difference.{IsDifference};
 ghost use Rattle.pol_audit.specs.Extent.{extent, extent_in, share_of, share_of_parts};
 ghost use Rattle.pol_audit.specs.Tables.{IsTable};
 ghost use Rattle.pol_ports.specs.declared.Direction.TheVariants.{Ingress, Egress};
-ghost use Rattle.pol_audit.specs.Exact.{AreAmong, Grown, GrownIn, IsDirectionOf, IsSplit, groups_at};
+ghost use Rattle.pol_audit.specs.Exact.{Grown, GrownIn, IsPart, IsSplit, groups_at};
+ghost use Rattle.pol_audit.specs.Kinds.{PortsAscend, numbered, own_of};
 
 use crate::cuts::{Parts, cuts_of};
 use crate::difference::{Difference, Differences};
 use crate::entries::Entries;
-use crate::in_order::are_ports;
+use crate::group::Group;
+use crate::in_order::{are_entries, are_ports};
 use crate::numbers::numbers_of;
 use crate::ranges::push_ranges;
 use crate::segment::{of_direction, segment};
-use crate::tries::{Group, trie_of};
 use pol_data::{Items, Memory, Steps};
 use pol_mapkey::{Kind, MapKey};
 use pol_ports::{Direction, Proto};
-use pol_trie::PolicyTrie;
 use std::alloc::Global;
 use std::sync::ledger::Ledger;
 
@@ -31,68 +30,70 @@ use std::sync::ledger::Ledger;
 fn push_group<L: Ledger>(
     alloc: Global,
     out: &mut Vec<Difference>,
-    left: &PolicyTrie,
-    right: &PolicyTrie,
     group: Group,
     parts: &Parts,
     steps: &mut Steps<L>,
 ) -> Result<(), Memory>
-    requires left { AreAmong group.dir group.id (map.entries left.now) parts.now.left.now parts.now.left_every.now }
-    requires right { AreAmong group.dir group.id (map.entries right.now) parts.now.right.now parts.now.right_every.now }
-    ensures grown { OnOk result (Grown (map.entries left.now) (map.entries right.now) (group ∷ []) out.old.items out.new.items) }
+    requires left { PortsAscend parts.now.left.now }
+    requires right { PortsAscend parts.now.right.now }
+    requires left_every { PortsAscend parts.now.left_every.now }
+    requires right_every { PortsAscend parts.now.right_every.now }
+    ensures grown { OnOk result ((left right : List Entry) → IsSplit group.dir group.id parts.now.left.now parts.now.left_every.now left → IsSplit group.dir group.id parts.now.right.now parts.now.right_every.now right → Grown left right (group ∷ []) out.old.items out.new.items) }
     ensures few { OnOk result (length out.new.items ≤ length out.old.items + 2 * share_of_parts parts.now.left.now parts.now.right.now parts.now.left_every.now parts.now.right_every.now) }
     ensures forward { steps.old ≤ steps.new }
-    ensures cost { steps.new ≤ steps.old + 144 * share_of_parts parts.now.left.now parts.now.right.now parts.now.left_every.now parts.now.right_every.now }
+    ensures cost { steps.new ≤ steps.old + 10 * share_of_parts parts.now.left.now parts.now.right.now parts.now.left_every.now parts.now.right_every.now }
 {
     let ports = cuts_of(alloc, parts, group.proto)?;
     are_ports(&ports);
-    push_ranges(out, left, right, group, &ports, steps)
+    push_ranges(alloc, out, group, parts, &ports, steps)
 }
 
 /// Appends the ranges of one direction and number.
 fn push_number<L: Ledger>(
     alloc: Global,
     out: &mut Vec<Difference>,
-    left: &PolicyTrie,
-    right: &PolicyTrie,
     dir: Direction,
     id: u32,
     parts: &Parts,
     steps: &mut Steps<L>,
 ) -> Result<(), Memory>
-    requires left { AreAmong dir id (map.entries left.now) parts.now.left.now parts.now.left_every.now }
-    requires right { AreAmong dir id (map.entries right.now) parts.now.right.now parts.now.right_every.now }
-    ensures grown { OnOk result (Grown (map.entries left.now) (map.entries right.now) (groups_at dir id) out.old.items out.new.items) }
+    requires left { PortsAscend parts.now.left.now }
+    requires right { PortsAscend parts.now.right.now }
+    requires left_every { PortsAscend parts.now.left_every.now }
+    requires right_every { PortsAscend parts.now.right_every.now }
+    ensures grown { OnOk result ((left right : List Entry) → IsSplit dir id parts.now.left.now parts.now.left_every.now left → IsSplit dir id parts.now.right.now parts.now.right_every.now right → Grown left right (groups_at dir id) out.old.items out.new.items) }
     ensures few { OnOk result (length out.new.items ≤ length out.old.items + 6 * share_of_parts parts.now.left.now parts.now.right.now parts.now.left_every.now parts.now.right_every.now) }
     ensures forward { steps.old ≤ steps.new }
-    ensures cost { steps.new ≤ steps.old + 432 * share_of_parts parts.now.left.now parts.now.right.now parts.now.left_every.now parts.now.right_every.now }
+    ensures cost { steps.new ≤ steps.old + 30 * share_of_parts parts.now.left.now parts.now.right.now parts.now.left_every.now parts.now.right_every.now }
 {
     let tcp = Group {
         dir,
         id,
         proto: Proto::Tcp,
     };
-    push_group(alloc, out, left, right, tcp, parts, steps)?;
+    push_group(alloc, out, tcp, parts, steps)?;
     let udp = Group {
         dir,
         id,
         proto: Proto::Udp,
     };
-    push_group(alloc, out, left, right, udp, parts, steps)?;
+    push_group(alloc, out, udp, parts, steps)?;
     let sctp = Group {
         dir,
         id,
         proto: Proto::Sctp,
     };
-    push_group(alloc, out, left, right, sctp, parts, steps)
+    push_group(alloc, out, sctp, parts, steps)
 }
 
 /// The entries of a number and of 0, each once.
 fn parts_of<'a>(left: &'a [(MapKey, Kind)], right: &'a [(MapKey, Kind)], id: u32) -> Parts<'a>
     requires left { IsNonDecreasingBy (λ e. e.0.id) left.now }
     requires right { IsNonDecreasingBy (λ e. e.0.id) right.now }
-    ensures left { IsSplit id left.now result.left.now result.left_every.now }
-    ensures right { IsSplit id right.now result.right.now result.right_every.now }
+    ensures left { result.left.now ≡ own_of id left.now }
+    ensures right { result.right.now ≡ own_of id right.now }
+    ensures left_every { result.left_every.now ≡ numbered 0 left.now }
+    ensures right_every { result.right_every.now ≡ numbered 0 right.now }
     ensures share { share_of_parts result.left.now result.right.now result.left_every.now result.right_every.now ≡ share_of left.now right.now id }
 {
     let left_every = segment(left, 0);
@@ -118,25 +119,25 @@ fn parts_of<'a>(left: &'a [(MapKey, Kind)], right: &'a [(MapKey, Kind)], id: u32
 fn push_numbers<L: Ledger>(
     alloc: Global,
     out: &mut Vec<Difference>,
-    left: &PolicyTrie,
-    right: &PolicyTrie,
-    left_part: &[(MapKey, Kind)],
-    right_part: &[(MapKey, Kind)],
+    left: &[(MapKey, Kind)],
+    right: &[(MapKey, Kind)],
     dir: Direction,
     numbers: &[u32],
     steps: &mut Steps<L>,
 ) -> Result<(), Memory>
-    requires left { IsDirectionOf dir (map.entries left.now) left_part.now }
-    requires right { IsDirectionOf dir (map.entries right.now) right_part.now }
+    requires left { IsNonDecreasingBy (λ e. e.0.id) left.now }
+    requires right { IsNonDecreasingBy (λ e. e.0.id) right.now }
+    requires left_ports { (n : ℕ) → PortsAscend (numbered n left.now) }
+    requires right_ports { (n : ℕ) → PortsAscend (numbered n right.now) }
     requires numbers { IsStrictlySortedBy nat_cmp numbers.now }
-    ensures grown { OnOk result (Grown (map.entries left.now) (map.entries right.now) (flat_map (groups_at dir) numbers.now) out.old.items out.new.items) }
-    ensures few { OnOk result (length out.new.items ≤ length out.old.items + 6 * sum_by (share_of left_part.now right_part.now) numbers.now) }
+    ensures grown { OnOk result ((lefts rights : List Entry) → IsPart dir left.now lefts → IsPart dir right.now rights → Grown lefts rights (flat_map (groups_at dir) numbers.now) out.old.items out.new.items) }
+    ensures few { OnOk result (length out.new.items ≤ length out.old.items + 6 * sum_by (share_of left.now right.now) numbers.now) }
     ensures forward { steps.old ≤ steps.new }
-    ensures cost { steps.new ≤ steps.old + 432 * sum_by (share_of left_part.now right_part.now) numbers.now }
+    ensures cost { steps.new ≤ steps.old + 30 * sum_by (share_of left.now right.now) numbers.now }
 {
     for id in numbers {
-        let parts = parts_of(left_part, right_part, *id);
-        push_number(alloc, out, left, right, dir, *id, &parts, steps)?;
+        let parts = parts_of(left, right, *id);
+        push_number(alloc, out, dir, *id, &parts, steps)?;
     }
     Ok(())
 }
@@ -145,8 +146,6 @@ fn push_numbers<L: Ledger>(
 fn push_direction<L: Ledger>(
     alloc: Global,
     out: &mut Vec<Difference>,
-    left_trie: &PolicyTrie,
-    right_trie: &PolicyTrie,
     left: &[(MapKey, Kind)],
     right: &[(MapKey, Kind)],
     dir: Direction,
@@ -154,27 +153,17 @@ fn push_direction<L: Ledger>(
 ) -> Result<(), Memory>
     requires left { IsTable left.now }
     requires right { IsTable right.now }
-    requires left_trie { map.entries left_trie.now ≡ left.now }
-    requires right_trie { map.entries right_trie.now ≡ right.now }
     ensures grown { OnOk result (GrownIn left.now right.now dir out.old.items out.new.items) }
     ensures few { OnOk result (length out.new.items ≤ length out.old.items + 6 * extent_in dir left.now right.now) }
     ensures forward { steps.old ≤ steps.new }
-    ensures cost { steps.new ≤ steps.old + 432 * extent_in dir left.now right.now }
+    ensures cost { steps.new ≤ steps.old + 30 * extent_in dir left.now right.now }
 {
+    are_entries(left);
+    are_entries(right);
     let left_part = of_direction(alloc, left, dir)?;
     let right_part = of_direction(alloc, right, dir)?;
     let numbers = numbers_of(alloc, &left_part, &right_part)?;
-    push_numbers(
-        alloc,
-        out,
-        left_trie,
-        right_trie,
-        &left_part,
-        &right_part,
-        dir,
-        &numbers,
-        steps,
-    )
+    push_numbers(alloc, out, &left_part, &right_part, dir, &numbers, steps)
 }
 
 /// Appends the ranges of ingress, and then those of egress.
@@ -187,51 +176,28 @@ fn push_directions<L: Ledger>(
 ) -> Result<(), Memory>
     requires left { IsTable left.now }
     requires right { IsTable right.now }
-    requires left_few { length left.now ≤ 1000000 }
-    requires right_few { length right.now ≤ 1000000 }
     ensures grown { OnOk result ((middle : List Range) × GrownIn left.now right.now Ingress out.old.items middle × GrownIn left.now right.now Egress middle out.new.items) }
     ensures few { OnOk result (length out.new.items ≤ length out.old.items + 6 * extent left.now right.now) }
     ensures forward { steps.old ≤ steps.new }
-    ensures cost { steps.new ≤ steps.old + 432 * extent left.now right.now }
+    ensures cost { steps.new ≤ steps.old + 30 * extent left.now right.now }
 {
-    let left_trie = trie_of(alloc, left)?;
-    let right_trie = trie_of(alloc, right)?;
-    push_direction(
-        alloc,
-        out,
-        &left_trie,
-        &right_trie,
-        left,
-        right,
-        Direction::Ingress,
-        steps,
-    )?;
-    push_direction(
-        alloc,
-        out,
-        &left_trie,
-        &right_trie,
-        left,
-        right,
-        Direction::Egress,
-        steps,
-    )
+    push_direction(alloc, out, left, right, Direction::Ingress, steps)?;
+    push_direction(alloc, out, left, right, Direction::Egress, steps)
 }
 
 /// All packets on which two tables differ, as ranges in order: by direction, numbers, protocol and ports. Ranges that touch
-/// tell different words. What a step is stands at `PolicyTrie::look`. The one error is want of memory (profile).
+/// tell different words. A step is that an entry is taken up or left, or that what a table's entries say at a port is read.
+/// The one error is want of memory (profile).
 pub fn differences<L: Ledger>(
     alloc: Global,
     left: &Entries,
     right: &Entries,
     steps: &mut Steps<L>,
 ) -> Result<Differences, Memory>
-    requires left_few { length left.now ≤ 1000000 }
-    requires right_few { length right.now ≤ 1000000 }
     ensures difference { IfOk result (λ list. IsDifference left.now right.now list) }
     ensures few { IfOk result (λ list. length list ≤ 6 * extent left.now right.now) }
     ensures forward { steps.old ≤ steps.new }
-    ensures cost { steps.new ≤ steps.old + 432 * extent left.now right.now }
+    ensures cost { steps.new ≤ steps.old + 30 * extent left.now right.now }
 {
     let mut out = Vec::new(alloc);
     push_directions(alloc, &mut out, left.as_slice(), right.as_slice(), steps)?;

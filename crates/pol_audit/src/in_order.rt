@@ -1,8 +1,10 @@
 //! Numbers in order, each once.
 ghost use Rattle.std.specs.Prelude.{◌↔◌, ◌<◌, ◌≤◌, ℕ, length};
-ghost use Rattle.std.specs.List.{Contains};
+ghost use Rattle.std.specs.List.{All, Contains};
 ghost use Rattle.std.specs.List.Sorted.{IsStrictlySortedBy};
 ghost use Rattle.std.specs.Ordering.{nat_cmp};
+
+use pol_mapkey::{Kind, MapKey};
 
 /// The numbers in order, each once. It takes no memory.
 pub(crate) fn ids_in_order(numbers: Vec<u32>) -> Vec<u32>
@@ -32,4 +34,20 @@ pub(crate) fn are_ports(ports: &[u16])
     ensures { (n : ℕ) → Contains ports.now n → n < 65536 }
 {
     let _ = ports;
+}
+
+/// A port is a number of 16 bits.
+fn is_port(port: u16)
+    ensures { port < 65536 }
+{
+    let _ = port;
+}
+
+/// The ports of entries are numbers of 16 bits.
+pub(crate) fn are_entries(entries: &[(MapKey, Kind)])
+    ensures { All (λ e. e.0.port.bits < 65536) entries.now }
+{
+    for entry in entries {
+        is_port(entry.0.port.bits);
+    }
 }

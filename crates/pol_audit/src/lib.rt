@@ -11,7 +11,9 @@ mod difference;
 mod directions;
 mod entries;
 mod error;
+mod group;
 mod in_order;
+mod kinds;
 pub mod laws;
 mod line;
 mod numbers;
@@ -20,7 +22,6 @@ mod ranges;
 mod read;
 mod segment;
 mod text;
-mod tries;
 mod words;
 
 pub use compare::audit;

@@ -68,8 +68,6 @@ fn second_table(alloc: Global, left: &Entries, right: &[u8]) -> Result<Finding, 
 
 // What an audit finds of two tables.
 fn audited(alloc: Global, left: &Entries, right: &Entries) -> Result<Finding, Memory>
-    requires left { length left.now ≤ 1000000 }
-    requires right { length right.now ≤ 1000000 }
     ensures { IfOk result (λ finding. (audit : OneAudit) × (finding ≡ Finding.Compared audit) × IsAudit left.now right.now audit) }
 {
     let audit = audit_over::<Brand>(Blank::new(1), alloc, left, right)?;
@@ -86,8 +84,6 @@ fn audit_over<L: Ledger>(
     requires name { blank.name ≡ L.name }
     requires parts { blank.parts ≡ L.parts }
     requires some { blank.parts ≡ 1 }
-    requires left { length left.now ≤ 1000000 }
-    requires right { length right.now ≤ 1000000 }
     ensures { IfOk result (IsAudit left.now right.now) }
 {
     let mut steps = Steps::<L>::new(blank);

@@ -1,29 +1,19 @@
-use Rattle.std.proofs.Common.{inl, inr, ◌∙◌, arith}
-use Rattle.pol_audit.proofs.Segments.{in_segment}
+use Rattle.std.proofs.Common.{◌∙◌, arith}
+use Rattle.pol_audit.proofs.Parts.{own_none, own_some}
 use Rattle.pol_audit.proofs.Shares.{entries_for_0, entries_for_id}
 use Rattle.pol_audit.proofs.directions.parts_of.Goals as goal
 
 pub returns-then-id-eq0-clause-left : goal.returns-then-id-eq0-clause-left
-returns-then-id-eq0-clause-left c = λ e there either.
-    inr (in_segment 0 c.args.left.now _ c.segment-left_every.ensures e there (elim either [ inl same ↦ same ∙ c.if-id-eq0.true | inr zero' ↦ zero' ]))
+returns-then-id-eq0-clause-left c = own_none c.args.id c.args.left.now c.if-id-eq0.true
 
 pub returns-then-id-eq0-clause-right : goal.returns-then-id-eq0-clause-right
-returns-then-id-eq0-clause-right c = λ e there either.
-    inr (in_segment 0 c.args.right.now _ c.segment-right_every.ensures e there (elim either [ inl same ↦ same ∙ c.if-id-eq0.true | inr zero' ↦ zero' ]))
+returns-then-id-eq0-clause-right c = own_none c.args.id c.args.right.now c.if-id-eq0.true
 
 pub returns-else-id-eq0-clause-left : goal.returns-else-id-eq0-clause-left
-returns-else-id-eq0-clause-left c = λ e there either.
-    elim either [
-      | inl same ↦ inl (in_segment c.args.id c.args.left.now _ c.segment.ensures e there same)
-      | inr zero' ↦ inr (in_segment 0 c.args.left.now _ c.segment-left_every.ensures e there zero')
-    ]
+returns-else-id-eq0-clause-left c = c.segment.ensures ∙ own_some c.args.id c.args.left.now c.if-id-eq0.false
 
 pub returns-else-id-eq0-clause-right : goal.returns-else-id-eq0-clause-right
-returns-else-id-eq0-clause-right c = λ e there either.
-    elim either [
-      | inl same ↦ inl (in_segment c.args.id c.args.right.now _ c.segment-else-id-eq0.ensures e there same)
-      | inr zero' ↦ inr (in_segment 0 c.args.right.now _ c.segment-right_every.ensures e there zero')
-    ]
+returns-else-id-eq0-clause-right c = c.segment-else-id-eq0.ensures ∙ own_some c.args.id c.args.right.now c.if-id-eq0.false
 
 pub returns-then-id-eq0-clause-share : goal.returns-then-id-eq0-clause-share
 returns-then-id-eq0-clause-share c =

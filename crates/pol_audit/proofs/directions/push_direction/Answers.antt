@@ -1,19 +1,24 @@
 use Rattle.std.proofs.Common.{subst, ◌∙◌, arith}
-use Rattle.std.specs.FinMap as finmap
 use Rattle.std.specs.List.{flat_map}
 use Rattle.pol_audit.specs.Exact.{Grown, groups_at}
-use Rattle.pol_audit.proofs.Parts.{direction_of, numbers_are}
+use Rattle.pol_audit.proofs.Deciding.{ports_ascend}
+use Rattle.pol_audit.proofs.Parts.{ids_ascend, numbers_are}
 use Rattle.pol_audit.proofs.Results.{on_ok}
 use Rattle.pol_audit.proofs.Shares.{extent_is}
 use Rattle.pol_audit.proofs.directions.push_direction.Goals as goal
 
 pub push_numbers-requires-clause-left : goal.push_numbers-requires-clause-left
-push_numbers-requires-clause-left g c =
-    direction_of c.args.dir (finmap.entries c.args.left_trie.now) c.args.left.now c.deref-3.result.now c.requires.left c.requires.left_trie (c.deref-3.ensures.value ∙ c.in_ok-left_part.ensures)
+push_numbers-requires-clause-left g c = ids_ascend c.args.dir c.args.left.now c.deref-3.result.now c.requires.left (c.deref-3.ensures.value ∙ c.in_ok-left_part.ensures)
 
 pub push_numbers-requires-clause-right : goal.push_numbers-requires-clause-right
-push_numbers-requires-clause-right g c =
-    direction_of c.args.dir (finmap.entries c.args.right_trie.now) c.args.right.now c.deref-4.result.now c.requires.right c.requires.right_trie (c.deref-4.ensures.value ∙ c.in_ok-right_part.ensures)
+push_numbers-requires-clause-right g c = ids_ascend c.args.dir c.args.right.now c.deref-4.result.now c.requires.right (c.deref-4.ensures.value ∙ c.in_ok-right_part.ensures)
+
+pub push_numbers-requires-clause-left_ports : goal.push_numbers-requires-clause-left_ports
+push_numbers-requires-clause-left_ports g c = ports_ascend c.args.dir c.args.left.now c.deref-3.result.now c.requires.left (c.deref-3.ensures.value ∙ c.in_ok-left_part.ensures) c.are_entries.ensures
+
+pub push_numbers-requires-clause-right_ports : goal.push_numbers-requires-clause-right_ports
+push_numbers-requires-clause-right_ports g c =
+    ports_ascend c.args.dir c.args.right.now c.deref-4.result.now c.requires.right (c.deref-4.ensures.value ∙ c.in_ok-right_part.ensures) c.are_entries-2.ensures
 
 pub returns : goal.returns
 returns g c =
@@ -33,8 +38,7 @@ returns g c =
         numbers,
         numbers_are dir left right c.deref.result.now c.deref-2.result.now numbers (c.deref.ensures.value ∙ c.in_ok-left_part.ensures) (c.deref-2.ensures.value ∙ c.in_ok-right_part.ensures) c.in_ok-numbers.ensures.members,
         subst (λ ns. Grown left right (flat_map (groups_at dir) ns) old new) c.deref-5.ensures.value
-            (subst (λ ls. Grown ls right (flat_map (groups_at dir) c.deref-5.result.now) old new) c.requires.left_trie
-            (subst (λ rs. Grown (finmap.entries c.args.left_trie.now) rs (flat_map (groups_at dir) c.deref-5.result.now) old new) c.requires.right_trie made)),
+            (made left right (c.requires.left, c.deref-3.ensures.value ∙ c.in_ok-left_part.ensures) (c.requires.right, c.deref-4.ensures.value ∙ c.in_ok-right_part.ensures)),
       ));
       few = on_ok c.push_numbers.result _ _ c.push_numbers.ensures.few (λ few. omega arith);
       forward = c.push_numbers.ensures.forward;
