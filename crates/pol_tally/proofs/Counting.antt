@@ -31,7 +31,7 @@ pub is_entry-self : (e : Entry) → is_entry e.0 e.1 e ≡ true
 is_entry-self e = and_from (same_kind e.1 e.1) (same_key e.0 e.0) (same_kind-self e.1) (same_key-self e.0)
 
 -- ---- one of the two maps
-module _ (allows denies new : BTreeMap MapKey Cell) (key : MapKey) (cell : Cell) where
+module _ (allows denies new : BTreeMap ℕ Cell) (key : MapKey) (cell : Cell) where
   pub in_allows : ((q : MapKey) → cell_in new q ≡ with_cell (cell_in allows) key cell q) → (q : MapKey) (k : Kind) → cells_in new denies q k ≡ with_one (cells_in allows denies) key Allow cell q k
   in_allows is q Allow = is q
   in_allows is q Deny = refl
@@ -40,11 +40,11 @@ module _ (allows denies new : BTreeMap MapKey Cell) (key : MapKey) (cell : Cell)
   in_denies is q Allow = refl
   in_denies is q Deny = is q
 
-pub same_allows : (allows denies new : BTreeMap MapKey Cell) → ((q : MapKey) → cell_in new q ≡ cell_in allows q) → (q : MapKey) (k : Kind) → cells_in new denies q k ≡ cells_in allows denies q k
+pub same_allows : (allows denies new : BTreeMap ℕ Cell) → ((q : MapKey) → cell_in new q ≡ cell_in allows q) → (q : MapKey) (k : Kind) → cells_in new denies q k ≡ cells_in allows denies q k
 same_allows allows denies new is q Allow = is q
 same_allows allows denies new is q Deny = refl
 
-pub same_denies : (allows denies new : BTreeMap MapKey Cell) → ((q : MapKey) → cell_in new q ≡ cell_in denies q) → (q : MapKey) (k : Kind) → cells_in allows new q k ≡ cells_in allows denies q k
+pub same_denies : (allows denies new : BTreeMap ℕ Cell) → ((q : MapKey) → cell_in new q ≡ cell_in denies q) → (q : MapKey) (k : Kind) → cells_in allows new q k ≡ cells_in allows denies q k
 same_denies allows denies new is q Allow = refl
 same_denies allows denies new is q Deny = is q
 

@@ -15,11 +15,15 @@ use Rattle.pol_mapkey.proofs.KeyOrder.{key_cmp_total}
 use Rattle.pol_facts.proofs.Merged.{any_from, passing}
 use Rattle.pol_edits.proofs.Said.{same_of}
 use Rattle.pol_tally.specs.Affected.{Keeps, has_key}
-use Rattle.pol_tally.proofs.Walk.{same_order}
+use Rattle.pol_mapkey.proofs.Order.{cmp-key_cmp}
 use Rattle.std.proofs.Common.{inl, inr}
 use Rattle.std.proofs.lemmas.Bool.{cases_Bool, false_from_ne_true, both_ways}
 use Rattle.std.proofs.lemmas.Cmp.{tied_itself}
 use Rattle.std.specs.Ordering.{is_eq}
+
+-- the derived order is that of the definitions
+same_order : key_ord.ghosts.cmp ≡ key_cmp
+same_order i a b = cmp-key_cmp a b i
 
 -- the derived `==` is the tie of the order
 tie_is : (a b : MapKey) → key_eq.ghosts.eq a b ≡ eq_by_cmp key_cmp a b

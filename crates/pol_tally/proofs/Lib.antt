@@ -1,9 +1,10 @@
+pub mod ByNumber
 pub mod Kept
+pub mod OfKeys
 pub mod Counting
 pub mod Below
 pub mod NoDenies
 pub mod Gathered
-pub mod Walk
 pub mod Deduped
 pub mod Wider
 pub mod Found

@@ -1,27 +1,35 @@
 -- A tally that denies nothing.
-use Rattle.std.proofs.Common.{◌≡◌, ℕ, ◌||◌, nat_lt, Bool, true, false, Option, None, Some, List, refl, sym, ◌∙◌, ap}
+use Rattle.std.proofs.Common.{◌≡◌, ℕ, nat_lt, Bool, true, false, cond, Option, None, Some, List, refl, ◌∙◌, ap}
 use Rattle.std.specs.BTreeMap.{BTreeMap, btree_map_len, is_at}
 use Rattle.std.specs.Map.{lookup}
 use Rattle.std.specs.Option.{unwrap_or}
+use Rattle.std.specs.Ordering.{nat_cmp}
 use Rattle.std.proofs.lemmas.Bool.{or_from}
 use Rattle.std.proofs.lemmas.List.{nil_from_length}
 use Rattle.pol_ports.specs.PortPrefix.{prefix_at}
 use Rattle.pol_ports.specs.declared.Proto.{Proto}
 use Rattle.pol_mapkey.specs.MapKey.{every_key, port_key}
-use Rattle.pol_mapkey.specs.contracts.MapKeyOrd.TheImpl as keys
 use Rattle.pol_mapkey.specs.declared.Kind.TheVariants.{Deny}
 use Rattle.pol_mapkey.specs.declared.MapKey.{MapKey}
-use Rattle.pol_tally.specs.Cells.{cell_in, no_cell, on}
+use Rattle.pol_tally.specs.Cells.{cell_at, cell_in, no_cell, on}
 use Rattle.pol_tally.specs.Counted.{CellsOf, times_on}
 use Rattle.pol_tally.specs.Times.{is_given, is_under, is_under_of, packets_of}
 use Rattle.pol_tally.specs.declared.cells.Cell.{Cell}
 use Rattle.pol_tally.specs.declared.cells.Side.{Side}
 use Rattle.pol_tally.specs.declared.cells.Side.TheVariants.{Before, After}
+use Rattle.pol_tally.specs.Numbers.{fits, number_of}
 use Rattle.pol_tally.proofs.Below.{none_below}
 
--- a map without entries has no cell
-pub none_in : (cells : BTreeMap MapKey Cell) → btree_map_len cells ≡ 0 → (key : MapKey) → cell_in cells key ≡ no_cell
-none_in cells empty key = ap (λ (es : List (MapKey × Cell)). unwrap_or (lookup (is_at (keys.ghosts.cmp key)) es) no_cell) (nil_from_length cells.entries empty)
+-- a tree without entries has no cell
+none_at : (cells : BTreeMap ℕ Cell) → btree_map_len cells ≡ 0 → (number : ℕ) → cell_at cells number ≡ no_cell
+none_at cells empty number = ap (λ (es : List (ℕ × Cell)). unwrap_or (lookup (is_at (nat_cmp number)) es) no_cell) (nil_from_length cells.entries empty)
+
+pub none_in : (cells : BTreeMap ℕ Cell) → btree_map_len cells ≡ 0 → (key : MapKey) → cell_in cells key ≡ no_cell
+none_in cells empty key = ap (λ (cell : Cell). cond (fits key) cell no_cell) (none_at cells empty (number_of key)) ∙ same_cell (fits key)
+  where
+    same_cell : (b : Bool) → cond b no_cell no_cell ≡ no_cell
+    same_cell true = refl
+    same_cell false = refl
 
 module _ (side : Side) (cells : CellsOf) (none : (q : MapKey) → cells q Deny ≡ no_cell) where
   nothing_on : (side : Side) → nat_lt 0 (on side no_cell) ≡ false

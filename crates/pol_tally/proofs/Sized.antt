@@ -1,5 +1,5 @@
 -- The size of a map after its changes.
-use Rattle.std.proofs.Common.{◌≡◌, ℕ, ◌+◌, ◌-◌, ◌<◌, ◌&&◌, Bool, true, false, cond, not, List, [], ◌∷◌, ◌++◌, length, count_by, Option, Some, None, is_some, refl, sym, ◌∙◌, ap, subst, inl, inr, arith}
+use Rattle.std.proofs.Common.{◌≡◌, ℕ, ◌+◌, ◌-◌, ◌<◌, ◌&&◌, Bool, true, false, cond, not, List, [], ◌∷◌, length, count_by, Option, Some, None, is_some, refl, sym, ◌∙◌, ap, subst, inl, inr, arith}
 use Rattle.std.specs.FinMap as finite
 use Rattle.std.specs.List.{AllByRecursion}
 use Rattle.std.specs.List.Sorted.{IsStrictlySortedBy}
@@ -19,13 +19,13 @@ use Rattle.pol_distill.specs.Sorted.{IsSmall}
 use Rattle.pol_distill.proofs.OnePass.{canonical_is_table}
 use Rattle.pol_edits.specs.declared.change.Change.{Change}
 use Rattle.pol_edits.specs.declared.change.Change.TheVariants.{Set, Clear}
-use Rattle.pol_edits.specs.Changes.{IsAscending, IsDifference, change_order, changed, changed_once, difference_at, key_of, kind_after, same_kind, table_of}
+use Rattle.pol_edits.specs.Changes.{IsAscending, change_order, changed, changed_once, difference_at, key_of, kind_after, same_kind, table_of}
 use Rattle.pol_edits.proofs.Differences.{differences_lead, tables_have_their_entries}
 use Rattle.pol_edits.proofs.Said.{get_once, same_of}
 use Rattle.pol_trie.specs.PolicyMap.{PolicyMap}
-use Rattle.pol_tally.specs.Affected.{ListsAffected, change_at, says}
+use Rattle.pol_tally.specs.Affected.{ListsAffected, change_at}
 use Rattle.pol_tally.specs.Counted.{CellsOf, times_on}
-use Rattle.pol_tally.specs.Sizes.{clear_count, is_clear, is_new, new_count}
+use Rattle.pol_tally.specs.Sizes.{clear_count, is_clear, new_count}
 use Rattle.pol_tally.specs.Times.{Times, kind_of, times}
 use Rattle.pol_tally.specs.declared.cells.Side.TheVariants.{Before, After}
 use Rattle.pol_tally.proofs.Differ.{made}

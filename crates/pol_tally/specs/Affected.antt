@@ -1,7 +1,10 @@
 -- The keys whose entries a change may change, and the changes. No public clause cites this module.
-use Rattle.std.specs.Prelude.{◌≡◌, ◌+◌, ◌<◌, Bool, true, false, not, List, [], ◌∷◌, map, filter, Option, None, Some}
+use Rattle.std.specs.Prelude.{◌≡◌, ℕ, ◌+◌, ◌<◌, Bool, true, false, not, List, [], ◌∷◌, map, Option, None, Some}
+use Rattle.std.specs.BTreeMap.Range.{entries_between}
 use Rattle.std.specs.List.{flat_map, list_any}
 use Rattle.std.specs.List.Sorted.{IsStrictlySortedBy}
+use Rattle.std.specs.Ordering.{nat_cmp}
+use Rattle.std.specs.declared.ops.Bound.TheVariants.{Included, Excluded}
 use Rattle.pol_mapkey.specs.MapKey.{covers, key_cmp, same_key}
 use Rattle.pol_mapkey.specs.declared.Kind.{Kind}
 use Rattle.pol_mapkey.specs.declared.Kind.TheVariants.{Deny}
@@ -12,11 +15,13 @@ use Rattle.pol_edits.specs.Changes.{difference_at}
 use Rattle.pol_tally.specs.declared.cells.Cell.{Cell}
 use Rattle.pol_tally.specs.declared.cells.Side.TheVariants.{Before, After}
 use Rattle.pol_tally.specs.Counted.{CellsOf, times_on}
+use Rattle.pol_tally.specs.Numbers.{key_of, number_of, width}
 use Rattle.pol_tally.specs.Times.{Times, is_given, kind_of}
 
--- the keys of a map that a key covers
-abbrev pub keys_within : MapKey → List (MapKey × Cell) → List MapKey
-keys_within wide entries = map (λ e. e.0) (filter (λ e. covers wide e.0) entries)
+-- the keys of a tree whose numbers are those of keys that the key covers
+abbrev pub keys_within : MapKey → List (ℕ × Cell) → List MapKey
+keys_within wide entries =
+    map (λ e. key_of e.0) (entries_between nat_cmp (Included (number_of wide)) (Excluded (number_of wide + width wide)) entries)
 
 abbrev pub has_key : MapKey → List MapKey → Bool
 has_key key keys = list_any (λ own. same_key own key) keys

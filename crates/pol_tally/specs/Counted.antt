@@ -17,7 +17,7 @@ use Rattle.pol_tally.specs.Times.{Times, same_kind, times}
 abbrev pub CellsOf : Type 0
 CellsOf = MapKey → Kind → Cell
 
-abbrev pub cells_in : BTreeMap MapKey Cell → BTreeMap MapKey Cell → CellsOf
+abbrev pub cells_in : BTreeMap ℕ Cell → BTreeMap ℕ Cell → CellsOf
 cells_in allows denies key Allow = cell_in allows key
 cells_in allows denies key Deny = cell_in denies key
 

@@ -1,3 +1,4 @@
+pub mod Numbers
 pub mod Cells
 pub mod Times
 pub mod Counted

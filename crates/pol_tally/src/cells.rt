@@ -1,10 +1,9 @@
-//! The cells of keys: how often each is given, before a change that is under way and after it.
-ghost use Rattle.std.specs.Prelude.{◌≡◌, ◌+◌, ◌<◌, OnErr, OnOk};
-ghost use Rattle.pol_mapkey.specs.declared.MapKey.{MapKey as OneKey};
-ghost use Rattle.pol_tally.specs.Cells.{cell_in, lowered, no_cell, on, raised, settled, with_cell};
+//! The cells of keys, each at the number of its key: how often the key is given, before a change that is under way and
+//! after it.
+ghost use Rattle.std.specs.Prelude.{◌≡◌, ◌+◌, ◌<◌, ℕ, OnErr, OnOk};
+ghost use Rattle.pol_tally.specs.Cells.{cell_at, lowered, no_cell, on, put_at, raised, settled};
 
 use pol_data::Memory;
-use pol_mapkey::MapKey;
 use std::collections::BTreeMap;
 use std::mem::size_of;
 
@@ -18,7 +17,7 @@ pub(crate) struct Cell {
 }
 
 // What the table of one kind takes for a key, beside the room that its nodes have free.
-const _: () = prove!(size_of::<(MapKey, Cell)>() == 24);
+const _: () = prove!(size_of::<(u64, Cell)>() == 16);
 
 /// Before a change, or after it.
 #[derive(Clone, Copy, PartialEq, Eq, Debug)]
@@ -41,11 +40,11 @@ impl Cell {
     }
 }
 
-/// The cell of a key.
-pub(crate) fn cell_at(cells: &BTreeMap<MapKey, Cell>, key: &MapKey) -> Cell
-    ensures { result ≡ cell_in cells.now key.now }
+/// The cell at a number.
+pub(crate) fn cell_at(cells: &BTreeMap<u64, Cell>, number: u64) -> Cell
+    ensures { result ≡ cell_at cells.now number }
 {
-    match cells.get(key) {
+    match cells.get(&number) {
         Some(cell) => *cell,
         None => Cell {
             before: 0,
@@ -54,42 +53,32 @@ pub(crate) fn cell_at(cells: &BTreeMap<MapKey, Cell>, key: &MapKey) -> Cell
     }
 }
 
-/// Gives a key that cell. After an error, which comes of a new key alone, all is as before.
-fn put(cells: &mut BTreeMap<MapKey, Cell>, key: MapKey, cell: Cell) -> Result<(), Memory>
-    ensures ok { OnOk result ((q : OneKey) → cell_in cells.new q ≡ with_cell (cell_in cells.old) key cell q) }
-    ensures err { OnErr result ((q : OneKey) → cell_in cells.new q ≡ cell_in cells.old q) }
-    ensures absent { OnErr result (cell_in cells.old key ≡ no_cell) }
+/// Gives a number that has a cell another one. It takes no memory.
+fn replace(cells: &mut BTreeMap<u64, Cell>, number: u64, cell: Cell)
+    requires there { 0 < (cell_at cells.old number).before + (cell_at cells.old number).after }
+    ensures { (n : ℕ) → cell_at cells.new n ≡ put_at (cell_at cells.old) number cell n }
 {
-    cells.insert(key, cell)?;
-    Ok(())
+    let _ = cells.insert(number, cell);
 }
 
-/// Gives a key that has a cell another one. It takes no memory.
-fn replace(cells: &mut BTreeMap<MapKey, Cell>, key: MapKey, cell: Cell)
-    requires there { 0 < (cell_in cells.old key).before + (cell_in cells.old key).after }
-    ensures { (q : OneKey) → cell_in cells.new q ≡ with_cell (cell_in cells.old) key cell q }
+/// Takes the cell at a number away.
+fn clear(cells: &mut BTreeMap<u64, Cell>, number: u64)
+    ensures { (n : ℕ) → cell_at cells.new n ≡ put_at (cell_at cells.old) number no_cell n }
 {
-    let _ = put(cells, key, cell);
+    cells.remove(&number);
 }
 
-/// Takes the cell of a key away.
-fn clear(cells: &mut BTreeMap<MapKey, Cell>, key: &MapKey)
-    ensures { (q : OneKey) → cell_in cells.new q ≡ with_cell (cell_in cells.old) key.now no_cell q }
-{
-    cells.remove(key);
-}
-
-/// Gives a key once more than that cell does, or after an error as often.
-fn raise_from(cells: &mut BTreeMap<MapKey, Cell>, key: MapKey, old: Cell) -> Result<(), Memory>
-    requires there { 0 < (cell_in cells.old key).before + (cell_in cells.old key).after }
-    ensures ok { OnOk result ((q : OneKey) → cell_in cells.new q ≡ with_cell (cell_in cells.old) key (raised 1 old) q) }
-    ensures err { OnErr result ((q : OneKey) → cell_in cells.new q ≡ with_cell (cell_in cells.old) key old q) }
+/// Counts one more than that cell does, or after an error as often.
+fn raise_from(cells: &mut BTreeMap<u64, Cell>, number: u64, old: Cell) -> Result<(), Memory>
+    requires there { 0 < (cell_at cells.old number).before + (cell_at cells.old number).after }
+    ensures ok { OnOk result ((n : ℕ) → cell_at cells.new n ≡ put_at (cell_at cells.old) number (raised 1 old) n) }
+    ensures err { OnErr result ((n : ℕ) → cell_at cells.new n ≡ put_at (cell_at cells.old) number old n) }
 {
     match old.after.checked_add(1) {
         Some(after) => {
             replace(
                 cells,
-                key,
+                number,
                 Cell {
                     before: old.before,
                     after,
@@ -98,26 +87,27 @@ fn raise_from(cells: &mut BTreeMap<MapKey, Cell>, key: MapKey, old: Cell) -> Res
             Ok(())
         }
         None => {
-            replace(cells, key, old);
+            replace(cells, number, old);
             Err(Memory)
         }
     }
 }
 
-/// The change gives the key once more. After an error all is as before. A key that is new is looked for once.
-pub(crate) fn raise(cells: &mut BTreeMap<MapKey, Cell>, key: MapKey) -> Result<(), Memory>
-    ensures ok { OnOk result ((q : OneKey) → cell_in cells.new q ≡ with_cell (cell_in cells.old) key (raised 1 (cell_in cells.old key)) q) }
-    ensures err { OnErr result ((q : OneKey) → cell_in cells.new q ≡ cell_in cells.old q) }
+/// The change gives the key of that number once more. After an error all is as before. A number that is new is looked for
+/// once.
+pub(crate) fn raise_at(cells: &mut BTreeMap<u64, Cell>, number: u64) -> Result<(), Memory>
+    ensures ok { OnOk result ((n : ℕ) → cell_at cells.new n ≡ put_at (cell_at cells.old) number (raised 1 (cell_at cells.old number)) n) }
+    ensures err { OnErr result ((n : ℕ) → cell_at cells.new n ≡ cell_at cells.old n) }
 {
     let one = Cell {
         before: 0,
         after: 1,
     };
-    let old = cells.insert(key, one)?;
+    let old = cells.insert(number, one)?;
     match old {
         None => Ok(()),
         Some(cell) => {
-            raise_from(cells, key, cell)?;
+            raise_from(cells, number, cell)?;
             Ok(())
         }
     }
@@ -131,12 +121,12 @@ fn lower_cell(cell: &mut Cell)
     cell.after -= 1;
 }
 
-/// The change takes the key away once. It takes no memory.
-pub(crate) fn lower(cells: &mut BTreeMap<MapKey, Cell>, key: MapKey)
-    requires there { 0 < (cell_in cells.old key).after }
-    ensures { (q : OneKey) → cell_in cells.new q ≡ with_cell (cell_in cells.old) key (lowered 1 (cell_in cells.old key)) q }
+/// The change takes the key of that number away once. It takes no memory.
+pub(crate) fn lower_at(cells: &mut BTreeMap<u64, Cell>, number: u64)
+    requires there { 0 < (cell_at cells.old number).after }
+    ensures { (n : ℕ) → cell_at cells.new n ≡ put_at (cell_at cells.old) number (lowered 1 (cell_at cells.old number)) n }
 {
-    if let Some(cell) = cells.get_mut(&key) {
+    if let Some(cell) = cells.get_mut(&number) {
         lower_cell(cell);
     }
 }
@@ -154,22 +144,22 @@ fn settle_cell(cell: &mut Cell, side: Side) -> u32
     kept
 }
 
-/// The same of the cell of a key.
-fn settle_at(cells: &mut BTreeMap<MapKey, Cell>, key: &MapKey, side: Side) -> u32
-    ensures settled { (q : OneKey) → cell_in cells.new q ≡ with_cell (cell_in cells.old) key.now (settled side (cell_in cells.old key.now)) q }
-    ensures kept { result ≡ on side (cell_in cells.old key.now) }
+/// The same of the cell at a number.
+fn settle_found(cells: &mut BTreeMap<u64, Cell>, number: u64, side: Side) -> u32
+    ensures settled { (n : ℕ) → cell_at cells.new n ≡ put_at (cell_at cells.old) number (settled side (cell_at cells.old number)) n }
+    ensures kept { result ≡ on side (cell_at cells.old number) }
 {
-    match cells.get_mut(key) {
+    match cells.get_mut(&number) {
         Some(cell) => settle_cell(cell, side),
         None => 0,
     }
 }
 
 /// Lets the number of that side stand for both. It takes no memory.
-pub(crate) fn settle(cells: &mut BTreeMap<MapKey, Cell>, key: MapKey, side: Side)
-    ensures { (q : OneKey) → cell_in cells.new q ≡ with_cell (cell_in cells.old) key (settled side (cell_in cells.old key)) q }
+pub(crate) fn settle_at(cells: &mut BTreeMap<u64, Cell>, number: u64, side: Side)
+    ensures { (n : ℕ) → cell_at cells.new n ≡ put_at (cell_at cells.old) number (settled side (cell_at cells.old number)) n }
 {
-    if settle_at(cells, &key, side) == 0 {
-        clear(cells, &key);
+    if settle_found(cells, number, side) == 0 {
+        clear(cells, number);
     }
 }

@@ -1,5 +1,5 @@
 //! Keys of a policy map.
-ghost use Rattle.std.specs.Prelude.{◌≡◌, ◌-◌, ◌^◌, ◌<◌, ◌≤◌};
+ghost use Rattle.std.specs.Prelude.{◌≡◌, ◌-◌, ◌^◌, ◌≤◌};
 ghost use Rattle.pol_ports.specs.PortPrefix.{prefix_at};
 ghost use Rattle.pol_mapkey.specs.MapKey.{every_key, port_key};
 ghost use Rattle.pol_tally.specs.Times.{packets_of};
@@ -8,7 +8,7 @@ use pol_mapkey::{KeyProto, MapKey};
 use pol_ports::{Direction, PortPrefix, Proto};
 
 /// How many ports a prefix of that length has.
-fn port_count(len: u8) -> u32
+pub(crate) fn port_count(len: u8) -> u32
     requires { len ≤ 16 }
     ensures { result ≡ 2 ^ (16 - len) }
 {
@@ -63,12 +63,4 @@ pub(crate) fn packets_of(proto: KeyProto) -> Option<Proto>
         KeyProto::Udp => Some(Proto::Udp),
         KeyProto::Sctp => Some(Proto::Sctp),
     }
-}
-
-/// The first port of a key.
-pub(crate) fn first_port(key: &MapKey) -> u16
-    ensures value { result ≡ key.now.port.bits }
-    ensures small { key.now.port.bits < 2 ^ 16 }
-{
-    key.port.bits
 }

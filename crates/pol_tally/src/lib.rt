@@ -5,11 +5,13 @@
 #![tactic(auto)]
 
 mod affected;
+mod by_key;
 mod cells;
 mod change;
 mod differences;
 mod keys;
 mod lists;
+mod numbers;
 mod order;
 mod reading;
 mod sizes;

@@ -5,26 +5,22 @@ ghost use Rattle.pol_mapkey.specs.MapKey.{key_cmp};
 ghost use Rattle.pol_tally.specs.Affected.{Keeps, keys_within};
 
 use crate::cells::Cell;
-use crate::keys::first_port;
+use crate::numbers::{key_of, number_of, width};
 use pol_data::Memory;
 use pol_mapkey::MapKey;
 use std::collections::BTreeMap;
 
 /// Puts the keys that this key covers behind these.
 pub(crate) fn push_within(
-    cells: &BTreeMap<MapKey, Cell>,
+    cells: &BTreeMap<u64, Cell>,
     wide: &MapKey,
     keys: &mut Vec<MapKey>,
 ) -> Result<(), Memory>
     ensures { OnOk result (keys.new.items ≡ keys.old.items ++ keys_within wide.now cells.now.entries) }
 {
-    let _first = first_port(wide);
-    for (key, _) in cells.range(*wide..) {
-        let _port = first_port(key);
-        if !wide.covers(key) {
-            break;
-        }
-        keys.push(*key)?;
+    let first = number_of(wide);
+    for (number, _) in cells.range(first..first + width(wide)) {
+        keys.push(key_of(*number))?;
     }
     Ok(())
 }

@@ -5,7 +5,8 @@ ghost use Rattle.pol_mapkey.specs.declared.MapKey.{MapKey as OneKey};
 ghost use Rattle.pol_tally.specs.Cells.{lowered, raised, settled};
 ghost use Rattle.pol_tally.specs.Counted.{IsTallyOf, cells_of, with_one};
 
-use crate::cells::{Cell, Side, cell_at, lower, raise, settle};
+use crate::by_key::{cell_in, lower, raise, settle};
+use crate::cells::{Cell, Side};
 use pol_data::Memory;
 use pol_mapkey::{Kind, MapKey};
 use std::alloc::Global;
@@ -14,8 +15,8 @@ use std::collections::BTreeMap;
 /// How often entries give each key each kind. It takes memory by the number of keys.
 #[derive(Drop)]
 pub struct Tally {
-    pub(crate) allows: BTreeMap<MapKey, Cell>,
-    pub(crate) denies: BTreeMap<MapKey, Cell>,
+    pub(crate) allows: BTreeMap<u64, Cell>,
+    pub(crate) denies: BTreeMap<u64, Cell>,
 }
 
 impl Tally {
@@ -34,8 +35,8 @@ impl Tally {
         ensures { result ≡ cells_of self.now key.now kind }
     {
         match kind {
-            Kind::Allow => cell_at(&self.allows, key),
-            Kind::Deny => cell_at(&self.denies, key),
+            Kind::Allow => cell_in(&self.allows, key),
+            Kind::Deny => cell_in(&self.denies, key),
         }
     }
 

@@ -1,21 +1,9 @@
-use Rattle.std.proofs.Common.{is_some, sym, ap, ◌∙◌, unwrap_or}
-use Rattle.pol_tally.specs.Cells.{no_cell, on, settled}
-use Rattle.pol_tally.proofs.Kept.{absent_is, none_on, settled_none, written_is}
+use Rattle.std.proofs.Common.{◌≡◌, arith}
+use Rattle.pol_tally.specs.Cells.{cell_at, on}
+use Rattle.pol_tally.proofs.Kept.{emptied_is}
 use Rattle.pol_tally.proofs.cells.settle_at.Goals as goal
 
-pub returns-in-Some-clause-settled : goal.returns-in-Some-clause-settled
-returns-in-Some-clause-settled c =
-    let w = c.settle_cell.new.cell in
-    let there = sym c.in-Some.ensures.value in
-    written_is c.args.cells.now (c.get_mut.follows.lender w) c.args.key.now c.in-Some.cell.now w (settled c.args.side) there c.settle_cell.ensures.settled
-    ((c.get_mut.follows.holds w).3 (ap is_some there)).0
-
-pub returns-in-Some-clause-kept : goal.returns-in-Some-clause-kept
-returns-in-Some-clause-kept c = c.settle_cell.ensures.kept ∙ ap (on c.args.side) (ap (λ o. unwrap_or o no_cell) c.in-Some.ensures.value)
-
-pub returns-in-None-clause-settled : goal.returns-in-None-clause-settled
-returns-in-None-clause-settled c =
-    absent_is c.args.cells.now c.get_mut.follows.lender-at-none c.args.key.now (settled c.args.side) (settled_none c.args.side) (sym c.in-None.ensures.value) c.get_mut.follows.holds-at-none
-
-pub returns-in-None-clause-kept : goal.returns-in-None-clause-kept
-returns-in-None-clause-kept c = none_on c.args.side ∙ ap (on c.args.side) (ap (λ o. unwrap_or o no_cell) c.in-None.ensures.value)
+pub returns-then-settle_found-eq0 : goal.returns-then-settle_found-eq0
+returns-then-settle_found-eq0 c =
+    let empty : on c.args.side (cell_at c.args.cells.now c.args.number) ≡ 0 = omega (arith, c.if-settle_found-eq0.true, c.settle_found.ensures.kept) in
+    emptied_is c.args.side (cell_at c.args.cells.now) (cell_at c.settle_found.new.cells) (cell_at c.clear.new.cells) c.args.number empty c.settle_found.ensures.settled c.clear.ensures

@@ -1,7 +1,7 @@
-use Rattle.std.proofs.Common.{sym, ◌∙◌, ap, ◌++◌}
+use Rattle.std.proofs.Common.{sym, ◌∙◌, ◌++◌}
 use Rattle.pol_edits.specs.Changes.{difference_at}
 use Rattle.pol_tally.specs.declared.cells.Side.TheVariants.{Before, After}
-use Rattle.pol_tally.specs.Affected.{change_at, changes_at, says}
+use Rattle.pol_tally.specs.Affected.{change_at, says}
 use Rattle.pol_tally.specs.Counted.{cells_of, times_on}
 use Rattle.pol_tally.proofs.Listing.{one_listed}
 use Rattle.pol_tally.proofs.Resized.{resized_more}
