@@ -1,5 +1,5 @@
 //! In what the three maps of a deny that comes and goes differ.
-ghost use Rattle.std.specs.Prelude.{◌≡◌, ◌≤◌, length};
+ghost use Rattle.std.specs.Prelude.{◌≡◌};
 
 use pol_audit::{Difference, Differences, Entries, Numbers, differences, read_table};
 use pol_data::{Memory, Steps};
@@ -38,8 +38,6 @@ fn differences_over<L: Ledger>(
     requires name { blank.name ≡ L.name }
     requires parts { blank.parts ≡ L.parts }
     requires some { blank.parts ≡ 1 }
-    requires left { length left.now ≤ 1000000 }
-    requires right { length right.now ≤ 1000000 }
 {
     let mut steps = Steps::<L>::new(blank);
     differences(alloc, left, right, &mut steps)
@@ -49,9 +47,6 @@ fn differences_over<L: Ledger>(
 fn difference(alloc: Global, left: &str, right: &str) -> Option<Differences> {
     let left = table(alloc, left)?;
     let right = table(alloc, right)?;
-    if left.count() > 1_000_000 || right.count() > 1_000_000 {
-        return None;
-    }
     differences_over::<Brand>(Blank::new(1), alloc, &left, &right).ok()
 }
 
