@@ -1,5 +1,5 @@
 //! What a session is to play in a phase.
-ghost use Rattle.std.specs.Prelude.{◌≡◌, ◌++◌, ◌∷◌, [], ◌↔◌, IfNone, IfSome, IsTrue, OnErr, OnOk, option_to_list};
+ghost use Rattle.std.specs.Prelude.{◌≡◌, ◌++◌, ◌∷◌, [], ◌↔◌, IfNone, IfOk, IfSome, IsTrue, OnErr, OnOk, option_to_list};
 ghost use Rattle.pol_phases.specs.Marks.{IsOfSession};
 
 use pol_data::Memory;
@@ -28,13 +28,13 @@ impl Model for Commands {
 }
 
 impl Commands {
-    /// No command. It takes no memory.
-    pub fn new(alloc: Global) -> Commands
-        ensures { result ≡ [] }
+    /// No command, with room for so many. The one error is want of memory.
+    pub fn with_room(alloc: Global, room: usize) -> Result<Commands, Memory>
+        ensures { IfOk result (λ commands. commands ≡ []) }
     {
-        Commands {
-            waiting: VecDeque::new(alloc),
-        }
+        Ok(Commands {
+            waiting: VecDeque::with_capacity(alloc, room)?,
+        })
     }
 
     /// One command more, behind the others. The one error is want of memory, and they are then as before.

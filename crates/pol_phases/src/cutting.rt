@@ -1,11 +1,12 @@
 //! A script is cut into phases.
-ghost use Rattle.std.specs.Prelude.{◌≡◌, ◌++◌, ◌∷◌, [], List, map, replicate, IfOk, OnOk, Ok};
+ghost use Rattle.std.specs.Prelude.{◌≡◌, ◌++◌, ◌∷◌, [], List, map, replicate, IfOk, OnOk};
 ghost use Rattle.pol_placed.specs.Cut.{change_session, script_of};
-ghost use Rattle.pol_run.specs.Spots.{Reading as OneReading, session_of};
+ghost use Rattle.pol_run.specs.Spots.{Reading as OneReading};
 ghost use Rattle.pol_phases.specs.Marks.{IsCut, IsOfSession, mark_of};
 
 use crate::commands::Commands;
 use crate::mark::{Mark, Reading};
+use crate::rooms::{Rooms, session_of};
 use pol_data::{Items, Memory};
 use pol_script::Command;
 use std::alloc::Global;
@@ -26,31 +27,35 @@ pub fn cut(alloc: Global, sessions: u32, readings: Vec<Reading>) -> Result<CutSc
     ensures phases { IfOk result (λ script. script.phases.items ≡ script_of sessions readings.items) }
     ensures marks { IfOk result (λ script. script.marks.items ≡ map mark_of readings.items) }
 {
-    let mut cutting = Cutting::new(alloc, sessions)?;
+    let rooms = Rooms::of(alloc, sessions, readings.as_slice())?;
+    let mut cutting = Cutting::new(alloc, sessions, rooms, readings.len())?;
     for reading in readings {
         cutting.take(alloc, sessions, reading)?;
     }
     cutting.end()
 }
 
-// The phases that have ended, the one that hasn't, and the marks of the lines.
+// The phases that have ended, the one that hasn't, the marks of the lines, and the room that later phases take.
 #[derive(Drop)]
 struct Cutting {
     ended: Vec<Items<Commands>>,
     current: Vec<Commands>,
     marks: Vec<Mark>,
+    rooms: Rooms,
 }
 
 impl Cutting {
-    // No line yet.
-    fn new(alloc: Global, sessions: u32) -> Result<Cutting, Memory>
+    // No line yet, with room for the marks of so many.
+    fn new(alloc: Global, sessions: u32, rooms: Rooms, lines: usize) -> Result<Cutting, Memory>
         ensures { IfOk result (λ cutting. IsCut sessions [] cutting.ended.items cutting.current.items cutting.marks.items) }
     {
-        let current = no_commands(alloc, sessions)?;
+        let mut rooms = rooms;
+        let current = no_commands(alloc, sessions, &mut rooms)?;
         Ok(Cutting {
             ended: Vec::new(alloc),
             current,
-            marks: Vec::new(alloc),
+            marks: Vec::with_capacity(alloc, lines)?,
+            rooms,
         })
     }
 
@@ -64,7 +69,8 @@ impl Cutting {
             Ok(command) => match session_of(&command) {
                 None => {
                     self.marks.push(Mark::Phase)?;
-                    let ended = replace(&mut self.current, no_commands(alloc, sessions)?);
+                    let none = no_commands(alloc, sessions, &mut self.rooms)?;
+                    let ended = replace(&mut self.current, none);
                     self.ended.push(Items::from_vec(ended))?;
                 }
                 Some(session) => {
@@ -85,6 +91,7 @@ impl Cutting {
             mut ended,
             current,
             marks,
+            rooms: _rooms,
         } = self;
         ended.push(Items::from_vec(current))?;
         Ok(CutScript {
@@ -94,26 +101,13 @@ impl Cutting {
     }
 }
 
-// The session of a command; `phase` is of none.
-fn session_of(command: &Command) -> Option<u8>
-    ensures { result ≡ session_of (Ok command.now) }
-{
-    match command {
-        Command::Commit { session, .. } => Some(*session),
-        Command::Look { session, .. } => Some(*session),
-        Command::Trace { session, .. } => Some(*session),
-        Command::Sync { session } => Some(*session),
-        Command::Phase => None,
-    }
-}
-
-// No commands of so many sessions.
-fn no_commands(alloc: Global, sessions: u32) -> Result<Vec<Commands>, Memory>
+// No commands of so many sessions, with the room that each takes next.
+fn no_commands(alloc: Global, sessions: u32, rooms: &mut Rooms) -> Result<Vec<Commands>, Memory>
     ensures { IfOk result (λ lists. lists.items ≡ replicate sessions []) }
 {
     let mut lists = Vec::new(alloc);
     for _ in 0..sessions {
-        lists.push(Commands::new(alloc))?;
+        lists.push(Commands::with_room(alloc, rooms.next())?)?;
     }
     Ok(lists)
 }

@@ -11,6 +11,7 @@ mod back;
 mod commands;
 mod cutting;
 mod mark;
+mod rooms;
 
 pub use answers::Answers;
 pub use back::put_back;

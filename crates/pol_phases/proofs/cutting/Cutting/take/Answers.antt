@@ -12,7 +12,7 @@ returns-in_ok-push-in-None-2 c = λ lines so_far. let old = c.args.self.now in
     rw c.in-Ok.is (phase-more c.args.sessions lines c.in-Ok.command old.ended.items c.push-in-None-2.new.self.items c.from_vec.result old.current.items c.replace-ended.new.dest.items
     old.marks.items c.push-in-None.new.self.items c.in-None.ensures c.in_ok-push-in-None-2.ensures.items
     (c.from_vec.ensures ∙ ap (λ (lists : Vec Commands Global). lists.items) c.replace-ended.ensures.value)
-    (ap (λ (lists : Vec Commands Global). lists.items) c.replace-ended.ensures.after ∙ c.in_ok-no_commands-in-None.ensures)
+    (ap (λ (lists : Vec Commands Global). lists.items) c.replace-ended.ensures.after ∙ c.in_ok-none-in-None.ensures)
     c.in_ok-push-in-None.ensures.items so_far)
 
 pub returns-in_ok-add-in-Some : goal.returns-in_ok-add-in-Some
