@@ -1,5 +1,5 @@
 -- Whether a number below another passes.
-use Rattle.std.proofs.Common.{◌≡◌, ℕ, zero, suc, ◌<◌, ◌||◌, Bool, true, false, Some, refl, sym, ◌∙◌, ap, subst, inl, inr, arith}
+use Rattle.std.proofs.Common.{◌≡◌, ℕ, zero, suc, ◌+◌, ◌<◌, ◌||◌, Bool, true, false, None, Some, refl, sym, ◌∙◌, ap, subst, inl, inr, arith}
 use Rattle.std.proofs.lemmas.Bool.{cases_lt, or_from, or_left, or_right}
 use Rattle.pol_ports.specs.PortPrefix.{prefix_at}
 use Rattle.pol_ports.specs.declared.Proto.{Proto}
@@ -8,12 +8,20 @@ use Rattle.pol_mapkey.specs.declared.Kind.TheVariants.{Deny}
 use Rattle.pol_mapkey.specs.declared.MapKey.{MapKey}
 use Rattle.pol_tally.specs.Times.{Times, any_below, is_given, is_under, is_under_of, packets_of}
 
--- where a look goes on past the ports
-pub under_some : (given : Times) (key : MapKey) (proto : Proto) (ports every : Bool) → packets_of key.proto ≡ Some proto
-    → ports ≡ any_below (λ len. is_given given Deny (port_key key.dir key.id proto (prefix_at key.port.bits len))) key.port.len → ports ≡ false
-    → every ≡ is_given given Deny (every_key key.dir key.id) → every ≡ is_under given key
-under_some given key proto ports every is tried none own =
-    own ∙ sym (ap (λ b. b || is_given given Deny (every_key key.dir key.id)) (sym tried ∙ none)) ∙ sym (ap (is_under_of given key) is)
+-- one length more
+pub one_more_below : (test : ℕ → Bool) (n : ℕ) (own old new : Bool) → own ≡ test n → old ≡ any_below test n → new ≡ (own || old) → new ≡ any_below test (n + 1)
+one_more_below test n own old new here before made =
+    let next : suc n ≡ n + 1 = omega arith in
+    subst (λ m. new ≡ any_below test m) next (made ∙ (λ i. here i || before i))
+
+-- the ports of a protocol, and then every port
+pub under_made : (given : Times) (key : MapKey) (proto : Proto) (ports every new : Bool) → packets_of key.proto ≡ Some proto
+    → ports ≡ any_below (λ len. is_given given Deny (port_key key.dir key.id proto (prefix_at key.port.bits len))) key.port.len
+    → every ≡ is_given given Deny (every_key key.dir key.id) → new ≡ (ports || every) → new ≡ is_under given key
+under_made given key proto ports every new is tried own made = made ∙ (λ i. tried i || own i) ∙ sym (ap (is_under_of given key) is)
+
+pub under_none : (given : Times) (key : MapKey) → packets_of key.proto ≡ None → false ≡ is_under given key
+under_none given key is = sym (ap (is_under_of given key) is)
 
 pub none_below : (test : ℕ → Bool) (n : ℕ) → ((m : ℕ) → m < n → test m ≡ false) → any_below test n ≡ false
 none_below test zero none = refl

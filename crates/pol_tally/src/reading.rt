@@ -1,5 +1,5 @@
 //! What the map says of a key, on either side of a change.
-ghost use Rattle.std.specs.Prelude.{◌≡◌, IsTrue};
+ghost use Rattle.std.specs.Prelude.{◌≡◌, ◌||◌, IsTrue};
 ghost use Rattle.pol_ports.specs.PortPrefix.{prefix_at};
 ghost use Rattle.pol_mapkey.specs.MapKey.{port_key};
 ghost use Rattle.pol_mapkey.specs.declared.Kind.TheVariants.{Deny as deny};
@@ -29,31 +29,46 @@ fn denies_nothing(tally: &Tally) -> bool
     tally.denies.is_empty()
 }
 
-/// Whether a key of the protocol with fewer bits of the port is denied.
-fn is_under_ports(tally: &Tally, side: Side, key: &MapKey, proto: Proto) -> bool
-    ensures { result ≡ any_below (λ len. is_given (times_on side (cells_of tally.now)) deny (port_key key.now.dir key.now.id proto (prefix_at key.now.port.bits len))) key.now.port.len }
+/// Whether one of the two is so.
+fn either(one: bool, other: bool) -> bool
+    ensures { result ≡ (one || other) }
 {
-    for len in 0..key.port.len {
-        let wide = port_key(key.dir, key.id, proto, prefix_at(key.port.bits, len));
-        if is_given(tally, side, Kind::Deny, &wide) {
-            return true;
-        }
-    }
-    false
+    one || other
 }
 
-/// Whether the key lies strictly under a deny.
-fn is_under(tally: &Tally, side: Side, key: &MapKey) -> bool
-    ensures { result ≡ is_under (times_on side (cells_of tally.now)) key.now }
+/// Whether a key of the protocol with fewer bits of the port is denied, before the change and after it.
+fn are_under_ports(tally: &Tally, key: &MapKey, proto: Proto) -> (bool, bool)
+    ensures before { result.0 ≡ any_below (λ len. is_given (times_on before (cells_of tally.now)) deny (port_key key.now.dir key.now.id proto (prefix_at key.now.port.bits len))) key.now.port.len }
+    ensures after { result.1 ≡ any_below (λ len. is_given (times_on after (cells_of tally.now)) deny (port_key key.now.dir key.now.id proto (prefix_at key.now.port.bits len))) key.now.port.len }
+{
+    let mut before = false;
+    let mut after = false;
+    for len in 0..key.port.len {
+        let wide = port_key(key.dir, key.id, proto, prefix_at(key.port.bits, len));
+        let denied = tally.at(&wide, Kind::Deny);
+        before = either(0 < denied.before, before);
+        after = either(0 < denied.after, after);
+    }
+    (before, after)
+}
+
+/// Whether the key lies strictly under a deny, before the change and after it.
+fn are_under(tally: &Tally, key: &MapKey) -> (bool, bool)
+    ensures before { result.0 ≡ is_under (times_on before (cells_of tally.now)) key.now }
+    ensures after { result.1 ≡ is_under (times_on after (cells_of tally.now)) key.now }
 {
     if denies_nothing(tally) {
-        return false;
+        return (false, false);
     }
     match packets_of(key.proto) {
-        None => false,
+        None => (false, false),
         Some(proto) => {
-            is_under_ports(tally, side, key, proto)
-                || is_given(tally, side, Kind::Deny, &every_key(key.dir, key.id))
+            let (before, after) = are_under_ports(tally, key, proto);
+            let denied = tally.at(&every_key(key.dir, key.id), Kind::Deny);
+            (
+                either(before, 0 < denied.before),
+                either(after, 0 < denied.after),
+            )
         }
     }
 }
@@ -78,18 +93,11 @@ pub(crate) fn kinds_at(tally: &Tally, key: &MapKey) -> (Option<Kind>, Option<Kin
     ensures before { result.0 ≡ kind_of (times_on before (cells_of tally.now)) key.now }
     ensures after { result.1 ≡ kind_of (times_on after (cells_of tally.now)) key.now }
 {
+    let (under_before, under_after) = are_under(tally, key);
     let denied = tally.at(key, Kind::Deny);
     let allowed = tally.at(key, Kind::Allow);
     (
-        kind_by(
-            is_under(tally, Side::Before, key),
-            0 < denied.before,
-            0 < allowed.before,
-        ),
-        kind_by(
-            is_under(tally, Side::After, key),
-            0 < denied.after,
-            0 < allowed.after,
-        ),
+        kind_by(under_before, 0 < denied.before, 0 < allowed.before),
+        kind_by(under_after, 0 < denied.after, 0 < allowed.after),
     )
 }
