@@ -109,8 +109,9 @@ fn wanted(identities: &Identities, prefixes: &[Prefix]) -> usize
         .count()
 }
 
-/// Whether the prefixes want more numbers than are left.
-fn are_too_many(identities: &Identities, prefixes: &[Prefix]) -> bool
+/// Whether the prefixes want more numbers than are left: where `hold_prefixes` answers `Exhausted` ('profile'). A prefix
+/// that stands twice among them wants two. It takes no memory.
+pub fn are_too_many(identities: &Identities, prefixes: &[Prefix]) -> bool
     ensures many { result ≡ nat_lt MOST (locals_held identities.now + locals_wanted identities.now prefixes.now) }
     ensures keeps { KeepsRows identities.now }
 {

@@ -1,7 +1,7 @@
 //! Which identities the prefixes of a policy hold, and the table in which an address finds the longest of them.
 //!
 //! `hold_prefixes` takes numbers for prefixes, and `release_prefixes` gives them back; both keep the table as the rows
-//! are. `gone_numbers` tells beforehand which numbers a release lets go.
+//! are. `are_too_many` and `gone_numbers` tell beforehand whether the numbers are enough, and which ones a release lets go.
 #![tactic(auto)]
 
 mod gone;
@@ -11,7 +11,7 @@ mod release;
 mod start;
 
 pub use gone::gone_numbers;
-pub use hold::hold_prefixes;
+pub use hold::{are_too_many, hold_prefixes};
 pub use pol_ident::IdentError;
 pub use release::release_prefixes;
 pub use start::table_of_start;

@@ -44,7 +44,7 @@ use Rattle.pol_requests.specs.Causes.{policy_error}
 use Rattle.pol_requests.specs.Readied.{ReadiesOrNot}
 use Rattle.pol_store.specs.Store.{IsLike, StandsFor, StandsForSome, Stored, peers_of, with_rooms}
 use Rattle.pol_requests.proofs.Likeness.{like_fault}
-use Rattle.pol_requests.proofs.Readying.{IsReadiedHere}
+use Rattle.pol_requests.proofs.Readying.{IsReadiedHere, as_before, refused}
 
 -- The policy's peers have references and there is room for it; else all is as before.
 pub record RefersHere (policy : Policy) (old new : Stored) : Type 0 where
@@ -204,3 +204,12 @@ policy_refused policy old referred new taken ident.Exhausted refers taken_is man
     still_refused policy old new LocalExhausted still
     (fits_not policy old.state (subst (λ (n : ℕ). LOCAL_IDENTITIES < n) (λ i. locals_held (ids i) + locals_wanted (ids i) (taken_is i)) (many refl)))
 policy_refused policy old referred new taken ident.Memory refers taken_is many still = still_without_memory (Apply policy) old new still
+
+-- more prefixes than numbers are left: nothing was taken yet
+pub policy_too_much : (policy : Policy) (old new : Stored) (taken : List Prefix) → new ≡ with_rooms new.rooms old → taken ≡ policy_prefixes policy
+    → nat_lt LOCAL_IDENTITIES (locals_held new.state.identities + locals_wanted new.state.identities taken) ≡ true → ReadiesOrNot (Apply policy) old new (Err (Fault LocalExhausted))
+policy_too_much policy old new taken same taken_is many =
+    let ids : new.state.identities ≡ old.state.identities = ap (λ (t : Stored). t.state.identities) same in
+    refused (Apply policy) old new LocalExhausted (as_before new.rooms old new same)
+    (fits_not policy old.state (subst (λ (n : ℕ). LOCAL_IDENTITIES < n) (λ i. locals_held (ids i) + locals_wanted (ids i) (taken_is i))
+    (ltb-true LOCAL_IDENTITIES (locals_held new.state.identities + locals_wanted new.state.identities taken) many)))

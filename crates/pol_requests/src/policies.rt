@@ -21,6 +21,7 @@ use crate::readied::{Change, Readied};
 use pol_data::{Memory, Steps};
 use pol_ident::IdentError;
 use pol_model::{Fault, Stamped};
+use pol_prefixes::are_too_many;
 use pol_rule::{Policy, PolicyKey, Prefixes};
 use pol_store::Store;
 use std::alloc::Global;
@@ -118,6 +119,10 @@ pub(crate) fn ready_policy<L: Ledger>(
     let _known = store.horizon();
     store.reserve_policy()?;
     let new = new_policy(store, policy)?;
+    // Before selectors are made, which takes long where there are millions of prefixes.
+    if are_too_many(store.identities(), new.taken.as_slice()) {
+        return Err(ReadyError::Fault(Fault::LocalExhausted));
+    }
     store.refer(policy, steps)?;
     match store.hold_prefixes(new.taken.as_slice(), new.given_up.as_slice(), steps) {
         Ok(plan) => Ok(Readied {

@@ -14,7 +14,8 @@ use Rattle.pol_facts.proofs.Distinct.{one_of_key}
 use Rattle.pol_facts.proofs.Membership.{In-filter, find-In}
 use Rattle.pol_facts.proofs.PolicyHolders.{same_addr-Decides}
 use Rattle.pol_tables.proofs.Deciding.{same_tests}
-use Rattle.pol_tables.proofs.Entries.{PassOnce, find-inserted, find-kept, find-no, one_passes}
+use Rattle.pol_tables.specs.Numbered.{PassOnce}
+use Rattle.pol_tables.proofs.Entries.{find-inserted, find-kept, find-no, one_passes}
 
 -- each address has the slot of the endpoint that has it
 abbrev pub Tells : List (Addr × ℕ) → List Endpoint → Type 0

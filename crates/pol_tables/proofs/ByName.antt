@@ -10,7 +10,8 @@ use Rattle.pol_model.specs.declared.row.Endpoint.{Endpoint}
 use Rattle.pol_model.specs.Endpoints.{endpoint_of}
 use Rattle.pol_tables.specs.Tied.{IsKeyed}
 use Rattle.pol_tables.proofs.Deciding.{turned}
-use Rattle.pol_tables.proofs.Entries.{Agree, PassOnce, agree-keyed, found_by, pass_once, removed_by}
+use Rattle.pol_tables.specs.Numbered.{PassOnce}
+use Rattle.pol_tables.proofs.Entries.{Agree, agree-keyed, found_by, pass_once, removed_by}
 
 pub name_test : {A : Type 0} (name : List ℕ) → IsKeyTest (string_eq {Z = A}) (λ key. bytes_eq name (string_bytes key))
 name_test name x y = nat_list_eq_equiv.congr name (string_bytes x) (string_bytes y)

@@ -7,6 +7,7 @@ use Rattle.indexmap.specs.IndexMap.{IndexMap, get, insert_entry, insert_index, m
 use Rattle.indexmap.proofs.CallerLemmas.{insert_entry-new}
 use Rattle.indexmap.proofs.MapLemmas.{absent_from_lookup, or_len-absent}
 use Rattle.pol_data.proofs.Members.{In, every-in}
+use Rattle.pol_tables.specs.Numbered.{PassOnce}
 use Rattle.pol_tables.specs.Tied.{IsKeyed}
 
 -- ---- lists
@@ -98,12 +99,8 @@ module _ {K V : Type 0} where
 
 -- one value at most passes
 module _ {V : Type 0} (passes : V → Bool) where
-  abbrev pub PassOnce : List V → Type 0
-  PassOnce [] = Unit {0}
-  PassOnce (v ∷ vs) = (passes v ≡ true → AllByRecursion (λ w. passes w ≡ false) vs) × PassOnce vs
-
   -- which is the one that is found
-  pub one_passes : (v w : V) (vs : List V) → PassOnce vs → find passes vs ≡ Some w → In v vs → passes v ≡ true → v ≡ w
+  pub one_passes : (v w : V) (vs : List V) → PassOnce passes vs → find passes vs ≡ Some w → In v vs → passes v ≡ true → v ≡ w
   one_passes v w [] once is there here = elim there [ ]
   one_passes v w (x ∷ vs) once is there here =
       elim (cases_Bool (passes x)) [

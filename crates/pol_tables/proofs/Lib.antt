@@ -1,6 +1,8 @@
 mod Deciding
 mod Entries
 mod ByName
+mod Queues
+mod Places
 mod ByKey
 pub mod NamedNumbers
 mod InOrder

@@ -1,2 +1,4 @@
 pub mod Tables
+pub mod Queue
+pub mod Numbered
 pub mod Tied

@@ -4,9 +4,11 @@
 //! `put` take none.
 #![tactic(auto)]
 
+mod arrivals;
 mod endpoints;
 mod named;
 mod policies;
+mod queue;
 mod slots;
 
 pub use endpoints::Endpoints;
