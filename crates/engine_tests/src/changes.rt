@@ -64,7 +64,7 @@ fn gained_since(
     Ok(match log.since(alloc, selector, revision)? {
         None => false,
         Some(net) => net.selector == selector
-            && net.gained.as_slice() == ids
+            && net.gained.iter().eq(ids.iter().copied())
             && net.lost.is_empty(),
     })
 }

@@ -328,7 +328,7 @@ fn worn_uncounted(alloc: Global, revision: u64) -> Option<(Move, usize, u64)> {
 fn is_gain(told: &Option<(Move, usize, u64)>, gained: &[u32], horizon: u64) -> bool {
     match told {
         Some((moved, 1, oldest)) => *oldest == horizon
-            && moved.gained.as_slice() == gained
+            && moved.gained.iter().eq(gained.iter().copied())
             && moved.lost.is_empty(),
         _ => false,
     }

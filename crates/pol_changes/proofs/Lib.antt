@@ -1,6 +1,6 @@
 pub mod Counted
 pub mod Differences
-pub mod IdLemmas
+pub mod Surplus
 pub mod LogLemmas
 pub mod NetLemmas
 pub mod Recording

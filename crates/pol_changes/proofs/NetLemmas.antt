@@ -7,7 +7,8 @@ use Rattle.pol_changes.specs.declared.change.Change.{Change}
 use Rattle.pol_changes.specs.Ids.{has, without, union}
 use Rattle.pol_changes.specs.Net.{times, surplus, came, went, net, move_of, joined, moved, after_all}
 use Rattle.pol_changes.specs.Sets.{Fits, AllFit, IsMove, NetIsExact, NetsJoin, DifferencesLead}
-use Rattle.pol_changes.proofs.IdLemmas.{Ascends, same_ids, has-without, has-union, has-surplus, surplus-ascends, times_once, without-ascends, union-ascends, has_of_all, all_have}
+use Rattle.pol_sets.proofs.IdLemmas.{Ascends, same_ids, has-without, has-union, without-ascends, union-ascends, has_of_all, all_have}
+use Rattle.pol_changes.proofs.Surplus.{has-surplus, surplus-ascends, times_once}
 
 -- ---- two moves in turn are one
 joined_bits : (a b c : Bool) → ((not (not c && b) && (not a && b)) || (not (not b && a) && (not b && c))) ≡ (not a && c)

@@ -66,8 +66,8 @@ fn net_on_chain(
             break;
         }
         if change.selector == selector {
-            came.extend_from_slice(change.gained.as_slice())?;
-            went.extend_from_slice(change.lost.as_slice())?;
+            change.gained.push_to(&mut came)?;
+            change.lost.push_to(&mut went)?;
         }
         node = nodes.older(at);
     }

@@ -18,6 +18,7 @@ use pol_mapkey::{Kind, MapKey};
 use pol_model::{EVERY_IDENTITY, HOST_IDENTITY, selects_every_number};
 use pol_ports::{Direction, PortPrefix, Proto, split};
 use pol_rule::{Peer, Peers, PortSpec};
+use pol_sets::IdSet;
 use std::alloc::Global;
 
 fn push_parts(
@@ -101,12 +102,12 @@ fn push_ids(
     out: &mut Vec<(MapKey, Kind)>,
     keys: &[MapKey],
     kind: Kind,
-    ids: &[u32],
+    ids: &IdSet,
 ) -> Result<(), Memory>
     ensures { OnOk result (out.new.items ≡ out.old.items ++ flat_map (entries_for kind keys.now) ids.now) }
 {
-    for id in ids {
-        push_for(out, keys, kind, *id)?;
+    for id in ids.iter() {
+        push_for(out, keys, kind, id)?;
     }
     Ok(())
 }

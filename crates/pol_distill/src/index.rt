@@ -4,7 +4,7 @@ ghost use Rattle.pol_sets.specs.Sets.{has_set, set_given};
 
 use pol_data::Memory;
 use pol_rule::Peer;
-use pol_sets::SetRow;
+use pol_sets::{IdSet, SetRow};
 use std::alloc::Global;
 use std::collections::HashMap;
 use std::marker::Model;
@@ -13,7 +13,7 @@ use std::marker::Model;
 #[derive(Drop)]
 pub(crate) struct PeerSets<'a> {
     rows: &'a [SetRow],
-    table: HashMap<&'a Peer, &'a [u32]>,
+    table: HashMap<&'a Peer, &'a IdSet>,
 }
 
 impl<'a> Model for PeerSets<'a> {
@@ -33,16 +33,16 @@ impl<'a> PeerSets<'a> {
     pub(crate) fn new(alloc: Global, rows: &'a [SetRow]) -> Result<PeerSets<'a>, Memory>
         ensures { IfOk result (λ sets. sets ≡ rows.now) }
     {
-        let mut table: HashMap<&'a Peer, &'a [u32]> = HashMap::with_capacity(alloc, rows.len())?;
+        let mut table: HashMap<&'a Peer, &'a IdSet> = HashMap::with_capacity(alloc, rows.len())?;
         for i in (0..rows.len()).rev() {
             let row = &rows[i];
-            table.insert(&row.peer, row.set.as_slice())?;
+            table.insert(&row.peer, &row.set)?;
         }
         Ok(PeerSets { rows, table })
     }
 
     /// The numbers that the peer's first row gives it.
-    pub(crate) fn set_of(&self, peer: &Peer) -> &'a [u32]
+    pub(crate) fn set_of(&self, peer: &Peer) -> &'a IdSet
         requires { IsTrue (has_set self.now peer.now) }
         ensures { result.now ≡ set_given self.now peer.now }
     {

@@ -13,7 +13,7 @@ use Rattle.pol_mapkey.specs.declared.MapKey.{MapKey}
 use Rattle.pol_sets.specs.declared.sets.Move.{Move}
 use Rattle.pol_changes.specs.Ids.{has, without}
 use Rattle.pol_changes.specs.Sets.{IsMove}
-use Rattle.pol_changes.proofs.IdLemmas.{same_ids}
+use Rattle.pol_sets.proofs.IdLemmas.{same_ids}
 use Rattle.pol_tally.specs.Times.{times}
 use Rattle.pol_given.specs.Balance.{Between, GoesOn, Leads}
 use Rattle.pol_given.specs.declared.staying.Moved.{Moved}

@@ -13,7 +13,7 @@ use Rattle.pol_sets.specs.declared.sets.Move.{Move}
 use Rattle.pol_sets.specs.declared.sets.SetRow.{SetRow}
 use Rattle.pol_sets.specs.Sets.{is_row_of, set_given}
 use Rattle.pol_changes.specs.Sets.{IsMove}
-use Rattle.pol_changes.proofs.IdLemmas.{nothing_ascends}
+use Rattle.pol_sets.proofs.IdLemmas.{nothing_ascends}
 use Rattle.pol_given.specs.PeerRow.{Ascend, IsMoveOf, IsMoveOfRow, move_now, placed_row}
 use Rattle.pol_given.specs.Told.{IsTold}
 use Rattle.pol_given.specs.declared.rows.PlacedRow.{PlacedRow}

@@ -18,7 +18,7 @@ use pol_mapkey::{Kind, MapKey};
 use pol_model::{EVERY_IDENTITY, HOST_IDENTITY, selects_every_number};
 use pol_ports::Direction;
 use pol_rule::{Peer, Peers};
-use pol_sets::SetRow;
+use pol_sets::{IdSet, SetRow};
 use std::alloc::Global;
 
 /// The kind of a filter's entries.
@@ -48,12 +48,12 @@ pub(crate) fn push_ids(
     out: &mut Vec<(MapKey, Kind)>,
     keys: &[MapKey],
     kind: Kind,
-    ids: &[u32],
+    ids: &IdSet,
 ) -> Result<(), Memory>
     ensures { OnOk result (out.new.items ≡ out.old.items ++ flat_map (entries_for kind keys.now) ids.now) }
 {
-    for id in ids {
-        push_for(out, keys, kind, *id)?;
+    for id in ids.iter() {
+        push_for(out, keys, kind, id)?;
     }
     Ok(())
 }
@@ -71,7 +71,10 @@ fn push_peer(
     if selects_every_number(peer) {
         push_for(out, keys, kind, EVERY_IDENTITY)
     } else {
-        push_ids(out, keys, kind, rows.set_of(peer))
+        match rows.row_of(peer) {
+            Some(found) => push_ids(out, keys, kind, &found.row.set),
+            None => Ok(()),
+        }
     }
 }
 

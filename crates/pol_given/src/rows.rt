@@ -1,7 +1,7 @@
 //! The rows of peers, found by a hash of the peer where that is worth a table.
 ghost use Rattle.std.specs.Prelude.{◌≡◌, IfOk, find};
 ghost use Rattle.std.specs.List.{AllByRecursion};
-ghost use Rattle.pol_sets.specs.Sets.{is_row_of, set_given};
+ghost use Rattle.pol_sets.specs.Sets.{is_row_of};
 ghost use Rattle.pol_given.specs.PeerRow.{Ascend, IsIndexOf, placed_row};
 
 use pol_data::Memory;
@@ -117,16 +117,6 @@ impl<'a> PeerRows<'a> {
             None => first_row(self.rows, peer),
         }
     }
-
-    /// The numbers that the peer's first row gives it.
-    pub(crate) fn set_of(&self, peer: &Peer) -> &'a [u32]
-        ensures { result.now ≡ set_given self.now peer.now }
-    {
-        match self.row_of(peer) {
-            Some(found) => found.row.set.as_slice(),
-            None => &[],
-        }
-    }
 }
 
 /// It does nothing: each set's numbers ascend.
@@ -134,6 +124,6 @@ pub(crate) fn sets_ascend(rows: &[SetRow])
     ensures { AllByRecursion Ascend rows.now }
 {
     for row in rows {
-        let _ = row.set.as_slice();
+        let _ = row.set.iter();
     }
 }

@@ -46,8 +46,8 @@ fn push_move(
     }
     let kind = kind_of(one);
     let keys = ports_keys(alloc, dir, one.ports.as_slice())?;
-    push_ids(&mut out.come, &keys, kind, change.gained.as_slice())?;
-    push_ids(&mut out.gone, &keys, kind, change.lost.as_slice())
+    push_ids(&mut out.come, &keys, kind, &change.gained)?;
+    push_ids(&mut out.gone, &keys, kind, &change.lost)
 }
 
 /// A move of a peer's first row.

@@ -13,4 +13,3 @@ pub mod Untried
 pub mod Judged
 pub mod Sharing
 pub mod Filed
-pub mod Between

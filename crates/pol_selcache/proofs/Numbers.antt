@@ -19,14 +19,6 @@ use Rattle.pol_changes.specs.Ids.{has, without}
 above : (x y : ℕ) → x < y → nat_cmp x y ≡ Less
 above x y below = cond-true _ Less _ (lt-ltb x y below)
 
-pub less_is : (x y : ℕ) → nat_cmp x y ≡ Less → x < y
-less_is x y less = by (nat_lt x y) refl (x == y) less
-  where
-    by : (b : Bool) → nat_lt x y ≡ b → (e : Bool) → cond b Less (cond e Equal Greater) ≡ Less → x < y
-    by true is e less = ltb-true x y is
-    by false is true less = absurd (let wrong : ⊥ = cc in wrong)
-    by false is false less = absurd (let wrong : ⊥ = cc in wrong)
-
 pub strict_from_ascends : (xs : List ℕ) → Ascends xs → IsStrictlySortedBy nat_cmp xs
 unfolding IsStrictlySortedBy
 strict_from_ascends [] ascends = tt

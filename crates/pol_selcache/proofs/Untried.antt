@@ -27,7 +27,8 @@ use Rattle.pol_selcache.specs.Plan.{change_to, changes_for}
 use Rattle.pol_selcache.specs.Tried.{of_numbers}
 use Rattle.pol_selectors.proofs.LiveLists.{AllAbove, numbers}
 use Rattle.pol_selcache.proofs.Moves.{gained_is, lost_is}
-use Rattle.pol_selcache.proofs.Numbers.{has-append, less_is}
+use Rattle.pol_sets.proofs.IdLemmas.{less_is}
+use Rattle.pol_selcache.proofs.Numbers.{has-append}
 use Rattle.pol_selcache.proofs.Planning.{labels-cons, stands}
 use Rattle.pol_selcache.proofs.RowSets.{has-held, has-set_without}
 

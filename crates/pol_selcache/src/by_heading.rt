@@ -98,17 +98,6 @@ fn filed_for(alloc: Global, filing: &Filing, peer: &Peer) -> Result<IdSet, Memor
     Ok(IdSet::from_ascending(few))
 }
 
-/// The set of these numbers, of which there is one at most. It takes no memory.
-fn at_most_one(alloc: Global, numbers: &[u32]) -> IdSet
-    requires few { length numbers.now ≤ 1 }
-    ensures same { result ≡ numbers.now }
-{
-    match numbers.first() {
-        None => IdSet::new(alloc),
-        Some(number) => IdSet::one(*number),
-    }
-}
-
 impl<'a> ByHeading<'a> {
     /// The numbers, under their headings where there are several. The one error is want of memory.
     pub(crate) fn new(
@@ -119,7 +108,8 @@ impl<'a> ByHeading<'a> {
         ensures numbers { IfOk result (λ own. own.numbers.now ≡ numbers.now) }
         ensures filed { IfOk result (IsByHeading identities.now) }
     {
-        let filing = file_several(alloc, numbers.as_slice(), identities)?;
+        let several = numbers.to_vec(alloc)?;
+        let filing = file_several(alloc, several.as_slice(), identities)?;
         Ok(ByHeading { numbers, filing })
     }
 
@@ -129,9 +119,9 @@ impl<'a> ByHeading<'a> {
         requires small { AreSmall self.now.filing }
         ensures few { IfOk result (λ few. (rows : List OneRow) → IsByHeading rows self.now → AreThoseFor rows peer.now self.now.numbers.now few) }
     {
-        let numbers = self.numbers.as_slice();
-        if numbers.len() <= 1 {
-            return Ok(at_most_one(alloc, numbers));
+        if self.numbers.len() <= 1 {
+            let same = self.numbers.copy(alloc)?;
+            return Ok(same);
         }
         let few = filed_for(alloc, &self.filing, peer)?;
         Ok(few)

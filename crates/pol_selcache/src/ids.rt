@@ -5,7 +5,6 @@ ghost use Rattle.std.specs.Ordering.{nat_cmp};
 ghost use Rattle.pol_sets.specs.IdSet.{IsIdSet};
 ghost use Rattle.pol_changes.specs.Ids.{has};
 
-use crate::stretches::moved_numbers;
 use pol_data::Memory;
 use pol_sets::IdSet;
 use std::alloc::Global;
@@ -44,12 +43,11 @@ pub(crate) fn one_if(alloc: Global, number: u32, wanted: bool) -> IdSet
 }
 
 /// Those of the numbers that the set has too.
-fn found_in(alloc: Global, numbers: &[u32], set: &IdSet) -> Result<Vec<u32>, Memory>
+fn found_in(alloc: Global, numbers: &IdSet, set: &IdSet) -> Result<Vec<u32>, Memory>
     ensures { IfOk result (λ found. found.items ≡ filter (λ number. has number set.now) numbers.now) }
 {
     numbers
         .iter()
-        .copied()
         .filter(|number| set.contains(*number))
         .collect(alloc)
 }
@@ -58,27 +56,9 @@ fn found_in(alloc: Global, numbers: &[u32], set: &IdSet) -> Result<Vec<u32>, Mem
 pub(crate) fn in_both(alloc: Global, numbers: &IdSet, others: &IdSet) -> Result<IdSet, Memory>
     ensures { IfOk result (λ set. set ≡ filter (λ number. has number others.now) numbers.now) }
 {
-    match numbers.as_slice() {
-        [] => Ok(IdSet::new(alloc)),
-        [number] => Ok(one_if(alloc, *number, others.contains(*number))),
-        several => {
-            let both = found_in(alloc, several, others)?;
-            Ok(IdSet::from_ascending(both))
-        }
+    if let Some(number) = numbers.only() {
+        return Ok(one_if(alloc, number, others.contains(number)));
     }
-}
-
-/// The set with the numbers that it gained and without those that it lost. The stretches between them are copied as they
-/// are.
-pub(crate) fn moved(
-    alloc: Global,
-    set: &IdSet,
-    gained: &IdSet,
-    lost: &IdSet,
-) -> Result<IdSet, Memory>
-    ensures members { IfOk result (λ after. (number : ℕ) → has number after ≡ ((has number set.now && not (has number lost.now)) || has number gained.now)) }
-    ensures set { IfOk result (λ after. IsIdSet after) }
-{
-    let numbers = moved_numbers(alloc, set.as_slice(), gained.as_slice(), lost.as_slice())?;
-    Ok(IdSet::from_ascending(numbers))
+    let both = found_in(alloc, numbers, others)?;
+    Ok(IdSet::from_ascending(both))
 }

@@ -96,7 +96,8 @@ pub(crate) fn set_of<L: Ledger>(
     let heading = judged_under(peer);
     let numbers = identities.numbers_under(alloc, &heading)?;
     let own = selected(alloc, peer, numbers.as_slice(), identities, steps)?;
-    Ok(IdSet::from_ascending(own))
+    let set = IdSet::in_blocks(alloc, own)?;
+    Ok(set)
 }
 
 /// Those of a set of numbers that the peer selects. It takes no memory where there is one number at most.
@@ -110,15 +111,11 @@ pub(crate) fn selected_of<L: Ledger>(
     ensures selected { IfOk result (λ own. own ≡ filter (selects_held identities.now peer.now) numbers.now) }
     ensures cost { steps.new ≤ steps.old + steps_of peer.now * length numbers.now }
 {
-    match numbers.as_slice() {
-        [] => Ok(IdSet::new(alloc)),
-        [number] => {
-            let is_selected = selects_held(peer, *number, identities, steps);
-            Ok(one_if(alloc, *number, is_selected))
-        }
-        several => {
-            let own = selected(alloc, peer, several, identities, steps)?;
-            Ok(IdSet::from_ascending(own))
-        }
+    if let Some(number) = numbers.only() {
+        let is_selected = selects_held(peer, number, identities, steps);
+        return Ok(one_if(alloc, number, is_selected));
     }
+    let several = numbers.to_vec(alloc)?;
+    let own = selected(alloc, peer, several.as_slice(), identities, steps)?;
+    Ok(IdSet::from_ascending(own))
 }

@@ -13,7 +13,6 @@ mod judge;
 pub mod laws;
 mod made;
 mod plan;
-mod stretches;
 mod tried;
 
 pub use cache::SelectorCache;

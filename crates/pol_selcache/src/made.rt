@@ -1,9 +1,8 @@
 //! A set that is made once for selectors, one tried after another, whose sets are equal and change alike.
-ghost use Rattle.std.specs.Prelude.{◌≡◌, IfOk, IfSome};
+ghost use Rattle.std.specs.Prelude.{◌≡◌, IfOk, IfSome, IsTrue};
 ghost use Rattle.std.specs.Arc.{arc_value};
 ghost use Rattle.pol_selcache.specs.Made.{IsMadeOf, is_of};
 
-use crate::ids::moved;
 use pol_data::Memory;
 use pol_sets::IdSet;
 use std::alloc::Global;
@@ -39,7 +38,7 @@ impl Made {
         ensures gained { IfOk result (λ made. made.gained ≡ gained.now) }
         ensures lost { IfOk result (λ made. made.lost ≡ lost.now) }
     {
-        let set = moved(alloc, was, gained, lost)?;
+        let set = was.moved(alloc, gained, lost)?;
         Ok(Made {
             was: Arc::try_clone(was)?,
             gained: gained.copy(alloc)?,
@@ -48,11 +47,16 @@ impl Made {
         })
     }
 
-    /// Whether it was made of these.
+    /// Whether it was made of these, and of few numbers: many aren't compared, since a set of many shares all that doesn't
+    /// change.
     fn is_of(&self, was: &IdSet, gained: &IdSet, lost: &IdSet) -> bool
-        ensures { result ≡ is_of was.now gained.now lost.now self.now }
+        ensures { IsTrue result → IsTrue (is_of was.now gained.now lost.now self.now) }
     {
-        *self.was == *was && self.gained == *gained && self.lost == *lost
+        was.is_in_one_piece()
+            && self.was.is_in_one_piece()
+            && *self.was == *was
+            && self.gained == *gained
+            && self.lost == *lost
     }
 
     /// The set that was made.

@@ -59,8 +59,8 @@ pub(crate) fn headings_of(
     ensures gone { IfOk result (λ headings. AllByRecursion (HasAllAt identities.now headings) gone.now) }
 {
     let mut headings = Headings::new(alloc);
-    add_numbers(&mut headings, come.as_slice(), identities)?;
-    add_numbers(&mut headings, gone.as_slice(), identities)?;
+    add_numbers(&mut headings, &come.to_vec(alloc)?, identities)?;
+    add_numbers(&mut headings, &gone.to_vec(alloc)?, identities)?;
     Ok(headings)
 }
 

@@ -1,1 +1,5 @@
+pub mod IdLemmas
+pub mod Between
+pub mod Parted
+pub mod Compared
 pub mod Search

@@ -4,8 +4,13 @@
 //! set each peer selects, and `Moves` which numbers a peer's set gained and lost.
 #![tactic(auto)]
 
+mod block;
+mod blocks;
 mod id_set;
+mod numbers;
 mod sets;
+mod stretches;
 
 pub use id_set::IdSet;
+pub use numbers::Numbers;
 pub use sets::{Move, Moves, SetRow, Sets};

@@ -6,7 +6,7 @@ use Rattle.pol_changes.specs.Net.{came, went, surplus, net}
 use Rattle.pol_changes.specs.Nodes.{found_in}
 use Rattle.pol_changes.proofs.Walk.{from_node, from_newest, walk_falls, IsAhead, IsThere, ahead_taken, ahead_passed, ahead_stopped, ahead_ended}
 use Rattle.pol_changes.proofs.log.net_on_chain.Goals as goal
-use Rattle.pol_changes.proofs.log.net_on_chain.Goals.{then-change-selector+in_ok-extend_from_slice+in_ok-extend_from_slice-2, else-change-selector, in-Some+then-change-revision, in_default}
+use Rattle.pol_changes.proofs.log.net_on_chain.Goals.{then-change-selector+in_ok-push_to+in_ok-push_to-2, else-change-selector, in-Some+then-change-revision, in_default}
 
 pub loop-node-init : goal.loop-node-init
 loop-node-init c =
@@ -35,9 +35,9 @@ loop-node-preserved c =
     let used : IfSome (older_than c.in-Some.at nodes.ages) (IsInUse nodes) = rw c.older-node.ensures.node at c.older-node.ensures.in_use in
     rw c.older-node.ensures.node
     (elim c.if-change-selector.branch [
-      | then-change-selector+in_ok-extend_from_slice+in_ok-extend_from_slice-2 w ↦
-          let more_came = ap (λ v. v.items) w.came-is ∙ w.in_ok-extend_from_slice.ensures.items ∙ ap (λ ids. so_far.came.items ++ ids) w.as_slice.ensures.ids in
-          let more_went = ap (λ v. v.items) w.went-is ∙ w.in_ok-extend_from_slice-2.ensures.items ∙ ap (λ ids. so_far.went.items ++ ids) w.as_slice-then-change-selector.ensures.ids in
+      | then-change-selector+in_ok-push_to+in_ok-push_to-2 w ↦
+          let more_came = ap (λ v. v.items) w.came-is ∙ w.in_ok-push_to.ensures.pushed in
+          let more_went = ap (λ v. v.items) w.went-is ∙ w.in_ok-push_to-2.ensures.pushed in
           rw (more_came, more_went)
           (ahead_taken nodes c.args.selector c.args.revision c.in-Some.at change so_far.came.items so_far.went.items ahead c.get-change.ensures.value c.if-change-revision.false w.if-change-selector.true used)
       | else-change-selector w ↦

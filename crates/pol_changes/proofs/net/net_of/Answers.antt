@@ -1,6 +1,6 @@
 use Rattle.std.proofs.Common.{◌∙◌}
 use Rattle.pol_changes.specs.Net.{surplus}
-use Rattle.pol_changes.proofs.IdLemmas.{surplus-permuted}
+use Rattle.pol_changes.proofs.Surplus.{surplus-permuted}
 use Rattle.pol_changes.proofs.net.net_of.Goals as goal
 
 pub returns : goal.returns

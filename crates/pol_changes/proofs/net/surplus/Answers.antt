@@ -1,5 +1,5 @@
 use Rattle.std.proofs.Common.{◌∙◌}
-use Rattle.pol_changes.proofs.IdLemmas.{kept-ascends, kept-surplus}
+use Rattle.pol_changes.proofs.Surplus.{kept-ascends, kept-surplus}
 use Rattle.pol_changes.proofs.net.surplus.Goals as goal
 
 pub from_ascending-requires : goal.from_ascending-requires

@@ -6,6 +6,6 @@ use Rattle.pol_changes.specs.Ids.{has}
 use Rattle.pol_selcache.proofs.ids.in_both.Goals as goal
 
 pub from_ascending-requires : goal.from_ascending-requires
-from_ascending-requires c =
-    let up = subst (IsStrictlySortedBy nat_cmp) (sym c.as_slice.ensures.ids) c.as_slice.ensures.set.ascends in
-    record { ascending = subst (IsStrictlySortedBy nat_cmp) (sym c.in_ok-both-in_default.ensures) (IsStrictlySortedBy-filter nat_cmp (λ n. has n c.args.others.now) _ up) }
+from_ascending-requires c = record {
+  ascending = subst (IsStrictlySortedBy nat_cmp) (sym c.in_ok-both.ensures) (IsStrictlySortedBy-filter nat_cmp (λ n. has n c.args.others.now) c.args.numbers.now c.only.ensures.set.ascends);
+}

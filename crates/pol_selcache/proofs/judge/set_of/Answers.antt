@@ -11,8 +11,8 @@ use Rattle.pol_selcache.specs.Held.{rows_judged, steps_of}
 use Rattle.pol_selcache.proofs.RowSets.{judged_selected, set_sorted}
 use Rattle.pol_selcache.proofs.judge.set_of.Goals as goal
 
-pub from_ascending-requires : goal.from_ascending-requires
-from_ascending-requires g c =
+pub in_blocks-requires : goal.in_blocks-requires
+in_blocks-requires g c =
     let rows = c.args.identities.now in
     let p = c.args.peer.now in
     let numbers = c.as_slice.ensures.value ∙ c.in_ok-numbers.ensures.numbers ∙ ap (λ (h : Heading). map (λ (row : IdentityRow). row.number) (filter (stands_under h) rows)) c.judged_under-heading.ensures in
@@ -25,7 +25,7 @@ returns-clause-set g c =
     let rows = c.args.identities.now in
     let p = c.args.peer.now in
     let numbers = c.as_slice.ensures.value ∙ c.in_ok-numbers.ensures.numbers ∙ ap (λ (h : Heading). map (λ (row : IdentityRow). row.number) (filter (stands_under h) rows)) c.judged_under-heading.ensures in
-    c.from_ascending.ensures ∙ c.in_ok-own.ensures.selected ∙ ap (filter (selects_held rows p)) numbers ∙ judged_selected rows p c.numbers_under.ensures.sound.numbers
+    c.in_ok-set.ensures.same ∙ c.in_ok-own.ensures.selected ∙ ap (filter (selects_held rows p)) numbers ∙ judged_selected rows p c.numbers_under.ensures.sound.numbers
 
 pub returns-clause-cost : goal.returns-clause-cost
 returns-clause-cost g c =

@@ -13,6 +13,6 @@ loop-i-preserved c = λ p.
     let split : drop (c.loop-i.i - 1) c.args.rows.now ≡ row ∷ drop c.loop-i.i c.args.rows.now =
     drop_more c.args.rows.now (c.loop-i.i - 1) row (omega arith) ∙ (λ j. sym c.index-rows-i.is j ∷ drop (next j) c.args.rows.now) in
     ap set_in (c.in_ok-insert.ensures.updates.0 (at p))
-    ∙ put_row (is_row_of p row) row (find (is_row_of p) (drop c.loop-i.i c.args.rows.now)) c.as_slice.result (get_by (λ k. peers.ghosts.eq p k.now) c.loop-i.table)
-    (c.as_slice.ensures.ids ∙ c.deref.ensures) (c.loop-i.invariant p)
+    ∙ put_row (is_row_of p row) row (find (is_row_of p) (drop c.loop-i.i c.args.rows.now)) c.deref.result (get_by (λ k. peers.ghosts.eq p k.now) c.loop-i.table)
+    c.deref.ensures (c.loop-i.invariant p)
     ∙ ap (set_of_first p) (sym split)
