@@ -6,7 +6,8 @@ ghost use Rattle.pol_chains.specs.Moves.{move_since, moves_of};
 
 use pol_data::{Items, Memory};
 use pol_selcache::SelectorCache;
-use pol_sets::{Move, Moves, Sets};
+use pol_sets::{Move, Moves};
+use pol_taken::TakenSets;
 use std::alloc::Global;
 
 /// The move of one selector, where its number is less than `next`.
@@ -35,7 +36,7 @@ fn push_move(
 pub fn moves_since(
     alloc: Global,
     cache: &SelectorCache,
-    sets: &Sets,
+    sets: &TakenSets,
     next: u64,
     revision: u64,
 ) -> Result<Option<Moves>, Memory>
@@ -45,9 +46,9 @@ pub fn moves_since(
     if revision < cache.horizon() {
         return Ok(None);
     }
-    let mut moves = Vec::new(alloc);
+    let mut moves = Vec::with_capacity(alloc, sets.len())?;
     for row in sets.as_slice() {
-        push_move(alloc, &mut moves, cache, row.selector, next, revision)?;
+        push_move(alloc, &mut moves, cache, row.selector(), next, revision)?;
     }
     Ok(Some(Items::from_vec(moves)))
 }

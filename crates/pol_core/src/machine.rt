@@ -102,13 +102,8 @@ impl Machine {
         ensures options { options_in self.new ≡ options_in self.old }
         ensures step { (m : OneMachine) → Stands self.old m → StepsTo (options_in self.old) m (step.Take slot) self.new result }
     {
-        take(
-            self.alloc,
-            &mut self.repo,
-            &self.rows,
-            &mut self.takes,
-            slot,
-        )
+        self.repo.refresh(self.alloc, slot);
+        take(self.alloc, &self.repo, &self.rows, &mut self.takes, slot)
     }
 
     /// What was taken for the slot is published, or reported as too large.

@@ -44,15 +44,14 @@ fn since(rows: &Rows, endpoints: &[EndpointRow], slot: u32) -> Option<u64>
 /// Takes what the map of the slot's endpoint is made of. The one error is want of memory, and then all is as before.
 pub(crate) fn take(
     alloc: Global,
-    repo: &mut Repo,
+    repo: &Repo,
     rows: &Rows,
     takes: &mut Takes,
     slot: u32,
 ) -> Result<Reply, Memory>
-    requires idle { repo.old.prepared ≡ None }
-    requires kept { IfSome (since_of (by_name rows.now) (endpoint_in slot (state_in repo.old).endpoints)) (λ revision. revision ≤ (state_in repo.old).revision) }
-    ensures same { repo.new ≡ repo.old }
-    ensures taken { WhatTakes repo.old (by_name rows.now) slot (by_slot takes.old) (by_slot takes.new) result }
+    requires idle { repo.now.prepared ≡ None }
+    requires kept { IfSome (since_of (by_name rows.now) (endpoint_in slot (state_in repo.now).endpoints)) (λ revision. revision ≤ (state_in repo.now).revision) }
+    ensures { WhatTakes repo.now (by_name rows.now) slot (by_slot takes.old) (by_slot takes.new) result }
 {
     let since = since(rows, repo.endpoints(), slot);
     match repo.take(alloc, slot, since) {

@@ -3,4 +3,5 @@ pub mod Stamps
 pub mod Listing
 pub mod Telling
 pub mod Applying
+pub mod Copying
 pub mod Keeping

@@ -11,7 +11,7 @@ use pol_data::{Memory, Text};
 use pol_delta::{Changes, Work};
 use pol_edits::ChangeList;
 use pol_sets::{SetRow, Sets};
-use pol_taken::Taken;
+use pol_taken::{Taken, TakenRow};
 use std::alloc::Global;
 use std::sync::Arc;
 
@@ -35,19 +35,19 @@ pub struct Followed {
     pub behind: Option<ChangeList>,
 }
 
-/// The same row, which shares its set.
-fn row_copy(alloc: Global, row: &SetRow) -> Result<SetRow, Memory>
+/// The same row with a peer of its own, which shares its set.
+fn row_copy(alloc: Global, row: &TakenRow) -> Result<SetRow, Memory>
     ensures { IfOk result (λ copy. told copy ≡ told row.now) }
 {
     Ok(SetRow {
-        peer: row.peer.copy(alloc)?,
-        selector: row.selector,
-        set: Arc::try_clone(&row.set)?,
+        peer: row.peer().copy(alloc)?,
+        selector: row.selector(),
+        set: Arc::try_clone(row.set())?,
     })
 }
 
 /// The same rows, which share their sets.
-fn rows_copy(alloc: Global, rows: &[SetRow]) -> Result<Sets, Memory>
+fn rows_copy(alloc: Global, rows: &[TakenRow]) -> Result<Sets, Memory>
     ensures { IfOk result (λ copies. map told copies ≡ map told rows.now) }
 {
     let mut copies = Vec::with_capacity(alloc, rows.len())?;
@@ -128,6 +128,42 @@ impl Followed {
         self.join(alloc)
     }
 
+    /// Goes on to what was taken of the same endpoint later, by rows that say the same, and gives what was taken back, also
+    /// after the one error, which is want of memory.
+    fn go_by_rows(&mut self, alloc: Global, taken: Taken, rows: Sets) -> (Taken, Result<(), Memory>)
+        requires rows { map told rows ≡ map told taken.sets }
+        requires may { MayApply self.old.work (arc_value taken.filters) taken.sets taken.moves }
+        ensures same { result.0 ≡ taken }
+        ensures kept { OnOk result.1 (self.new.kept ≡ taken.revision) }
+        ensures joined { OnOk result.1 (self.new.behind ≡ None) }
+        ensures leads { Stays self.old self.new ⊎ GoesOn (arc_value taken.filters) taken.sets taken.revision self.old self.new }
+    {
+        let Taken {
+            revision,
+            endpoint,
+            filters,
+            sets,
+            moves,
+            addresses,
+        } = taken;
+        let changes = Changes {
+            filters,
+            sets: rows,
+            moves,
+        };
+        let went = self.go_by(alloc, &changes, revision);
+        let Changes { filters, moves, .. } = changes;
+        let taken = Taken {
+            revision,
+            endpoint,
+            filters,
+            sets,
+            moves,
+            addresses,
+        };
+        (taken, went)
+    }
+
     /// Goes on to what was taken of the same endpoint later, and gives that back, also after the one error, which is want of
     /// memory. Where it is of the revision that is kept, nothing is made. After the error the work is as before, or has gone
     /// on, and what is kept leads to its map all the same.
@@ -142,34 +178,11 @@ impl Followed {
             let joined = self.join(alloc);
             return (taken, joined);
         }
-        let Taken {
-            revision,
-            endpoint,
-            filters,
-            sets,
-            moves,
-            addresses,
-        } = taken;
-        let changes = Changes {
-            filters,
-            sets,
-            moves,
-        };
-        let went = self.go_by(alloc, &changes, revision);
-        let Changes {
-            filters,
-            sets,
-            moves,
-        } = changes;
-        let taken = Taken {
-            revision,
-            endpoint,
-            filters,
-            sets,
-            moves,
-            addresses,
-        };
-        (taken, went)
+        let copied = rows_copy(alloc, taken.sets.as_slice());
+        match copied {
+            Ok(rows) => self.go_by_rows(alloc, taken, rows),
+            Err(error) => (taken, Err(error)),
+        }
     }
 
     /// Goes on to what was taken of the same endpoint later, and gives that back. The one error is want of memory: then the

@@ -1,5 +1,5 @@
 -- Rows of filters that are kept.
-use Rattle.std.proofs.Common.{◌≡◌, zero, suc, Bool, true, false, cond, ◌&&◌, List, [], ◌∷◌, filter, refl, sym, ap, subst, ◌∙◌, arith}
+use Rattle.std.proofs.Common.{◌≡◌, zero, suc, Bool, true, false, cond, ◌&&◌, List, [], ◌∷◌, filter, IfOk, Result, Ok, Err, refl, sym, ap, subst, ◌∙◌, arith}
 use Rattle.std.specs.List.{AllByRecursion, IsAmong}
 use Rattle.std.specs.Map.{values_of}
 use Rattle.std.specs.Arc.{arc_value}
@@ -12,10 +12,9 @@ use Rattle.pol_labels.specs.Same.{same_labels}
 use Rattle.pol_labels.specs.SameLaws.{same_labels-Decides}
 use Rattle.pol_model.specs.declared.options.Mode.{Mode}
 use Rattle.pol_model.specs.declared.row.Stamped.{Stamped}
-use Rattle.pol_l4.specs.declared.filter.Filters.{Filters}
 use Rattle.pol_l4.specs.Resolved.{filters_for}
 use Rattle.pol_kept.specs.declared.kept.Kept.{Kept}
-use Rattle.pol_kept.specs.Kept.{IsKeptOf}
+use Rattle.pol_kept.specs.Kept.{AreKeptOf, IsFor, IsKeptOf}
 
 -- what holds of each holds of one of them
 pub every-among : {X : Type 0} (P : X → Type 0) (xs : List X) (x : X) → AllByRecursion P xs → IsAmong xs x → P x
@@ -41,11 +40,23 @@ values-filter p (e ∷ es) = by (p e.1) (values-filter p es)
     by true rest = ap (λ vs. e.1 ∷ vs) rest
     by false rest = rest
 
--- filters that are kept, where they are for these labels
-pub served : (policies : List Stamped) (mode : Mode) (kept : Kept) (labels : List Label) (localhost : Bool) → (beq kept.localhost localhost && same_labels kept.labels labels) ≡ true
-    → (filters : Filters) → filters ≡ arc_value kept.filters → IsKeptOf policies mode kept → filters ≡ filters_for policies labels mode localhost
-served policies mode kept labels localhost same filters its own =
+-- what holds of a value holds of one that is weaker
+pub ok_weaker : {A E : Type 0} (P Q : A → Type 0) (r : Result A E) → ((x : A) → P x → Q x) → IfOk r P → IfOk r Q
+ok_weaker P Q (Ok x) weaker is = weaker x is
+ok_weaker P Q (Err e) weaker is = tt
+
+-- what is kept for these labels and this leave
+pub serves : (kept : Kept) (labels : List Label) (localhost : Bool) → (beq kept.localhost localhost && same_labels kept.labels labels) ≡ true → IsFor labels localhost kept
+serves kept labels localhost same =
     let parts = and_parts (beq kept.localhost localhost) (same_labels kept.labels labels) same in
-    let leave = (booleans_Decides kept.localhost localhost).0 parts.0 in
-    let equal = (same_labels-Decides kept.labels labels).0 parts.1 in
-    its ∙ own ∙ (λ i. filters_for policies (equal i) mode (leave i))
+    record {
+      labels_are = (same_labels-Decides kept.labels labels).0 parts.1;
+      localhost_is = (booleans_Decides kept.localhost localhost).0 parts.0;
+    }
+
+-- its filters are those of the labels
+pub served : (policies : List Stamped) (mode : Mode) (rows : List Kept) (kept : Kept) (labels : List Label) (localhost : Bool) → AreKeptOf policies mode rows → IsAmong rows kept
+    → IsFor labels localhost kept → arc_value kept.filters ≡ filters_for policies labels mode localhost
+served policies mode rows kept labels localhost are there is =
+    every-among (λ (one : Kept). IsKeptOf policies mode one) rows kept are there
+    ∙ (λ i. filters_for policies (is.labels_are i) mode (is.localhost_is i))

@@ -9,6 +9,9 @@ use Rattle.pol_rule.specs.declared.policy.Policy.{Policy}
 use Rattle.pol_model.specs.declared.options.Mode.{Mode}
 use Rattle.pol_model.specs.declared.row.Stamped.{Stamped}
 use Rattle.pol_l4.specs.Resolved.{filters_for}
+use Rattle.pol_selcache.specs.Cache.{Cache}
+use Rattle.pol_taken.specs.Known.{IsKnownIn, IsListingOf}
+use Rattle.pol_taken.specs.PeerRows.{filter_peers}
 use Rattle.pol_kept.specs.declared.kept.Kept.{Kept}
 
 -- the filters are what the policies give the labels in this mode
@@ -18,6 +21,20 @@ IsKeptOf policies mode kept = arc_value kept.filters ≡ filters_for policies ke
 -- so each of them
 abbrev pub AreKeptOf : List Stamped → Mode → List Kept → Type 0
 AreKeptOf policies mode rows = AllByRecursion (λ kept. IsKeptOf policies mode kept) rows
+
+-- it serves for these labels, with this leave for the local host
+pub record IsFor (labels : List Label) (localhost : Bool) (kept : Kept) : Type 0 where
+  pub labels_are : kept.labels ≡ labels
+  pub localhost_is : kept.localhost ≡ localhost
+
+-- its peers are those that the filters list, and their numbers are known
+pub record IsListedIn (cache : Cache) (kept : Kept) : Type 0 where
+  pub listing : IsListingOf (filter_peers (arc_value kept.filters)) kept.known.rows
+  pub numbers : IsKnownIn cache kept.known
+
+-- so each of them
+abbrev pub AreListedIn : Cache → List Kept → Type 0
+AreListedIn cache rows = AllByRecursion (IsListedIn cache) rows
 
 -- some rule of the policy selects the labels
 abbrev pub selects : List Label → Policy → Bool

@@ -1,12 +1,16 @@
 //! The filters of endpoints, by slot.
 ghost use Rattle.std.specs.Prelude.{◌≡◌, [], not, List, IfOk, IfSome};
 ghost use Rattle.std.specs.Arc.{arc_value};
-ghost use Rattle.std.specs.List.{AllByRecursion};
+ghost use Rattle.std.specs.List.{AllByRecursion, IsAmong};
+ghost use Rattle.std.specs.Option.{option_copied};
 ghost use Rattle.pol_model.specs.declared.options.Mode.{Mode as AnyMode};
 ghost use Rattle.pol_model.specs.declared.row.Stamped.{Stamped as OnePolicy};
 ghost use Rattle.pol_model.specs.Sizes.{IsShortPolicy};
 ghost use Rattle.pol_l4.specs.Resolved.{filters_for};
-ghost use Rattle.pol_kept.specs.Kept.{AreKeptOf, selects, without_old, without_selected};
+ghost use Rattle.pol_selcache.specs.Cache.{Cache as AnyCache};
+ghost use Rattle.pol_taken.specs.Known.{IsKnownIn, IsListingOf};
+ghost use Rattle.pol_taken.specs.PeerRows.{filter_peers};
+ghost use Rattle.pol_kept.specs.Kept.{AreKeptOf, AreListedIn, IsFor, IsListedIn, selects, without_old, without_selected};
 
 use crate::kept::Kept;
 use indexmap::IndexMap;
@@ -15,6 +19,7 @@ use pol_l4::{Filters, resolve};
 use pol_labels::LabelSet;
 use pol_model::{Mode, Stamped};
 use pol_rule::Policy;
+use pol_taken::KnownPeers;
 use std::alloc::Global;
 use std::marker::Model;
 use std::sync::Arc;
@@ -54,90 +59,70 @@ impl KeptFilters {
         }
     }
 
-    /// Those that are kept for the slot, where they were resolved for these labels.
-    fn found(
-        &self,
-        slot: u32,
-        labels: &LabelSet,
-        localhost: bool,
-    ) -> Result<Option<Arc<Filters>>, Memory>
-        ensures filters { (policies : List OnePolicy) (mode : AnyMode) → AreKeptOf policies mode self.now
-            → IfOk result (λ found. IfSome found (λ filters. arc_value filters ≡ filters_for policies labels.now mode localhost)) }
+    /// What is kept for the slot, where it was resolved for these labels and with the same leave.
+    pub fn found(&self, slot: u32, labels: &LabelSet, localhost: bool) -> Option<&Kept>
+        ensures kept { IfSome (option_copied result) (λ kept. IsAmong self.now kept) }
+        ensures serves { IfSome (option_copied result) (λ kept. IsFor labels.now localhost kept) }
     {
         match self.rows.get(&slot) {
-            Some(kept) => kept.share_if_for(labels, localhost),
-            None => Ok(None),
+            Some(kept) if kept.is_for(labels, localhost) => Some(kept),
+            _ => None,
         }
     }
 
-    /// Keeps them for the slot, in the place of those that were kept.
-    fn keep(&mut self, slot: u32, kept: Kept) -> Result<(), Memory>
+    /// What the policies say of an endpoint of that slot with these labels (Cilium, Policy Enforcement Modes): the filters
+    /// that are kept, where they were resolved for such labels and with the same leave, and else those that are resolved now.
+    /// The one error is want of memory.
+    pub fn filters_of(
+        &self,
+        alloc: Global,
+        slot: u32,
+        policies: &[Stamped],
+        labels: &LabelSet,
+        mode: Mode,
+        localhost: bool,
+    ) -> Result<Arc<Filters>, Memory>
+        requires short { AllByRecursion (λ stamped. IsShortPolicy stamped.policy) policies.now }
+        requires kept { AreKeptOf policies.now mode self.now }
+        ensures filters { IfOk result (λ filters. arc_value filters ≡ filters_for policies.now labels.now mode localhost) }
+    {
+        match self.found(slot, labels, localhost) {
+            Some(kept) => Arc::try_clone(kept.filters()),
+            None => {
+                let own = resolve(alloc, policies, labels, mode, localhost)?;
+                Ok(Arc::new(alloc, own)?)
+            }
+        }
+    }
+
+    /// Keeps it for the slot, in the place of what was kept.
+    fn put(&mut self, slot: u32, kept: Kept) -> Result<(), Memory>
         ensures kept { (policies : List OnePolicy) (mode : AnyMode) → arc_value kept.filters ≡ filters_for policies kept.labels mode kept.localhost
             → AreKeptOf policies mode self.old → AreKeptOf policies mode self.new }
+        ensures listed { (cache : AnyCache) → IsListedIn cache kept → AreListedIn cache self.old → AreListedIn cache self.new }
     {
         self.rows.insert(slot, kept)?;
         Ok(())
     }
 
-    /// Shares the filters with the slot. The one error is want of memory.
-    fn share(
+    /// Keeps filters and the peers that they list for the slot, in the place of what was kept. The one error is want of
+    /// memory.
+    pub fn keep(
         &mut self,
         alloc: Global,
         slot: u32,
         labels: &LabelSet,
         localhost: bool,
         filters: &Arc<Filters>,
+        known: KnownPeers,
     ) -> Result<(), Memory>
         ensures kept { (policies : List OnePolicy) (mode : AnyMode) → arc_value filters.now ≡ filters_for policies labels.now mode localhost
             → AreKeptOf policies mode self.old → AreKeptOf policies mode self.new }
+        ensures listed { (cache : AnyCache) → IsListingOf (filter_peers (arc_value filters.now)) known.rows → IsKnownIn cache known
+            → AreListedIn cache self.old → AreListedIn cache self.new }
     {
-        let kept = Kept::new(alloc, labels, localhost, filters)?;
-        self.keep(slot, kept)
-    }
-
-    /// Resolves the filters, and keeps them for the slot if there is memory for that.
-    fn resolved(
-        &mut self,
-        alloc: Global,
-        slot: u32,
-        policies: &[Stamped],
-        labels: &LabelSet,
-        mode: Mode,
-        localhost: bool,
-    ) -> Result<Arc<Filters>, Memory>
-        requires short { AllByRecursion (λ stamped. IsShortPolicy stamped.policy) policies.now }
-        requires kept { AreKeptOf policies.now mode self.old }
-        ensures filters { IfOk result (λ filters. arc_value filters ≡ filters_for policies.now labels.now mode localhost) }
-        ensures kept { AreKeptOf policies.now mode self.new }
-    {
-        let own = resolve(alloc, policies, labels, mode, localhost)?;
-        let filters = Arc::new(alloc, own)?;
-        let _shared = self.share(alloc, slot, labels, localhost, &filters);
-        Ok(filters)
-    }
-
-    /// What the policies say of an endpoint of that slot with these labels (Cilium, Policy Enforcement Modes): the filters
-    /// that are kept, where they were resolved for such labels and with the same leave, and else those that are resolved now
-    /// and kept from then on. The one error is want of memory; where memory to keep them alone is wanting, they are given
-    /// all the same.
-    pub fn filters_of(
-        &mut self,
-        alloc: Global,
-        slot: u32,
-        policies: &[Stamped],
-        labels: &LabelSet,
-        mode: Mode,
-        localhost: bool,
-    ) -> Result<Arc<Filters>, Memory>
-        requires short { AllByRecursion (λ stamped. IsShortPolicy stamped.policy) policies.now }
-        requires kept { AreKeptOf policies.now mode self.old }
-        ensures filters { IfOk result (λ filters. arc_value filters ≡ filters_for policies.now labels.now mode localhost) }
-        ensures kept { AreKeptOf policies.now mode self.new }
-    {
-        match self.found(slot, labels, localhost)? {
-            Some(filters) => Ok(filters),
-            None => self.resolved(alloc, slot, policies, labels, mode, localhost),
-        }
+        let kept = Kept::new(alloc, labels, localhost, filters, known)?;
+        self.put(slot, kept)
     }
 
     /// Forgets all that is kept. It takes no memory.

@@ -1,25 +1,23 @@
 //! Filters, with what they were made for.
-ghost use Rattle.std.specs.Prelude.{◌≡◌, ◌&&◌, List, IfOk, IfSome};
+ghost use Rattle.std.specs.Prelude.{◌≡◌, ◌&&◌, IfOk};
 ghost use Rattle.std.specs.Arc.{arc_value};
 ghost use Rattle.std.specs.Bool.{beq};
 ghost use Rattle.pol_labels.specs.Same.{same_labels};
-ghost use Rattle.pol_model.specs.declared.options.Mode.{Mode as AnyMode};
-ghost use Rattle.pol_model.specs.declared.row.Stamped.{Stamped as OnePolicy};
-ghost use Rattle.pol_l4.specs.Resolved.{filters_for};
-ghost use Rattle.pol_kept.specs.Kept.{IsKeptOf};
 
 use pol_data::Memory;
 use pol_l4::Filters;
 use pol_labels::LabelSet;
+use pol_taken::KnownPeers;
 use std::alloc::Global;
 use std::sync::Arc;
 
-/// Filters, with the labels that they were resolved for, and whether with leave for the local host.
+/// Filters, with the labels that they were resolved for, whether with leave for the local host, and the peers that they list.
 #[derive(Drop)]
 pub struct Kept {
     pub(crate) labels: LabelSet,
     pub(crate) localhost: bool,
     pub(crate) filters: Arc<Filters>,
+    pub(crate) known: KnownPeers,
 }
 
 impl Kept {
@@ -29,46 +27,39 @@ impl Kept {
         labels: &LabelSet,
         localhost: bool,
         filters: &Arc<Filters>,
+        known: KnownPeers,
     ) -> Result<Kept, Memory>
         ensures labels { IfOk result (λ kept. kept.labels ≡ labels.now) }
         ensures localhost { IfOk result (λ kept. kept.localhost ≡ localhost) }
         ensures filters { IfOk result (λ kept. arc_value kept.filters ≡ arc_value filters.now) }
+        ensures known { IfOk result (λ kept. kept.known ≡ known) }
     {
         Ok(Kept {
             labels: labels.copy(alloc)?,
             localhost,
             filters: Arc::try_clone(filters)?,
+            known,
         })
     }
 
     /// Whether they were resolved for these labels, with or without this leave.
-    fn is_for(&self, labels: &LabelSet, localhost: bool) -> bool
+    pub(crate) fn is_for(&self, labels: &LabelSet, localhost: bool) -> bool
         ensures same { result ≡ (beq self.now.localhost localhost && same_labels self.now.labels labels.now) }
     {
         self.localhost == localhost && self.labels == *labels
     }
 
     /// The filters.
-    fn share(&self) -> Result<Arc<Filters>, Memory>
-        ensures filters { IfOk result (λ filters. arc_value filters ≡ arc_value self.now.filters) }
+    pub fn filters(&self) -> &Arc<Filters>
+        ensures filters { arc_value result.now ≡ arc_value self.now.filters }
     {
-        let filters = Arc::try_clone(&self.filters)?;
-        Ok(filters)
+        &self.filters
     }
 
-    /// The filters, where they were resolved for these labels. The one error is want of memory.
-    pub(crate) fn share_if_for(
-        &self,
-        labels: &LabelSet,
-        localhost: bool,
-    ) -> Result<Option<Arc<Filters>>, Memory>
-        ensures filters { (policies : List OnePolicy) (mode : AnyMode) → IsKeptOf policies mode self.now
-            → IfOk result (λ found. IfSome found (λ filters. arc_value filters ≡ filters_for policies labels.now mode localhost)) }
+    /// The peers that they list.
+    pub fn known(&self) -> &KnownPeers
+        ensures known { result.now ≡ self.now.known }
     {
-        if !self.is_for(labels, localhost) {
-            return Ok(None);
-        }
-        let filters = self.share()?;
-        Ok(Some(filters))
+        &self.known
     }
 }

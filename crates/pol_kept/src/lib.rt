@@ -8,3 +8,4 @@ mod kept;
 pub mod laws;
 
 pub use filters::KeptFilters;
+pub use kept::Kept;

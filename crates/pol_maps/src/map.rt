@@ -19,7 +19,7 @@ use pol_data::Memory;
 use pol_distill::{MapTable, distill};
 use pol_model::Endpoint;
 use pol_repo::Repo;
-use pol_taken::{TakeError, Taken};
+use pol_taken::{TakeError, Taken, into_sets};
 use std::alloc::Global;
 
 /// What is written of a map.
@@ -31,27 +31,15 @@ pub struct MapText {
     pub live: bool,
 }
 
-/// The endpoint of that name, if one is live.
-fn endpoint_of(alloc: Global, repo: &Repo, name: &str) -> Result<Option<Endpoint>, Memory>
-    requires idle { repo.now.prepared ≡ None }
-    ensures found { IfOk result (λ found. found ≡ endpoint_of name.now (state_in repo.now).endpoints) }
+/// The map of the endpoint of that name, or that none is live after so many commits.
+pub(crate) fn map_of(alloc: Global, repo: &Repo, name: &str) -> Result<MapText, Memory>
+    requires { repo.now.prepared ≡ None }
+    ensures text { IfOk result (λ map. map.text.items ≡ map_text_in repo.now.options (state_in repo.now) (endpoint_of name.now (state_in repo.now).endpoints)) }
+    ensures live { IfOk result (λ map. map.live ≡ is_some (endpoint_of name.now (state_in repo.now).endpoints)) }
 {
     match repo.endpoint(name) {
-        Some(endpoint) => Ok(Some(endpoint.copy(alloc)?)),
-        None => Ok(None),
-    }
-}
-
-/// The map of the endpoint of that name, or that none is live after so many commits.
-pub(crate) fn map_of(alloc: Global, repo: &mut Repo, name: &str) -> Result<MapText, Memory>
-    requires { repo.old.prepared ≡ None }
-    ensures text { IfOk result (λ map. map.text.items ≡ map_text_in repo.old.options (state_in repo.old) (endpoint_of name.now (state_in repo.old).endpoints)) }
-    ensures live { IfOk result (λ map. map.live ≡ is_some (endpoint_of name.now (state_in repo.old).endpoints)) }
-{
-    let found = endpoint_of(alloc, repo, name)?;
-    match found {
         None => no_map(alloc, repo.revision()),
-        Some(endpoint) => map_in_slot(alloc, repo, &endpoint),
+        Some(endpoint) => map_in_slot(alloc, repo, endpoint),
     }
 }
 
@@ -65,26 +53,27 @@ fn no_map(alloc: Global, revision: u64) -> Result<MapText, Memory>
 }
 
 /// The table of the map of an endpoint that is live in its slot.
-fn map_in_slot(alloc: Global, repo: &mut Repo, endpoint: &Endpoint) -> Result<MapText, Memory>
-    requires idle { repo.old.prepared ≡ None }
-    requires slot { endpoint_in endpoint.now.slot (state_in repo.old).endpoints ≡ Some endpoint.now }
-    ensures text { IfOk result (λ map. map.text.items ≡ table_text (policy_map repo.old.options (state_in repo.old) endpoint.now)) }
+fn map_in_slot(alloc: Global, repo: &Repo, endpoint: &Endpoint) -> Result<MapText, Memory>
+    requires idle { repo.now.prepared ≡ None }
+    requires slot { endpoint_in endpoint.now.slot (state_in repo.now).endpoints ≡ Some endpoint.now }
+    ensures text { IfOk result (λ map. map.text.items ≡ table_text (policy_map repo.now.options (state_in repo.now) endpoint.now)) }
     ensures live { IfOk result (λ map. map.live ≡ true) }
 {
     match repo.take(alloc, endpoint.slot, None) {
-        Ok(taken) => taken_map(alloc, &taken),
+        Ok(taken) => taken_map(alloc, taken),
         Err(TakeError::Gone) => unreachable!(),
         Err(TakeError::Memory) => Err(Memory),
     }
 }
 
 /// The table of the map that is made of what was taken.
-fn taken_map(alloc: Global, taken: &Taken) -> Result<MapText, Memory>
-    requires { HaveSets taken.now.sets (arc_value taken.now.filters) }
-    ensures text { IfOk result (λ map. map.text.items ≡ table_text (distilled (arc_value taken.now.filters) taken.now.sets)) }
+fn taken_map(alloc: Global, taken: Taken) -> Result<MapText, Memory>
+    requires { HaveSets taken.sets (arc_value taken.filters) }
+    ensures text { IfOk result (λ map. map.text.items ≡ table_text (distilled (arc_value taken.filters) taken.sets)) }
     ensures live { IfOk result (λ map. map.live ≡ true) }
 {
-    let table = distill(alloc, &taken.filters, &taken.sets)?;
+    let sets = into_sets(alloc, taken.sets)?;
+    let table = distill(alloc, &taken.filters, &sets)?;
     let entries = entries_of(alloc, &table)?;
     let text = table_text(alloc, &entries)?;
     Ok(MapText { text, live: true })

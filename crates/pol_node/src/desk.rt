@@ -176,6 +176,7 @@ impl<N: NodeName, R: Wait + Drop> Desk<N, R> {
         ensures shown { pass.new.has.history ≡ self.new.writer.seen }
     {
         self.writer.show(rt, pass);
+        self.repo.refresh(alloc, slot);
         self.repo.take(alloc, slot, since)
     }
 

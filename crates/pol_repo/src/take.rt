@@ -20,19 +20,17 @@ impl Repo {
     /// the horizon of the journal, `moves` has a move for each row whose peer was listed ever since: what its set has now
     /// and had not, and what it had and has not ('profile').
     ///
-    /// `Gone` comes exactly where no live endpoint has the slot. `Memory` is want of memory. The repository is as before; it
-    /// keeps the filters, and what each address is, until what they are made of changes.
-    pub fn take(&mut self, alloc: Global, slot: u32, since: Option<u64>) -> Result<Taken, TakeError>
-        requires idle { self.old.prepared ≡ None }
-        requires since { IfSome since (λ revision. revision ≤ (state_in self.old).revision) }
-        ensures same { self.new ≡ self.old }
-        ensures taken { IfOk result (IsTakenOf self.old.options (state_in self.old) slot) }
-        ensures map { IfOk result (λ taken. distilled (arc_value taken.filters) taken.sets ≡ policy_map self.old.options (state_in self.old) taken.endpoint) }
-        ensures moves { IfOk result (λ taken. TellsMovesSince self.old.options self.old.journal since taken.sets taken.moves) }
-        ensures gone { IsErrOf result TakeError.Gone ↔ (endpoint_in slot (state_in self.old).endpoints ≡ None) }
+    /// `Gone` comes exactly where no live endpoint has the slot. `Memory` is want of memory. What is kept of it (`refresh`) is
+    /// shared, and the rest is made anew.
+    pub fn take(&self, alloc: Global, slot: u32, since: Option<u64>) -> Result<Taken, TakeError>
+        requires idle { self.now.prepared ≡ None }
+        requires since { IfSome since (λ revision. revision ≤ (state_in self.now).revision) }
+        ensures taken { IfOk result (IsTakenOf self.now.options (state_in self.now) slot) }
+        ensures map { IfOk result (λ taken. distilled (arc_value taken.filters) taken.sets ≡ policy_map self.now.options (state_in self.now) taken.endpoint) }
+        ensures moves { IfOk result (λ taken. TellsMovesSince self.now.options self.now.journal since taken.sets taken.moves) }
+        ensures gone { IsErrOf result TakeError.Gone ↔ (endpoint_in slot (state_in self.now).endpoints ≡ None) }
     {
-        let localhost = self.options.localhost;
-        let mut taken = self.store.take(alloc, slot, localhost)?;
+        let mut taken = self.store.take(alloc, slot, self.options.localhost)?;
         taken.moves = moves_in(
             alloc,
             &self.store,
@@ -41,5 +39,16 @@ impl Repo {
             since,
         )?;
         Ok(taken)
+    }
+
+    /// Keeps what a take of the slot's endpoint shares: its filters with the peers that they list, and what each address is,
+    /// until what they are made of changes. What is kept already stays. The repository is as before. Where memory is
+    /// wanting, or no live endpoint has the slot, less is kept; that is no error, and the next take makes it anew.
+    pub fn refresh(&mut self, alloc: Global, slot: u32)
+        requires idle { self.old.prepared ≡ None }
+        ensures same { self.new ≡ self.old }
+    {
+        let localhost = self.options.localhost;
+        self.store.refresh(alloc, slot, localhost);
     }
 }

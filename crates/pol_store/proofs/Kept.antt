@@ -1,11 +1,22 @@
 -- What a store keeps for takes, as its parts change.
-use Rattle.std.proofs.Common.{◌≡◌, ℕ, List, [], IfOk, OnErr, Option, None, Some, Result, Ok, Err, sym, ap, subst, ◌∙◌}
+use Rattle.std.proofs.Common.{◌≡◌, ℕ, true, false, not, if◌then◌else◌, List, [], ◌∷◌, find, IfOk, OnErr, Option, None, Some, option_map, Result, Ok, Err, refl, sym, ap, subst, ◌∙◌, arith}
 use Rattle.std.specs.Arc.{arc_value}
 use Rattle.std.specs.List.{AllByRecursion, IsDistinct}
 use Rattle.std.specs.declared.sync.Arc.{Arc}
 use Rattle.pol_addr.specs.declared.network.Prefix.{Prefix}
 use Rattle.pol_labels.specs.declared.label.Label.{Label}
+use Rattle.pol_rule.specs.contracts.policy.PeerPartialEq.TheImpl as peers
+use Rattle.pol_rule.specs.declared.policy.Peer.{Peer}
+use Rattle.pol_rule.specs.declared.policy.Policy.{Policy}
 use Rattle.pol_rule.specs.declared.policy.PolicyKey.{PolicyKey}
+use Rattle.pol_data.proofs.Every.{every-kept, every-weaker}
+use Rattle.pol_selcache.specs.Cache.{Cache, carried, with_room}
+use Rattle.pol_selcache.specs.Live.{Live, number_of}
+use Rattle.pol_selcache.specs.Plan.{Plan, Planned, after_changes, changed}
+use Rattle.pol_peers.specs.Numbering.{TakesFreshNumbers}
+use Rattle.pol_peers.specs.References.{KeepsNumbers}
+use Rattle.pol_peers.proofs.Numbering.{fresh_itself, fresh_less}
+use Rattle.pol_taken.proofs.Relisting.{known_on}
 use Rattle.pol_model.specs.declared.options.Mode.{Mode}
 use Rattle.pol_model.specs.declared.row.Endpoint.{Endpoint}
 use Rattle.pol_model.specs.declared.row.IdentityRow.{IdentityRow}
@@ -17,7 +28,7 @@ use Rattle.pol_ident.specs.declared.error.IdentError.{IdentError}
 use Rattle.pol_prefixes.proofs.Numbers.{number_of_labelled}
 use Rattle.pol_addresses.specs.AddressTable.{AddressTable}
 use Rattle.pol_kept.specs.declared.kept.Kept.{Kept}
-use Rattle.pol_kept.specs.Kept.{AreKeptOf, KeysDiffer, without_old, without_selected}
+use Rattle.pol_kept.specs.Kept.{AreKeptOf, AreListedIn, IsListedIn, KeysDiffer, selects, without_old, without_selected}
 use Rattle.pol_kept.proofs.Unselected.{left_with, left_without}
 use Rattle.pol_numbers.specs.declared.hold.LabelsHeld.{LabelsHeld}
 use Rattle.pol_numbers.specs.Held.{Held, HoldsLabels}
@@ -47,6 +58,60 @@ module _ (policies now : List Stamped) (mode : Mode) (old : Option Stamped) (row
   kept_taken_out key differ now_is old_is left_is =
       subst (λ (p : List Stamped). AreKeptOf p mode left) (sym now_is)
       (subst (λ (kept : List Kept). AreKeptOf (removed key policies) mode kept) (sym (left_is ∙ ap (λ (o : Option Stamped). without_old o rows) old_is)) (left_without policies mode rows are key differ))
+
+-- ---- the peers that filters list
+pub none_listed : (cache : Cache) (rows : List Kept) → rows ≡ [] → AreListedIn cache rows
+none_listed cache rows empty = subst (AreListedIn cache) (sym empty) tt
+
+-- changes of sets leave the numbers
+numbers_stay : (changes : List Planned) (p : Peer) (live : List Live) → number_of p (changed changes live) ≡ number_of p live
+numbers_stay changes p [] = refl
+numbers_stay changes p (s ∷ live) =
+    elim (peers.ghosts.eq p s.peer) as (λ b. option_map (λ (x : Live). x.number) (if b then Some (after_changes changes s) else find (λ (x : Live). peers.ghosts.eq p x.peer) (changed changes live))
+    ≡ option_map (λ (x : Live). x.number) (if b then Some s else find (λ (x : Live). peers.ghosts.eq p x.peer) live)) [
+      | true ↦ refl
+      | false ↦ numbers_stay changes p live
+    ]
+
+carried_fresh : (plan : Plan) (cache : Cache) → TakesFreshNumbers cache (carried plan cache)
+carried_fresh plan cache = record {
+  rises = omega arith;
+  lived = λ p number is below. sym (numbers_stay plan.changes p cache.live) ∙ is;
+}
+
+module _ (old new : Cache) (rows : List Kept) where
+  pub listed_on : TakesFreshNumbers old new → AreListedIn old rows → AreListedIn new rows
+  listed_on fresh was =
+      every-weaker (IsListedIn old) (IsListedIn new) (λ kept is. record { listing = is.listing; numbers = known_on old new kept.known fresh is.numbers }) rows was
+
+  pub listed_still : new ≡ old → AreListedIn old rows → AreListedIn new rows
+  listed_still same was = subst (λ (c : Cache). AreListedIn c rows) (sym same) was
+
+  pub listed_in_room : (spare : ℕ) → new ≡ with_room spare old → AreListedIn old rows → AreListedIn new rows
+  listed_in_room spare same was =
+      subst (λ (c : Cache). AreListedIn c rows) (sym same)
+      (every-weaker (IsListedIn old) (IsListedIn (with_room spare old)) (λ kept is. record { listing = is.listing; numbers = record { within = is.numbers.within; numbers = is.numbers.numbers } }) rows was)
+
+  pub listed_less : new.next ≡ old.next → KeepsNumbers new.live old.live → AreListedIn old rows → AreListedIn new rows
+  listed_less next fewer = listed_on (fresh_less old old new (fresh_itself old) next fewer)
+
+  pub listed_carried : (plan : Plan) → new ≡ carried plan old → AreListedIn old rows → AreListedIn new rows
+  listed_carried plan is = listed_on (subst (TakesFreshNumbers old) (sym is) (carried_fresh plan old))
+
+-- where a label set is held, or isn't
+pub listed_held : (revision : ℕ) (labels : List Label) (old new : Held) (rows : List Kept) (result : Result LabelsHeld IdentError)
+    → IfOk result (λ held. HoldsLabels revision labels old new held.number held.plan) → OnErr result (new ≡ old) → AreListedIn old.cache rows → AreListedIn new.cache rows
+listed_held revision labels old new rows (Ok held) ok err was = listed_in_room old.cache new.cache rows _ ok.sets was
+listed_held revision labels old new rows (Err error) ok err was = listed_still old.cache new.cache rows (ap (λ (held : Held). held.cache) err) was
+
+-- what is left as a policy comes or goes
+pub listed_selected : (cache : Cache) (policy : Policy) (rows left : List Kept) → left ≡ without_selected policy rows → AreListedIn cache rows → AreListedIn cache left
+listed_selected cache policy rows left is was =
+    subst (AreListedIn cache) (sym is) (every-kept (IsListedIn cache) (λ (kept : Kept). not (selects kept.labels policy)) rows was)
+
+pub listed_old : (cache : Cache) (old : Option Stamped) (rows left : List Kept) → left ≡ without_old old rows → AreListedIn cache rows → AreListedIn cache left
+listed_old cache None rows left is was = subst (AreListedIn cache) (sym is) was
+listed_old cache (Some stamped) rows left is was = listed_selected cache stamped.policy rows left is was
 
 -- ---- addresses
 -- where prefixes keep their numbers, what tells addresses goes on to tell them

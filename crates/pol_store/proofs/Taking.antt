@@ -1,5 +1,5 @@
 -- What is taken of a store is what is taken of each state that it stands for.
-use Rattle.std.proofs.Common.{◌≡◌, ℕ, Bool, IsSome, Some, sym, ap, ◌∙◌, subst}
+use Rattle.std.proofs.Common.{◌≡◌, ℕ, Bool, IsSome, IfOk, IfSome, Option, None, Some, Result, Ok, Err, sym, ap, ◌∙◌, subst}
 use Rattle.std.specs.Arc.{arc_value}
 use Rattle.std.specs.List.{AllByRecursion}
 use Rattle.pol_addr.specs.declared.address.Addr.{Addr}
@@ -7,6 +7,7 @@ use Rattle.pol_model.specs.declared.options.Options.{Options}
 use Rattle.pol_model.specs.declared.row.Endpoint.{Endpoint}
 use Rattle.pol_model.specs.Remote.{number_at}
 use Rattle.pol_model.specs.State.{State}
+use Rattle.pol_selcache.specs.Cache.{Cache}
 use Rattle.pol_selcache.specs.Live.{number_of}
 use Rattle.pol_peers.specs.References.{RefsOf}
 use Rattle.pol_l4.specs.declared.filter.Filters.{Filters}
@@ -17,6 +18,8 @@ use Rattle.pol_taken.specs.declared.taken.Taken.{Taken}
 use Rattle.pol_taken.specs.OfState.{IsTakenOf}
 use Rattle.pol_taken.specs.PeerRows.{AreSetsFor, filter_peers}
 use Rattle.pol_taken.proofs.Listing.{filters_live}
+use Rattle.pol_store.specs.declared.take.Parts.{Parts}
+use Rattle.pol_store.specs.Takes.{ArePartsFor}
 use Rattle.pol_store.specs.Store.{StandsFor, Stored, peers_of}
 
 -- the peers that an endpoint's filters list are live
@@ -26,6 +29,19 @@ pub listed_live : (stored : Stored) (endpoint : Endpoint) (localhost : Bool) (fi
 listed_live stored endpoint localhost filters refs is =
     subst (λ (own : Filters). AllByRecursion (λ p. IsSome (number_of p stored.cache.live)) (filter_peers own)) (sym is)
     (filters_live stored.state.policies endpoint.labels stored.state.mode localhost stored.cache.live refs)
+
+-- parts that have the filters that are kept, and the sets of their peers, are the endpoint's where these filters are
+pub parts_are : {E : Type 0} (stored : Stored) (endpoint : Endpoint) (localhost : Bool) (cache : Cache) (filters : Filters) (r : Result (Option Parts) E)
+    → cache ≡ stored.cache → filters ≡ filters_for stored.state.policies endpoint.labels stored.state.mode localhost
+    → IfOk r (λ found. IfSome found (λ parts. arc_value parts.filters ≡ filters))
+    → IfOk r (λ found. IfSome found (λ parts. AreSetsFor cache.live filters parts.sets))
+    → IfOk r (λ found. IfSome found (ArePartsFor stored endpoint localhost))
+parts_are stored endpoint localhost cache filters (Ok (Some parts)) same own is sets = record {
+  filters = is ∙ own;
+  sets = subst (λ (c : Cache). AreSetsFor c.live (arc_value parts.filters) parts.sets) same (subst (λ (fs : Filters). AreSetsFor cache.live fs parts.sets) (sym is) sets);
+}
+parts_are stored endpoint localhost cache filters (Ok None) same own is sets = tt
+parts_are stored endpoint localhost cache filters (Err e) same own is sets = tt
 
 module _ (options : Options) (s : State) (slot : ℕ) (stored : Stored) (endpoint : Endpoint) (localhost : Bool) (taken : Taken) where
   pub is_taken : options.localhost ≡ localhost → StandsFor s stored → endpoint_in slot s.endpoints ≡ Some endpoint

@@ -6,6 +6,7 @@
 mod look;
 mod parts;
 mod policy_parts;
+mod refresh;
 mod rows;
 mod store;
 mod take;

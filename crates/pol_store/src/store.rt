@@ -45,7 +45,7 @@ impl Model for Store {
 
     ghost use Rattle.std.specs.List.{AllByRecursion};
     ghost use Rattle.pol_model.specs.Sizes.{IsShortPolicy};
-    ghost use Rattle.pol_kept.specs.Kept.{AreKeptOf, KeysDiffer};
+    ghost use Rattle.pol_kept.specs.Kept.{AreKeptOf, AreListedIn, KeysDiffer};
     ghost use Rattle.pol_store.specs.Inside.{Told};
 
     ghost view = { λ store. record {
@@ -64,7 +64,8 @@ impl Model for Store {
     ghost invariant = { λ store. AllByRecursion (λ stamped. IsShortPolicy stamped.policy) store.policies.list
         × KeysDiffer store.policies.list
         × AreKeptOf store.policies.list store.mode store.kept
-        × Told store.endpoints.list store.numbers.rows store.addresses };
+        × Told store.endpoints.list store.numbers.rows store.addresses
+        × AreListedIn store.numbers.cache store.kept };
 }
 
 impl Store {

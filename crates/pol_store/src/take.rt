@@ -7,30 +7,55 @@ ghost use Rattle.pol_model.specs.State.{State};
 ghost use Rattle.pol_selcache.specs.Live.{number_of};
 ghost use Rattle.pol_peers.specs.References.{RefsOf};
 ghost use Rattle.pol_l4.specs.Resolved.{filters_for};
+ghost use Rattle.pol_kept.specs.Kept.{IsListedIn};
 ghost use Rattle.pol_tables.specs.Tables.{endpoint_in};
 ghost use Rattle.pol_taken.specs.OfState.{IsTakenOf};
 ghost use Rattle.pol_taken.specs.PeerRows.{AreSetsFor, filter_peers};
 ghost use Rattle.pol_store.specs.Inside.{TellsAddresses};
+ghost use Rattle.pol_store.specs.Takes.{ArePartsFor};
 ghost use Rattle.pol_store.specs.Store.{StandsFor, peers_of};
 
 use crate::store::Store;
 use pol_data::Memory;
+use pol_kept::Kept;
 use pol_l4::Filters;
 use pol_model::Endpoint;
-use pol_taken::{Addresses, Sets, TakeError, Taken, sets_of};
+use pol_selcache::SelectorCache;
+use pol_taken::{Addresses, TakeError, Taken, TakenSets, sets_of};
 use std::alloc::Global;
 use std::sync::Arc;
+
+/// The filters of an endpoint, and the sets of the peers that they list.
+#[derive(Drop)]
+pub(crate) struct Parts {
+    pub(crate) filters: Arc<Filters>,
+    pub(crate) sets: TakenSets,
+}
+
+/// The filters that are kept, and the sets of the peers that they list. None where a selector came since these were listed.
+fn parts_of(alloc: Global, cache: &SelectorCache, kept: &Kept) -> Result<Option<Parts>, Memory>
+    requires listed { IsListedIn cache.now kept.now }
+    requires live { AllByRecursion (λ p. IsSome (number_of p cache.now.live)) (filter_peers (arc_value kept.now.filters)) }
+    ensures filters { IfOk result (λ found. IfSome found (λ parts. arc_value parts.filters ≡ arc_value kept.now.filters)) }
+    ensures sets { IfOk result (λ found. IfSome found (λ parts. AreSetsFor cache.now.live (arc_value kept.now.filters) parts.sets)) }
+{
+    let filters = Arc::try_clone(kept.filters())?;
+    let found = kept.known().sets_of(alloc, cache)?;
+    match found {
+        Some(sets) => Ok(Some(Parts { filters, sets })),
+        None => Ok(None),
+    }
+}
 
 impl Store {
     /// What the policies say of the endpoint: as it was taken last, where nothing changed it since.
     fn filters_of(
-        &mut self,
+        &self,
         alloc: Global,
         endpoint: &Endpoint,
         localhost: bool,
     ) -> Result<Arc<Filters>, Memory>
-        ensures same { self.new ≡ self.old }
-        ensures filters { IfOk result (λ filters. arc_value filters ≡ filters_for self.old.state.policies endpoint.now.labels self.old.state.mode localhost) }
+        ensures filters { IfOk result (λ filters. arc_value filters ≡ filters_for self.now.state.policies endpoint.now.labels self.now.state.mode localhost) }
     {
         self.kept.filters_of(
             alloc,
@@ -42,16 +67,52 @@ impl Store {
         )
     }
 
-    /// The sets of the peers that the filters list.
-    fn sets_for(&self, alloc: Global, filters: &Filters) -> Result<Sets, Memory>
-        requires live { AllByRecursion (λ p. IsSome (number_of p self.now.cache.live)) (filter_peers filters.now) }
-        ensures sets { IfOk result (AreSetsFor self.now.cache.live filters.now) }
+    /// The filters that are kept for the endpoint, and the sets of the peers that they list. None where they aren't kept, or
+    /// where a selector came since their peers were listed.
+    fn kept_parts(
+        &self,
+        alloc: Global,
+        endpoint: &Endpoint,
+        localhost: bool,
+    ) -> Result<Option<Parts>, Memory>
+        requires refs { RefsOf (peers_of self.now.state.policies) self.now.cache.live }
+        ensures parts { IfOk result (λ found. IfSome found (ArePartsFor self.now endpoint.now localhost)) }
     {
-        sets_of(alloc, self.numbers.selectors(), filters)
+        match self.kept.found(endpoint.slot, &endpoint.labels, localhost) {
+            Some(kept) => parts_of(alloc, self.numbers.selectors(), kept),
+            None => Ok(None),
+        }
+    }
+
+    /// The filters of the endpoint, and the sets of the peers that they list, looked for by their peers.
+    pub(crate) fn made_parts(
+        &self,
+        alloc: Global,
+        endpoint: &Endpoint,
+        localhost: bool,
+    ) -> Result<Parts, Memory>
+        requires refs { RefsOf (peers_of self.now.state.policies) self.now.cache.live }
+        ensures parts { IfOk result (ArePartsFor self.now endpoint.now localhost) }
+    {
+        let filters = self.filters_of(alloc, endpoint, localhost)?;
+        let sets = sets_of(alloc, self.numbers.selectors(), &filters)?;
+        Ok(Parts { filters, sets })
+    }
+
+    /// The filters of the endpoint, and the sets of the peers that they list: by what is kept, where it is.
+    fn parts(&self, alloc: Global, endpoint: &Endpoint, localhost: bool) -> Result<Parts, Memory>
+        requires refs { RefsOf (peers_of self.now.state.policies) self.now.cache.live }
+        ensures parts { IfOk result (ArePartsFor self.now endpoint.now localhost) }
+    {
+        let found = self.kept_parts(alloc, endpoint, localhost)?;
+        match found {
+            Some(parts) => Ok(parts),
+            None => self.made_parts(alloc, endpoint, localhost),
+        }
     }
 
     /// What each address is, made anew.
-    fn made_addresses(&self, alloc: Global) -> Result<Arc<Addresses>, Memory>
+    pub(crate) fn made_addresses(&self, alloc: Global) -> Result<Arc<Addresses>, Memory>
         ensures tells { IfOk result (λ addresses. TellsAddresses self.now.state.endpoints self.now.state.identities (arc_value addresses)) }
     {
         let prefixes = self.numbers.prefix_table()?;
@@ -72,29 +133,19 @@ impl Store {
         }
     }
 
-    /// What each address is from now on, until endpoints or prefixes change.
-    fn keep_addresses(&mut self, addresses: &Arc<Addresses>)
-        requires tells { TellsAddresses self.old.state.endpoints self.old.state.identities (arc_value addresses.now) }
-        ensures same { self.new ≡ self.old }
+    /// What each address is: as it is kept, or made now.
+    fn addresses(&self, alloc: Global) -> Result<Arc<Addresses>, Memory>
+        ensures tells { IfOk result (λ addresses. TellsAddresses self.now.state.endpoints self.now.state.identities (arc_value addresses)) }
     {
-        self.addresses = Arc::try_clone(addresses).ok();
-    }
-
-    /// What each address is: as it was taken last, where no endpoint or prefix came or went since.
-    fn addresses(&mut self, alloc: Global) -> Result<Arc<Addresses>, Memory>
-        ensures same { self.new ≡ self.old }
-        ensures tells { IfOk result (λ addresses. TellsAddresses self.old.state.endpoints self.old.state.identities (arc_value addresses)) }
-    {
-        if let Some(addresses) = self.kept_addresses()? {
-            return Ok(addresses);
+        let found = self.kept_addresses()?;
+        match found {
+            Some(addresses) => Ok(addresses),
+            None => self.made_addresses(alloc),
         }
-        let addresses = self.made_addresses(alloc)?;
-        self.keep_addresses(&addresses);
-        Ok(addresses)
     }
 
     /// The live endpoint of the slot.
-    fn endpoint_copied(&self, alloc: Global, slot: u32) -> Result<Endpoint, TakeError>
+    pub(crate) fn endpoint_copied(&self, alloc: Global, slot: u32) -> Result<Endpoint, TakeError>
         ensures endpoint { IfOk result (λ endpoint. endpoint_in slot self.now.state.endpoints ≡ Some endpoint) }
         ensures gone { IsErrOf result TakeError.Gone ↔ (endpoint_in slot self.now.state.endpoints ≡ None) }
     {
@@ -105,41 +156,33 @@ impl Store {
     }
 
     /// What is taken for a live endpoint.
-    fn taken_for(
-        &mut self,
-        alloc: Global,
-        endpoint: Endpoint,
-        localhost: bool,
-    ) -> Result<Taken, Memory>
-        requires refs { RefsOf (peers_of self.old.state.policies) self.old.cache.live }
-        ensures same { self.new ≡ self.old }
-        ensures taken { IfOk result (λ taken. (options : AllOptions) (s : State) (slot : ℕ) → options.localhost ≡ localhost → StandsFor s self.old
+    fn taken_for(&self, alloc: Global, endpoint: Endpoint, localhost: bool) -> Result<Taken, Memory>
+        requires refs { RefsOf (peers_of self.now.state.policies) self.now.cache.live }
+        ensures taken { IfOk result (λ taken. (options : AllOptions) (s : State) (slot : ℕ) → options.localhost ≡ localhost → StandsFor s self.now
             → endpoint_in slot s.endpoints ≡ Some endpoint → IsTakenOf options s slot taken) }
-        ensures selectors { IfOk result (λ taken. AllByRecursion (λ row. number_of row.peer self.old.cache.live ≡ Some row.selector) taken.sets) }
+        ensures selectors { IfOk result (λ taken. AllByRecursion (λ row. number_of row.peer self.now.cache.live ≡ Some row.selector) taken.sets) }
     {
-        let filters = self.filters_of(alloc, &endpoint, localhost)?;
-        let sets = self.sets_for(alloc, &filters)?;
+        let parts = self.parts(alloc, &endpoint, localhost)?;
         let addresses = self.addresses(alloc)?;
         Ok(Taken {
             revision: self.revision,
             endpoint,
-            filters,
-            sets,
+            filters: parts.filters,
+            sets: parts.sets,
             moves: None,
             addresses,
         })
     }
 
     /// What the policy map of the endpoint of that slot is made of, with or without leave for the local host (Cilium,
-    /// `--allow-localhost`). It tells no moves of sets, which follow from the journal. `Gone` comes exactly where no live
-    /// endpoint has the slot, and `Memory` is want of memory. The store stays as it is seen; the filters, and what each
-    /// address is, are kept for the next call, and shared by both, until what they are made of changes.
-    pub fn take(&mut self, alloc: Global, slot: u32, localhost: bool) -> Result<Taken, TakeError>
-        requires refs { RefsOf (peers_of self.old.state.policies) self.old.cache.live }
-        ensures same { self.new ≡ self.old }
-        ensures taken { IfOk result (λ taken. (options : AllOptions) (s : State) → options.localhost ≡ localhost → StandsFor s self.old → IsTakenOf options s slot taken) }
-        ensures selectors { IfOk result (λ taken. AllByRecursion (λ row. number_of row.peer self.old.cache.live ≡ Some row.selector) taken.sets) }
-        ensures gone { IsErrOf result TakeError.Gone ↔ (endpoint_in slot self.old.state.endpoints ≡ None) }
+    /// `--allow-localhost`). It tells no moves of sets, which follow from the journal. What is kept of it (`refresh`) is
+    /// shared, and the rest is made anew. `Gone` comes exactly where no live endpoint has the slot, and `Memory` is want of
+    /// memory.
+    pub fn take(&self, alloc: Global, slot: u32, localhost: bool) -> Result<Taken, TakeError>
+        requires refs { RefsOf (peers_of self.now.state.policies) self.now.cache.live }
+        ensures taken { IfOk result (λ taken. (options : AllOptions) (s : State) → options.localhost ≡ localhost → StandsFor s self.now → IsTakenOf options s slot taken) }
+        ensures selectors { IfOk result (λ taken. AllByRecursion (λ row. number_of row.peer self.now.cache.live ≡ Some row.selector) taken.sets) }
+        ensures gone { IsErrOf result TakeError.Gone ↔ (endpoint_in slot self.now.state.endpoints ≡ None) }
     {
         let endpoint = self.endpoint_copied(alloc, slot)?;
         Ok(self.taken_for(alloc, endpoint, localhost)?)

@@ -2,3 +2,4 @@ pub mod Adding
 pub mod Listing
 pub mod Agreed
 pub mod Worked
+pub mod Relisting

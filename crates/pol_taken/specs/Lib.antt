@@ -1,2 +1,3 @@
 pub mod PeerRows
+pub mod Known
 pub mod OfState

@@ -4,14 +4,18 @@
 #![tactic(auto)]
 
 mod error;
+mod known_peers;
 pub mod laws;
 mod listed;
+mod row;
 mod rows;
 mod sets;
 mod taken;
 
 pub use error::TakeError;
+pub use known_peers::KnownPeers;
 pub use pol_addresses::Addresses;
-pub use pol_sets::{Move, Moves, SetRow, Sets};
+pub use pol_sets::{IdSet, Move, Moves};
+pub use row::{TakenRow, TakenSets, into_sets};
 pub use sets::sets_of;
 pub use taken::Taken;

@@ -1,8 +1,9 @@
 //! What an endpoint's policy map is made of, at one revision.
+use crate::row::TakenSets;
 use pol_addresses::Addresses;
 use pol_l4::Filters;
 use pol_model::Endpoint;
-use pol_sets::{Moves, Sets};
+use pol_sets::Moves;
 use std::sync::Arc;
 
 /// What is taken of a state for the endpoint of a slot. It stays as it is whatever is committed afterwards.
@@ -15,7 +16,7 @@ pub struct Taken {
     /// What the policies say of it.
     pub filters: Arc<Filters>,
     /// One row for each distinct peer that the filters list.
-    pub sets: Sets,
+    pub sets: TakenSets,
     /// How the sets changed since an earlier revision, where one is known.
     pub moves: Option<Moves>,
     /// What each address is.

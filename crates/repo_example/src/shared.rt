@@ -28,6 +28,7 @@ fn taken_after<L: Ledger>(
     ensures idle { IfSome result (λ _. repo.new.prepared ≡ None) }
 {
     commit(repo, request, steps)?;
+    repo.refresh(alloc, 0);
     repo.take(alloc, 0, None).ok()
 }
 
@@ -37,6 +38,7 @@ fn taken_first<L: Ledger>(alloc: Global, repo: &mut Repo, steps: &mut Steps<L>) 
     ensures idle { IfSome result (λ _. repo.new.prepared ≡ None) }
 {
     fill(alloc, repo, steps)?;
+    repo.refresh(alloc, 0);
     repo.take(alloc, 0, None).ok()
 }
 

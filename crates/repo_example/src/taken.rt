@@ -21,8 +21,8 @@ pub(crate) fn fill<L: Ledger>(alloc: Global, repo: &mut Repo, steps: &mut Steps<
 }
 
 /// What is taken of slot 0, with the moves since a revision.
-fn take(alloc: Global, repo: &mut Repo, since: u64) -> Option<Taken>
-    requires idle { repo.old.prepared ≡ None }
+fn take(alloc: Global, repo: &Repo, since: u64) -> Option<Taken>
+    requires idle { repo.now.prepared ≡ None }
 {
     if repo.revision() < since {
         return None;
@@ -39,7 +39,7 @@ fn taken_over<L: Ledger>(blank: Blank, alloc: Global, since: u64) -> Option<Take
     let mut steps = Steps::<L>::new(blank);
     let mut repo = Repo::new(alloc, Mode::Default, true).ok()?;
     fill(alloc, &mut repo, &mut steps)?;
-    take(alloc, &mut repo, since)
+    take(alloc, &repo, since)
 }
 
 fn show_endpoint<R: Print>(rt: &R, taken: &Taken) -> Result<()> {
@@ -57,8 +57,8 @@ fn show_sets<R: Print>(rt: &R, taken: &Taken) -> Result<()> {
     for row in taken.sets.as_slice() {
         println!(rt;
             "a set of {} with 16777217: {}",
-            row.set.len(),
-            row.set.contains(16_777_217)
+            row.set().len(),
+            row.set().contains(16_777_217)
         )?;
     }
     Ok(())

@@ -1,14 +1,20 @@
-use Rattle.std.proofs.Common.{List, ap, subst, sym}
-use Rattle.std.specs.Map.{values_of}
-use Rattle.pol_kept.specs.declared.kept.Kept.{Kept}
-use Rattle.pol_kept.specs.Kept.{AreKeptOf, IsKeptOf}
-use Rattle.pol_kept.proofs.Rows.{every-put}
+use Rattle.std.proofs.Common.{sym, subst, ◌∙◌}
+use Rattle.std.specs.Arc.{arc_value}
+use Rattle.pol_l4.specs.declared.filter.Filters.{Filters}
+use Rattle.pol_l4.specs.Resolved.{filters_for}
+use Rattle.pol_taken.specs.Known.{IsKnownIn, IsListingOf, ListedPeers}
+use Rattle.pol_taken.specs.PeerRows.{filter_peers}
 use Rattle.pol_kept.proofs.filters.KeptFilters.keep.Goals as goal
 
 pub returns : goal.returns
-returns c = record {
-  kept = λ policies mode own are.
-      subst (λ (rows : List Kept). AreKeptOf policies mode rows) (sym (ap values_of c.in_ok-insert.ensures.entries))
-      (every-put (λ (kept : Kept). IsKeptOf policies mode kept) _ c.self.inside.rows.entries c.args.slot c.args.kept
-      (subst (λ (rows : List Kept). AreKeptOf policies mode rows) (sym c.self.view_is) are) own);
-}
+returns c =
+    record {
+      kept = λ policies mode own are.
+          c.put.ensures.kept policies mode (c.in_ok-kept.ensures.filters ∙ own ∙ sym (λ i. filters_for policies (c.in_ok-kept.ensures.labels i) mode (c.in_ok-kept.ensures.localhost i))) are;
+      listed = λ cache listing known are.
+          c.put.ensures.listed cache (record {
+            listing = subst (λ (fs : Filters). IsListingOf (filter_peers fs) c.in_ok-kept.kept.known.rows) (sym c.in_ok-kept.ensures.filters)
+                (subst (λ (k : ListedPeers). IsListingOf (filter_peers (arc_value c.args.filters.now)) k.rows) (sym c.in_ok-kept.ensures.known) listing);
+            numbers = subst (IsKnownIn cache) (sym c.in_ok-kept.ensures.known) known;
+          }) are;
+    }

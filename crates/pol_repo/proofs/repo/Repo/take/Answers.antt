@@ -1,12 +1,8 @@
-use Rattle.std.proofs.Common.{◌≡◌, ◌<◌, ℕ, List, Some, IfSome, length, ap, subst, sym, vec_len, ◌∙◌}
-use Rattle.std.specs.List.{AllByRecursion}
+use Rattle.std.proofs.Common.{◌<◌, ℕ, List, IfSome, length, ap, subst, sym, vec_len, ◌∙◌}
 use Rattle.std.specs.Vec.{vec_capacity}
 use Rattle.pol_facts.specs.WithoutFaults.{WithoutFaults}
-use Rattle.pol_selcache.specs.Live.{number_of}
-use Rattle.pol_store.specs.Store.{Stored}
 use Rattle.pol_taken.proofs.Agreed.{taken_map}
 use Rattle.pol_chains.specs.Moves.{moves_by}
-use Rattle.pol_repo.specs.Inside.{IsSound, IsTold}
 use Rattle.pol_repo.specs.Repository.{Repository, state_in}
 use Rattle.pol_repo.proofs.Standing.{stands}
 use Rattle.pol_repo.proofs.Taking.{refs_of, rows_live, with_moves}
@@ -28,10 +24,7 @@ moves_in-requires-clause-within c =
     c.args.since c.requires.since)
 
 pub moves_in-requires-clause-live : goal.moves_in-requires-clause-live
-moves_in-requires-clause-live c =
-    let rows = c.in_ok-taken.taken.sets in
-    rows_live c.take.new.self.cache.live rows
-    (subst (λ (t : Stored). AllByRecursion (λ row. number_of row.peer t.cache.live ≡ Some row.selector) rows) (sym c.take.ensures.same) c.in_ok-taken.ensures.selectors)
+moves_in-requires-clause-live c = rows_live c.self.inside.store.cache.live c.in_ok-taken.taken.sets c.in_ok-taken.ensures.selectors
 
 pub returns-clause-taken : goal.returns-clause-taken
 returns-clause-taken c =
@@ -50,12 +43,4 @@ returns-clause-moves c =
     moves_are c.self.inside.options c.self.inside.journal.items (vec_len c.self.inside.journal) (vec_capacity c.self.inside.journal) c.self.inside.store c.self.inside.prepared c.args.self.now
     c.self.view_is c.self.invariant.0 c.self.inside.nexts.items (vec_len c.self.inside.nexts) (vec_capacity c.self.inside.nexts) c.self.invariant.1 c.requires.idle
     c.args.since c.requires.since c.in_ok-taken.taken.sets c.in_ok-taken.ensures.selectors c.in_ok-taken-2.field-0
-    (c.in_ok-taken-2.ensures.moves
-    ∙ ap (λ (t : Stored). moves_by t.cache.log c.as_slice.result.now c.args.since c.in_ok-taken.taken.sets) c.take.ensures.same
-    ∙ ap (λ (nexts : List ℕ). moves_by c.self.inside.store.cache.log nexts c.args.since c.in_ok-taken.taken.sets) c.as_slice.ensures.value)
-
-pub invariant_of-self : goal.invariant_of-self
-invariant_of-self c = (
-  subst (λ (t : Stored). IsSound c.self.inside.options c.self.inside.journal.items (vec_len c.self.inside.journal) (vec_capacity c.self.inside.journal) t c.self.inside.prepared) (sym c.take.ensures.same) c.self.invariant.0,
-  subst (λ (t : Stored). IsTold c.self.inside.options c.self.inside.journal.items c.self.inside.nexts.items (vec_len c.self.inside.nexts) (vec_capacity c.self.inside.nexts) t c.self.inside.prepared) (sym c.take.ensures.same) c.self.invariant.1,
-)
+    (c.in_ok-taken-2.ensures.moves ∙ ap (λ (nexts : List ℕ). moves_by c.self.inside.store.cache.log nexts c.args.since c.in_ok-taken.taken.sets) c.as_slice.ensures.value)

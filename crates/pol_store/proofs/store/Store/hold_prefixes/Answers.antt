@@ -3,6 +3,7 @@ use Rattle.pol_model.specs.declared.limits.TheConstants.{LOCAL_IDENTITIES}
 use Rattle.pol_model.specs.Fault.{locals_held, locals_wanted}
 use Rattle.pol_ident.specs.declared.error.IdentError.TheVariants.{Exhausted}
 use Rattle.pol_store.specs.Store.{Stored}
+use Rattle.pol_store.proofs.Kept.{listed_in_room}
 use Rattle.pol_store.proofs.store.Store.hold_prefixes.Goals as goal
 
 pub returns-clause-exhausted : goal.returns-clause-exhausted
@@ -16,4 +17,5 @@ invariant_of-self g c = (
   c.self.invariant.1,
   c.self.invariant.2,
   tt,
+  listed_in_room c.self.inside.numbers.cache c.hold_prefixes.new.self.cache c.self.inside.kept _ c.hold_prefixes.ensures.sets c.self.invariant.4,
 )

@@ -4,7 +4,7 @@ use Rattle.pol_model.specs.declared.row.Stamped.{Stamped}
 use Rattle.pol_model.specs.Sizes.{IsShortPolicy}
 use Rattle.pol_facts.proofs.PolicyHolders.{applied_differ}
 use Rattle.pol_kept.specs.Kept.{KeysDiffer}
-use Rattle.pol_store.proofs.Kept.{kept_put}
+use Rattle.pol_store.proofs.Kept.{kept_put, listed_old, listed_selected}
 use Rattle.pol_store.proofs.PolicyRows.{every_applied}
 use Rattle.pol_store.proofs.store.Store.put.Goals as goal
 
@@ -17,4 +17,5 @@ invariant_of-self c =
       kept_put policies c.put-old.new.self.list c.self.inside.mode c.put-old.result c.self.inside.kept c.forget_old.new.self c.self.invariant.2
           c.args.new c.forget_selected.new.self c.put-old.ensures.list c.put-old.ensures.replaced c.forget_selected.ensures.left c.forget_old.ensures.left,
       c.self.invariant.3,
+      listed_old c.self.inside.numbers.cache c.put-old.result c.forget_selected.new.self c.forget_old.new.self c.forget_old.ensures.left (listed_selected c.self.inside.numbers.cache c.args.new.policy c.self.inside.kept c.forget_selected.new.self c.forget_selected.ensures.left c.self.invariant.4),
     )

@@ -6,4 +6,5 @@ invariant_of-self c = (
   c.self.invariant.1,
   c.self.invariant.2,
   tt,
+  c.self.invariant.4,
 )

@@ -2,7 +2,7 @@ use Rattle.std.proofs.Common.{ap, ◌∙◌}
 use Rattle.pol_model.specs.Prefixes.{number_of_prefix}
 use Rattle.pol_prefixes.proofs.Numbers.{number_of_left}
 use Rattle.pol_numbers.specs.Held.{Held}
-use Rattle.pol_store.proofs.Kept.{told_moved}
+use Rattle.pol_store.proofs.Kept.{listed_still, told_moved}
 use Rattle.pol_store.proofs.store.Store.release.Goals as goal
 
 pub invariant_of-self : goal.invariant_of-self
@@ -14,4 +14,5 @@ invariant_of-self c =
       told_moved c.self.inside.endpoints.list rows c.release.new.self.rows c.self.inside.addresses
           (λ own. ap (λ (h : Held). number_of_prefix own h.rows) c.release.ensures.released ∙ number_of_left rows c.identities-rows.ensures.sound c.args.number c.requires.not_local own)
           c.self.invariant.3,
+      listed_still c.self.inside.numbers.cache c.release.new.self.cache c.self.inside.kept (ap (λ (h : Held). h.cache) c.release.ensures.released) c.self.invariant.4,
     )

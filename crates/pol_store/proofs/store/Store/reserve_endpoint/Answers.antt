@@ -9,4 +9,5 @@ invariant_of-self c = (
   c.self.invariant.1,
   c.self.invariant.2,
   subst (λ (endpoints : List Endpoint). Told endpoints c.self.inside.numbers.rows c.self.inside.addresses) (sym c.reserve.ensures.list) c.self.invariant.3,
+  c.self.invariant.4,
 )

@@ -12,4 +12,5 @@ invariant_of-self c =
       subst (λ (p : List Stamped). KeysDiffer p) same c.self.invariant.1,
       subst (λ (p : List Stamped). AreKeptOf p c.self.inside.mode c.self.inside.kept) same c.self.invariant.2,
       c.self.invariant.3,
+      c.self.invariant.4,
     )

@@ -7,7 +7,7 @@ use Rattle.pol_model.specs.Sizes.{IsShortPolicy}
 use Rattle.pol_facts.proofs.Distinct.{differ_filtered}
 use Rattle.pol_facts.proofs.PolicyHolders.{same_key-Decides}
 use Rattle.pol_kept.specs.Kept.{KeysDiffer}
-use Rattle.pol_store.proofs.Kept.{kept_taken_out}
+use Rattle.pol_store.proofs.Kept.{kept_taken_out, listed_old}
 use Rattle.pol_store.proofs.store.Store.take_out.Goals as goal
 
 pub invariant_of-self : goal.invariant_of-self
@@ -20,4 +20,5 @@ invariant_of-self c =
       kept_taken_out policies c.remove-old.new.self.list c.self.inside.mode c.remove-old.result c.self.inside.kept c.forget_old.new.self c.self.invariant.2
           c.args.key.now c.self.invariant.1 c.remove-old.ensures.list c.remove-old.ensures.removed c.forget_old.ensures.left,
       c.self.invariant.3,
+      listed_old c.self.inside.numbers.cache c.remove-old.result c.self.inside.kept c.forget_old.new.self c.forget_old.ensures.left c.self.invariant.4,
     )

@@ -3,7 +3,7 @@ use Rattle.pol_selcache.specs.Live.{AreExact}
 use Rattle.pol_peers.specs.Listed.{listed_peers}
 use Rattle.pol_peers.specs.References.{HasRefs}
 use Rattle.pol_store.specs.Store.{Stored}
-use Rattle.pol_store.proofs.Kept.{told_still}
+use Rattle.pol_store.proofs.Kept.{listed_less, told_still}
 use Rattle.pol_store.proofs.store.Store.unrefer.Goals as goal
 
 pub unrefer-requires : goal.unrefer-requires
@@ -20,4 +20,5 @@ invariant_of-self c = (
   c.self.invariant.1,
   c.self.invariant.2,
   told_still c.self.inside.endpoints.list c.self.inside.numbers.rows c.unrefer.new.self.rows c.self.inside.addresses c.unrefer.ensures.rows c.self.invariant.3,
+  listed_less c.self.inside.numbers.cache c.unrefer.new.self.cache c.self.inside.kept c.unrefer.ensures.next c.unrefer.ensures.kept c.self.invariant.4,
 )

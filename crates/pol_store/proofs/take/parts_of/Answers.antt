@@ -1,0 +1,30 @@
+use Rattle.std.proofs.Common.{IfSome, IsSome, sym, ◌∙◌, subst}
+use Rattle.std.specs.Arc.{arc_value}
+use Rattle.std.specs.List.{AllByRecursion}
+use Rattle.pol_l4.specs.declared.filter.Filters.{Filters}
+use Rattle.pol_selcache.specs.Live.{number_of}
+use Rattle.pol_taken.specs.Known.{IsKnownIn, IsListingOf, Listed, ListedPeers}
+use Rattle.pol_taken.specs.PeerRows.{AreSetsFor, filter_peers}
+use Rattle.pol_taken.proofs.Relisting.{listed_live}
+use Rattle.pol_store.proofs.take.parts_of.Goals as goal
+
+pub sets_of-requires : goal.sets_of-requires
+sets_of-requires c =
+    let kept = c.args.kept.now in
+    let cache = c.args.cache.now in
+    record {
+      known = subst (IsKnownIn cache) (sym c.known.ensures.known) c.requires.listed.numbers;
+      live = subst (λ (k : ListedPeers). AllByRecursion (λ (row : Listed). IsSome (number_of row.peer cache.live)) k.rows) (sym c.known.ensures.known)
+          (listed_live cache (filter_peers (arc_value kept.filters)) kept.known.rows c.requires.live c.requires.listed.listing.listed);
+    }
+
+pub returns-in-Some : goal.returns-in-Some
+returns-in-Some c =
+    let kept = c.args.kept.now in
+    let cache = c.args.cache.now in
+    let told = subst (λ o. IfSome o (λ sets. (filters : Filters) → IsListingOf (filter_peers filters) c.known.result.now.rows → AreSetsFor cache.live filters sets)) c.in-Some.is c.in_ok-found.ensures.sets in
+    record {
+      filters = c.in_ok-filters.ensures ∙ c.filters.ensures.filters;
+      sets = told (arc_value kept.filters)
+          (subst (λ (k : ListedPeers). IsListingOf (filter_peers (arc_value kept.filters)) k.rows) (sym c.known.ensures.known) c.requires.listed.listing);
+    }
