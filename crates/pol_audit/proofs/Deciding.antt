@@ -31,8 +31,9 @@ use Rattle.pol_mapkey.proofs.Longest.{longest_is, longest_none, one_kind}
 use Rattle.pol_audit.specs.declared.group.Group.{Group}
 use Rattle.pol_audit.specs.Exact.{AreAmong, IsSplit, words_of}
 use Rattle.pol_audit.specs.Extent.{part_of}
-use Rattle.pol_audit.specs.Kinds.{PortsAscend, both_said, last_at, later, numbered, said_by, those_for, word_of_kinds}
+use Rattle.pol_audit.specs.Kinds.{PortsAscend, both_said, last_at, later, numbered, said_by, those_for}
 use Rattle.pol_audit.specs.Tables.{IsTable, entry_order}
+use Rattle.pol_mapkey.proofs.Words.{word_is}
 use Rattle.pol_audit.proofs.Steady.{less_is}
 use Rattle.pol_audit.proofs.Whole.{same_dir, twice}
 
@@ -253,17 +254,6 @@ module _ (table : List Entry) (up : IsTable table) (dir : Direction) (id : ℕ) 
             )
 
 -- ---- what the entries of a number and those of 0 say is what the table says
-word_is : (a b : Option Entry) → word_of_kinds (option_map (λ e. e.1) a) (option_map (λ e. e.1) b) ≡ word_of a b
-word_is None None = refl
-word_is None (Some (k, Allow)) = refl
-word_is None (Some (k, Deny)) = refl
-word_is (Some (k, Allow)) None = refl
-word_is (Some (k, Deny)) None = refl
-word_is (Some (k, Allow)) (Some (l, Allow)) = refl
-word_is (Some (k, Allow)) (Some (l, Deny)) = refl
-word_is (Some (k, Deny)) (Some (l, Allow)) = refl
-word_is (Some (k, Deny)) (Some (l, Deny)) = refl
-
 nothing_at : (port : ℕ) → last_at port [] ≡ None
 unfolding last_at
 nothing_at port = refl

@@ -6,7 +6,7 @@ use Rattle.pol_ports.specs.PortPrefix.{prefix_holds}
 use Rattle.pol_mapkey.specs.declared.Kind.{Kind}
 use Rattle.pol_mapkey.specs.declared.Word.{Word}
 use Rattle.pol_mapkey.specs.declared.Word.TheVariants.{Allowed, DeniedByRule, DeniedByDefault}
-use Rattle.pol_mapkey.specs.Entries.{Entry, is_deny}
+use Rattle.pol_mapkey.specs.Entries.{Entry, word_of_kinds}
 use Rattle.pol_mapkey.specs.KeyProto.{key_proto, proto_covers}
 
 -- the second, or the first where there is no second
@@ -36,16 +36,6 @@ begins_by port (Some e) = nat_le e.0.port.bits port
 abbrev pub has_ended : ℕ → Option Entry → Bool
 has_ended port None = false
 has_ended port (Some e) = not (prefix_holds e.0.port port)
-
--- whether the kind is a deny
-abbrev pub denies : Option Kind → Bool
-denies None = false
-denies (Some kind) = is_deny kind
-
--- what the kinds of two deciding entries say
-abbrev pub word_of_kinds : Option Kind → Option Kind → Word
-word_of_kinds own every =
-    if denies own || denies every then DeniedByRule else (if is_some own || is_some every then Allowed else DeniedByDefault)
 
 -- what the entries of a number and those of 0 say of a port
 abbrev pub said_by : Proto → List Entry → List Entry → ℕ → Word

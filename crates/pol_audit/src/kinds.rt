@@ -4,7 +4,7 @@ ghost use Rattle.std.specs.List.{Contains};
 ghost use Rattle.std.specs.List.Sorted.{IsNonDecreasingBy, IsStrictlySortedBy};
 ghost use Rattle.std.specs.Ordering.{nat_cmp};
 ghost use Rattle.pol_mapkey.specs.Entries.{Entry};
-ghost use Rattle.pol_audit.specs.Kinds.{PortsAscend, begins_by, denies, has_ended, kind_at, last_at, said_by, those_for, word_of_kinds};
+ghost use Rattle.pol_audit.specs.Kinds.{PortsAscend, begins_by, has_ended, kind_at, last_at, said_by, those_for};
 
 use crate::cuts::is_for;
 use pol_data::{Memory, Steps};
@@ -125,29 +125,6 @@ fn kinds_of<L: Ledger>(
     Ok(kinds)
 }
 
-/// Whether the kind is a deny.
-fn denies(kind: Option<Kind>) -> bool
-    ensures { result ≡ denies kind }
-{
-    match kind {
-        Some(Kind::Deny) => true,
-        Some(Kind::Allow) | None => false,
-    }
-}
-
-/// What the kinds of two deciding entries say: a deny on either denies, and else an allow on either allows.
-fn word_of(own: Option<Kind>, every: Option<Kind>) -> Word
-    ensures { result ≡ word_of_kinds own every }
-{
-    if denies(own) || denies(every) {
-        Word::DeniedByRule
-    } else if own.is_some() || every.is_some() {
-        Word::Allowed
-    } else {
-        Word::DeniedByDefault
-    }
-}
-
 /// The kinds that entries for packets of a protocol have at these ports.
 fn kinds_for<L: Ledger>(
     alloc: Global,
@@ -186,7 +163,7 @@ pub(crate) fn words_of<L: Ledger>(
     let every_kinds = kinds_for(alloc, every, proto, ports, steps)?;
     let mut words = Vec::with_capacity(alloc, ports.len())?;
     for i in 0..ports.len() {
-        words.push(word_of(own_kinds[i], every_kinds[i]))?;
+        words.push(Word::of(own_kinds[i], every_kinds[i]))?;
     }
     Ok(words)
 }

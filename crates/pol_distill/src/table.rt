@@ -2,7 +2,7 @@
 ghost use Rattle.std.specs.Prelude.{◌≡◌, Option, ◌-◌, ◌<◌, ◌≤◌, ◌^◌, Some, length, option_map};
 ghost use Rattle.std.specs.List.{slice_get};
 ghost use Rattle.pol_ports.specs.PortPrefix.{prefix_at};
-ghost use Rattle.pol_mapkey.specs.Entries.{Entry, longest, read_map, word_of};
+ghost use Rattle.pol_mapkey.specs.Entries.{longest, read_map};
 ghost use Rattle.pol_mapkey.specs.MapKey.{every_key, port_key};
 ghost use Rattle.pol_distill.specs.Sorted.{IsKindOf, IsTable};
 
@@ -48,19 +48,6 @@ fn prefix_at(port: u16, len: u8) -> PortPrefix
     PortPrefix {
         bits: (u32::from(port) / size * size) as u16,
         len,
-    }
-}
-
-/// What the kinds of the deciding entries of an identity and of identity 0 say.
-fn word_of(own: Option<Kind>, every: Option<Kind>) -> Word
-    ensures { (a b : Option Entry) → own ≡ option_map (λ e. e.1) a → every ≡ option_map (λ e. e.1) b → result ≡ word_of a b }
-{
-    if own == Some(Kind::Deny) || every == Some(Kind::Deny) {
-        Word::DeniedByRule
-    } else if own.is_some() || every.is_some() {
-        Word::Allowed
-    } else {
-        Word::DeniedByDefault
     }
 }
 
@@ -121,6 +108,6 @@ impl MapTable {
     {
         let own = self.longest(dir, id, proto, port);
         let every = self.longest(dir, EVERY_IDENTITY, proto, port);
-        word_of(own, every)
+        Word::of(own, every)
     }
 }

@@ -3,3 +3,4 @@ pub mod Order
 pub mod Longest
 pub mod Equality
 pub mod KeyOrder
+pub mod Words

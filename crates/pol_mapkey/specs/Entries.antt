@@ -1,5 +1,5 @@
 -- How a policy map is read (profile: how the keys of two identities are weighed).
-use Rattle.std.specs.Prelude.{◌≢◌, ℕ, Bool, true, false, not, ◌&&◌, ◌||◌, ◌==◌, List, Option, Some, None, if◌then◌else◌}
+use Rattle.std.specs.Prelude.{◌≢◌, ℕ, Bool, true, false, not, ◌&&◌, ◌||◌, ◌==◌, List, Option, Some, None, is_some, if◌then◌else◌}
 use Rattle.std.specs.List.{find, list_all, AllPairs}
 use Rattle.pol_ports.specs.declared.Direction.{Direction}
 use Rattle.pol_ports.specs.declared.Proto.{Proto}
@@ -48,6 +48,16 @@ allows (Some e) = not (is_deny e.1)
 abbrev pub word_of : Option Entry → Option Entry → Word
 word_of own every =
     if denies own || denies every then DeniedByRule else (if allows own || allows every then Allowed else DeniedByDefault)
+
+-- whether there is a kind, and it is a deny
+abbrev pub kind_denies : Option Kind → Bool
+kind_denies None = false
+kind_denies (Some kind) = is_deny kind
+
+-- the same word by the kinds of these entries alone
+abbrev pub word_of_kinds : Option Kind → Option Kind → Word
+word_of_kinds own every =
+    if kind_denies own || kind_denies every then DeniedByRule else (if is_some own || is_some every then Allowed else DeniedByDefault)
 
 -- what the map of these entries says of a packet to or from the identity
 unfoldable pub read_map : List Entry → Direction → ℕ → Proto → ℕ → Word

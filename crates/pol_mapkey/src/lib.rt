@@ -8,6 +8,7 @@ ghost use Rattle.std.specs.Prelude.{◌≡◌};
 ghost use Rattle.pol_mapkey.specs.declared.KeyProto.{KeyProto};
 ghost use Rattle.pol_mapkey.specs.declared.KeyProto.TheVariants.{Every};
 
+mod deciding;
 pub mod laws;
 
 use pol_ports::{Direction, PortPrefix, Proto};

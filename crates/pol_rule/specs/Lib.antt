@@ -1,3 +1,4 @@
 pub mod Covers
 pub mod Keys
 pub mod Prefixes
+pub mod Causes

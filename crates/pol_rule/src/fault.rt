@@ -8,8 +8,7 @@ use std::alloc::Global;
 /// A fault of a policy's rules ('profile').
 #[derive(Clone, Copy, Debug, PartialEq, Eq)]
 pub struct RuleFault {
-    /// 15 no-selector, 16 combining, 17 bad-selector, 18 bad-cidr, 19 except-outside, 20
-    /// unknown-entity, 21 bad-port, 22 bad-protocol, 23 too-many-ports or 24 empty-ports.
+    /// The number of its cause: 15 to 24 or 26 to 28, which `RuleCause` names.
     pub number: u8,
     /// The rule's place in the policy, from 0.
     pub rule: u32,

@@ -2,10 +2,11 @@
 //!
 //! `policy` has the sanitised policy: rules with a subject, four sections of entries, peers and ports.
 //! `raw` has the document as it was read, before any text in it is judged, and `fault` the faults of
-//! that judgement. All of it is plain data, and contracts see each list as a list.
+//! that judgement, with their causes in `cause`. All of it is plain data, and contracts see each list as a list.
 //! What an entry covers is defined in `specs/Covers`.
 #![tactic(auto)]
 
+mod cause;
 mod covering;
 mod fault;
 mod holding;
@@ -15,6 +16,7 @@ mod policy_copy;
 mod raw;
 mod raw_copy;
 
+pub use cause::RuleCause;
 pub use fault::RuleFault;
 pub use policy::{
     Entity, Entries, Entry, Peer, PeerList, Peers, Place, Policy, PolicyKey, PortSpec, PortSpecs,

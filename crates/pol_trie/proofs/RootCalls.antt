@@ -24,7 +24,7 @@ use Rattle.pol_trie.specs.declared.key_set.KeySet.{KeySet}
 use Rattle.pol_trie.specs.contracts.root.RootPartialEq.TheImpl as root
 use Rattle.pol_trie.specs.KeySet.{kind_of}
 use Rattle.pol_trie.specs.PolicyMap.{PolicyMap}
-use Rattle.pol_trie.specs.Roots.{root_of, policy_of, kind_at, word_of_kinds}
+use Rattle.pol_trie.specs.Roots.{root_of, policy_of, kind_at}
 use Rattle.pol_trie.proofs.RootLemmas.{get-policy_of, kind_changes}
 
 -- `==` of roots
@@ -147,14 +147,3 @@ same_rows [] (f ∷ fs) all = absurd all
 same_rows (e ∷ es) [] all = absurd all
 same_rows (e ∷ es) (f ∷ fs) all = λ i. (all.0.0 i, all.0.1 i) ∷ same_rows es fs all.1 i
 
--- what the kinds of deciding entries say
-pub word_is : (a b : Option Entry) → word_of_kinds (option_map (λ e. e.1) a) (option_map (λ e. e.1) b) ≡ word_of a b
-word_is None None = refl
-word_is None (Some (k, Allow)) = refl
-word_is None (Some (k, Deny)) = refl
-word_is (Some (k, Allow)) None = refl
-word_is (Some (k, Deny)) None = refl
-word_is (Some (k, Allow)) (Some (l, Allow)) = refl
-word_is (Some (k, Allow)) (Some (l, Deny)) = refl
-word_is (Some (k, Deny)) (Some (l, Allow)) = refl
-word_is (Some (k, Deny)) (Some (l, Deny)) = refl

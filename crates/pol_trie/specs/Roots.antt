@@ -58,13 +58,3 @@ tells_zero zeros Egress = zeros.egress
 -- that is said where it has keys among the rows
 abbrev pub TellsZero : (Root → Root → Bool) → Zeros → List (Root × KeySet) → Type 0
 TellsZero eq zeros rows = (dir : Direction) → tells_zero zeros dir ≡ is_some (lookup (eq (record { dir = dir; id = 0 })) rows)
-
--- whether the kind is a deny
-abbrev pub denies : Option Kind → Bool
-denies None = false
-denies (Some kind) = is_deny kind
-
--- what the kinds of two deciding entries say
-abbrev pub word_of_kinds : Option Kind → Option Kind → Word
-word_of_kinds own every =
-    if denies own || denies every then DeniedByRule else (if is_some own || is_some every then Allowed else DeniedByDefault)

@@ -2,7 +2,6 @@
 ghost use Rattle.std.specs.Prelude.{◌≡◌, ◌+◌, ◌*◌, ◌<◌, ◌≤◌, None, IfOk, OnOk, OnErr};
 ghost use Rattle.std.specs.FinMap as map;
 ghost use Rattle.pol_mapkey.specs.Entries.{read_map};
-ghost use Rattle.pol_trie.specs.Roots.{denies, word_of_kinds};
 
 use crate::hints::Hints;
 use crate::key_set::KeySet;
@@ -156,29 +155,6 @@ impl PolicyTrie {
             port,
             steps,
         );
-        word_of(own, every)
-    }
-}
-
-/// Whether the kind is a deny.
-fn denies(kind: Option<Kind>) -> bool
-    ensures { result ≡ denies kind }
-{
-    match kind {
-        Some(Kind::Deny) => true,
-        Some(Kind::Allow) | None => false,
-    }
-}
-
-/// What the kinds of two deciding entries say: a deny on either denies, and else an allow on either allows.
-fn word_of(own: Option<Kind>, every: Option<Kind>) -> Word
-    ensures { result ≡ word_of_kinds own every }
-{
-    if denies(own) || denies(every) {
-        Word::DeniedByRule
-    } else if own.is_some() || every.is_some() {
-        Word::Allowed
-    } else {
-        Word::DeniedByDefault
+        Word::of(own, every)
     }
 }

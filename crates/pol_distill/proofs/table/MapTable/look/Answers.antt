@@ -3,4 +3,4 @@ use Rattle.pol_distill.proofs.table.MapTable.look.Goals as goal
 
 pub returns : goal.returns
 unfolding read_map
-returns c = record { word = c.word_of.ensures _ _ c.longest-own.ensures c.longest-every.ensures }
+returns c = record { word = c.«of».ensures.entries _ _ c.longest-own.ensures c.longest-every.ensures }
