@@ -10,7 +10,7 @@ import program
 
 TYPE = re.compile(r"(?m)^(pub )?(?:pub\(\w+\) )?(?:enum|struct|trait|union|type) (\w+)")
 TWICE = {
-    "Change": "pol_changes pol_edits pol_requests",
+    "Change": "pol_change_list pol_change_log pol_requests",
     "Endpoints": "pol_sanitize pol_tables",
     "Entries": "pol_audit pol_rule",
     "Hints": "pol_pool pol_trie",
@@ -18,10 +18,10 @@ TWICE = {
     "Moves": "cache_bench pol_sets",
     "Named": "pol_tables repo_bench",
     "Node": "pol_arena pol_lpm pol_node pol_trie",
-    "Numbers": "pol_audit pol_numbers",
+    "Numbers": "pol_allocator pol_audit",
     "Place": "pol_ident pol_rule",
-    "Places": "pol_model pol_places",
-    "Reading": "pol_blocks pol_maps pol_phases",
+    "Places": "pol_interner pol_model",
+    "Reading": "pol_map_dump pol_parallel_lines pol_phases",
     "Slot": "pol_arena pol_lpm pol_node",
 }
 

@@ -2,10 +2,10 @@
 use Rattle.std.proofs.Common.{◌≡◌, ℕ, ◌==◌, ◌||◌, true, false, not, List, [], ◌∷◌, None, refl, sym, ap, ◌∙◌, inl, inr}
 use Rattle.std.proofs.lemmas.Bool.{both_ways, eq-eqb, ne_eqb}
 use Rattle.pol_addr.specs.declared.network.Prefix.{Prefix}
-use Rattle.pol_changes.specs.Ids.{has}
-use Rattle.pol_facts.specs.Holding.{has_row}
-use Rattle.pol_facts.proofs.HoldingLaws.{held_adds, held_has}
-use Rattle.pol_facts.proofs.Parts.{free_row, part-prefixes_held}
+use Rattle.pol_change_log.specs.Ids.{has}
+use Rattle.pol_model_laws.specs.Holding.{has_row}
+use Rattle.pol_model_laws.proofs.HoldingLaws.{held_adds, held_has}
+use Rattle.pol_model_laws.proofs.Parts.{free_row, part-prefixes_held}
 use Rattle.pol_ident.specs.Look.{number_for_prefix}
 use Rattle.pol_model.specs.declared.limits.TheConstants.{LOCAL_FIRST}
 use Rattle.pol_model.specs.declared.row.IdentityRow.{IdentityRow}

@@ -8,7 +8,7 @@ mod selectors;
 mod turns;
 
 ghost use Rattle.std.specs.Prelude.{◌≡◌};
-ghost use Rattle.pol_changes.specs.Log.{newest};
+ghost use Rattle.pol_change_log.specs.Log.{newest};
 ghost use Rattle.pol_selcache.specs.Live.{AreExact};
 
 use crate::asked::{Ask, holder_for};

@@ -1,7 +1,7 @@
 //! An identity that comes and goes.
 ghost use Rattle.std.specs.Prelude.{◌≡◌, ◌+◌, ◌<◌, ◌≤◌, ◌^◌, ◌∷◌, [], List, true, false, None, IfSome, IsTrue};
-ghost use Rattle.pol_changes.specs.Log.{newest};
-ghost use Rattle.pol_facts.specs.Holding.{has_row};
+ghost use Rattle.pol_change_log.specs.Log.{newest};
+ghost use Rattle.pol_model_laws.specs.Holding.{has_row};
 ghost use Rattle.pol_model.specs.Fault.{has_reserved};
 ghost use Rattle.pol_model.specs.Identities.{number_of_labels};
 ghost use Rattle.pol_model.specs.Prefixes.{number_of_prefix};

@@ -13,8 +13,8 @@ use Rattle.pol_rule.specs.declared.policy.Peers.TheVariants.{Every, Listed}
 use Rattle.pol_sets.specs.declared.sets.Move.{Move}
 use Rattle.pol_sets.specs.declared.sets.SetRow.{SetRow}
 use Rattle.pol_sets.specs.Sets.{has_set, is_row_of, set_given}
-use Rattle.pol_changes.specs.Ids.{without}
-use Rattle.pol_changes.specs.Sets.{IsMove}
+use Rattle.pol_change_log.specs.Ids.{without}
+use Rattle.pol_change_log.specs.Sets.{IsMove}
 use Rattle.pol_l4.specs.declared.filter.Filter.{Filter}
 use Rattle.pol_l4.specs.declared.filter.Filters.{Filters}
 use Rattle.pol_distill.specs.Sorted.{HaveSets, ListHasSets, PeersHaveSets}

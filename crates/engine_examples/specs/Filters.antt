@@ -8,8 +8,8 @@ use Rattle.pol_rule.specs.declared.policy.Policy.{Policy}
 use Rattle.pol_rule.specs.declared.policy.Rule.{Rule}
 use Rattle.pol_rule.specs.declared.policy.Section.{Section}
 use Rattle.pol_model.specs.declared.row.Stamped.{Stamped}
-use Rattle.pol_facts.specs.Examples.{app, cidrs, key_of, net}
-use Rattle.pol_facts.specs.WorkedMaps.{app_is}
+use Rattle.pol_model_laws.specs.Examples.{app, cidrs, key_of, net}
+use Rattle.pol_model_laws.specs.WorkedMaps.{app_is}
 use Rattle.pol_l4.specs.Resolved.{filters_in}
 use Rattle.pol_l4.specs.declared.filter.Filter.{Filter}
 

@@ -6,7 +6,7 @@ use Rattle.pol_labels.specs.declared.requirement.Operator.TheVariants.{OneOf, Pr
 use Rattle.pol_labels.specs.declared.requirement.Requirement.{Requirement}
 use Rattle.pol_model.specs.declared.row.IdentityRow.{IdentityRow}
 use Rattle.pol_model.specs.Worlds.{reserved_label}
-use Rattle.pol_facts.specs.Examples.{app, net, wide}
+use Rattle.pol_model_laws.specs.Examples.{app, net, wide}
 
 -- `app In [a]`, and the same of a key `tier`; two values; and a key that is there
 abbrev pub asks : List ℕ → List (List ℕ) → Requirement

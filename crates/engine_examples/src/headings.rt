@@ -1,9 +1,9 @@
 //! Under what heading a peer's selector is filed.
 ghost use Rattle.std.specs.Prelude.{◌≡◌, [], ◌∷◌, codes, map};
-ghost use Rattle.pol_filing.specs.Heading.{heading_of};
-ghost use Rattle.pol_filing.specs.declared.heading.Heading.TheVariants as heading;
+ghost use Rattle.pol_headings.specs.Heading.{heading_of};
+ghost use Rattle.pol_headings.specs.declared.heading.Heading.TheVariants as heading;
 ghost use Rattle.pol_labels.specs.declared.requirement.Operator.TheVariants.{NoneOf};
-ghost use Rattle.pol_facts.specs.Examples.{net, wide};
+ghost use Rattle.pol_model_laws.specs.Examples.{net, wide};
 ghost use Rattle.pol_rule.specs.declared.policy.Entity.TheVariants as entity;
 ghost use Rattle.pol_rule.specs.declared.policy.Peer.TheVariants as peer;
 ghost use Rattle.engine_examples.specs.Peers.{app_a, app_a_or_b, cut, has_app, tier_x, with_operator};

@@ -1,7 +1,7 @@
 //! Which identities are judged for a peer's new selector, and how many match steps each takes.
 ghost use Rattle.std.specs.Prelude.{◌≡◌, [], ◌∷◌, codes, map};
-ghost use Rattle.pol_facts.specs.Examples.{net, wide};
-ghost use Rattle.pol_filing.specs.declared.heading.Heading.TheVariants as heading;
+ghost use Rattle.pol_model_laws.specs.Examples.{net, wide};
+ghost use Rattle.pol_headings.specs.declared.heading.Heading.TheVariants as heading;
 ghost use Rattle.pol_rule.specs.declared.policy.Entity.TheVariants as entity;
 ghost use Rattle.pol_rule.specs.declared.policy.Peer.TheVariants as peer;
 ghost use Rattle.pol_selcache.specs.Held.{judged_under, rows_judged, steps_at, steps_of};

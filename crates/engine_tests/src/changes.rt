@@ -1,8 +1,8 @@
 //! What a log of few changes tells, and one of 65,537.
 ghost use Rattle.std.specs.Prelude.{◌≡◌, IfOk};
-ghost use Rattle.pol_changes.specs.Log.{newest};
+ghost use Rattle.pol_change_log.specs.Log.{newest};
 
-use pol_changes::{Change, ChangeLog};
+use pol_change_log::{Change, ChangeLog};
 use pol_data::Memory;
 use pol_sets::IdSet;
 use std::alloc::Global;

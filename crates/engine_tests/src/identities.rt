@@ -2,7 +2,7 @@
 
 use pol_addr::{Addr, Prefix};
 use pol_data::Text;
-use pol_filing::HeadingRef;
+use pol_headings::HeadingRef;
 use pol_ident::{IdentError, Identities};
 use pol_labels::{Label, LabelSet};
 use pol_model::has_reserved;

@@ -7,7 +7,7 @@ ghost use Rattle.std.specs.Prelude.{◌≤◌};
 use anyhow::Result;
 use pol_addr::{Addr, Prefix};
 use pol_data::Text;
-use pol_filing::HeadingRef;
+use pol_headings::HeadingRef;
 use pol_ident::Identities;
 use pol_labels::{Label, LabelSet};
 use pol_model::has_reserved;

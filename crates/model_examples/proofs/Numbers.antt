@@ -5,8 +5,8 @@ use Rattle.pol_labels.specs.declared.label.Label.{Label}
 use Rattle.pol_model.specs.declared.row.IdentityRow.{IdentityRow}
 use Rattle.pol_model.specs.Ascending.{Ascends}
 use Rattle.pol_model.specs.Fault.{is_exhausted}
-use Rattle.pol_facts.specs.Holding.{has_row}
-use Rattle.pol_facts.proofs.FoundRows.{exhausted-exactly}
+use Rattle.pol_model_laws.specs.Holding.{has_row}
+use Rattle.pol_model_laws.proofs.FoundRows.{exhausted-exactly}
 
 -- a number that is free
 pub not_exhausted : (labels : List Label) (rows : List IdentityRow) (number : ℕ) → Ascends (map (λ row. row.number) rows)

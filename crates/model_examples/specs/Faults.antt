@@ -7,7 +7,7 @@ use Rattle.pol_model.specs.declared.request.Request.TheVariants.{AddEndpoint, Ad
 use Rattle.pol_model.specs.declared.row.IdentityRow.{IdentityRow}
 use Rattle.pol_model.specs.After.{start, state_of}
 use Rattle.pol_model.specs.State.{State}
-use Rattle.pol_facts.specs.Examples.{adds, app, host_in, lets_in, reserved, with_endpoints}
+use Rattle.pol_model_laws.specs.Examples.{adds, app, host_in, lets_in, reserved, with_endpoints}
 
 -- the state with these identities in place of its own
 abbrev pub with_identities : List IdentityRow → State → State

@@ -24,8 +24,8 @@ use Rattle.pol_model.specs.Endpoints.{endpoint_of}
 use Rattle.pol_model.specs.Explain.{explain_of}
 use Rattle.pol_model.specs.Remote.{numbered_prefixes}
 use Rattle.pol_model.specs.Verdict.{verdict_of}
-use Rattle.pol_facts.specs.Examples.{adds, cidrs, key_of, net, wide, word_at}
-use Rattle.pol_facts.specs.WorkedMaps.{app_is}
+use Rattle.pol_model_laws.specs.Examples.{adds, cidrs, key_of, net, wide, word_at}
+use Rattle.pol_model_laws.specs.WorkedMaps.{app_is}
 
 -- an entry for these peers, on every port
 abbrev pub entry_for : List Peer → Entry

@@ -11,8 +11,8 @@ ghost use Rattle.pol_model.specs.Ascending.{Ascends};
 ghost use Rattle.pol_model.specs.Fault.{fault_of, locals_held};
 ghost use Rattle.pol_model.specs.Identities.{number_of_labels, reserved_identities};
 ghost use Rattle.pol_model.specs.Prefixes.{number_of_prefix};
-ghost use Rattle.pol_facts.specs.Examples.{adds, app, host_in, net, reserved};
-ghost use Rattle.pol_facts.specs.Holding.{has_row};
+ghost use Rattle.pol_model_laws.specs.Examples.{adds, app, host_in, net, reserved};
+ghost use Rattle.pol_model_laws.specs.Holding.{has_row};
 ghost use Rattle.model_examples.specs.Faults.{adds_host, all_endpoints, applies, names, one_of_each, with_identities};
 
 /// A reserved label is told before all else, then a name, then a place, then an address; whatever numbers are held.

@@ -7,7 +7,7 @@ ghost use Rattle.pol_ports.specs.declared.Direction.TheVariants.{Egress, Ingress
 ghost use Rattle.pol_model.specs.declared.options.Mode.TheVariants.{Always as AlwaysMode, Default as DefaultMode, Never as NeverMode};
 ghost use Rattle.pol_model.specs.declared.options.Options.{Options as AllOptions};
 ghost use Rattle.pol_model.specs.declared.request.Request.TheVariants.{AddEndpoint, Apply, SetMode};
-ghost use Rattle.pol_facts.specs.Examples.{adds, host_in, net, reserved, wide};
+ghost use Rattle.pol_model_laws.specs.Examples.{adds, host_in, net, reserved, wide};
 ghost use Rattle.model_examples.specs.Policies.{allows_told, denies_told, many_prefixes, numbers_told, part, sections, word_for, words_under};
 
 /// Each section alone: what it allows or denies, in which direction, and that it enforces that direction. A deny

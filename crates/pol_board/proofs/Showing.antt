@@ -6,8 +6,8 @@ use Rattle.pol_history.specs.Commits.{commits_by}
 use Rattle.pol_history.specs.Grows.{PassGrows, PassGrowsWhole, PassState}
 use Rattle.pol_history.specs.Legal.{IsLegal}
 use Rattle.pol_history.proofs.Beginnings.{prefix_self}
-use Rattle.pol_face.specs.declared.change.FaceChange.{FaceChange}
-use Rattle.pol_face.specs.Changes.{IsChangeOf, Tells}
+use Rattle.pol_board_view.specs.declared.change.FaceChange.{FaceChange}
+use Rattle.pol_board_view.specs.Changes.{IsChangeOf, Tells}
 
 -- the longer history, where there is one
 pub longer_is : (history : List HistoryEvent) (last : HistoryEvent) (longer : Option (List HistoryEvent)) (new : List HistoryEvent)

@@ -6,11 +6,11 @@ ghost use Rattle.pol_mapkey.specs.Entries.{Entry as OneEntry};
 ghost use Rattle.pol_history.specs.declared.event.HistoryEvent.{HistoryEvent as OneEvent};
 ghost use Rattle.pol_history.specs.declared.event.HistoryEvent.TheVariants as event;
 ghost use Rattle.pol_history.specs.Machine.{endpoint_id};
-ghost use Rattle.pol_face.specs.Changes.{IsMadeOf, Tells};
+ghost use Rattle.pol_board_view.specs.Changes.{IsMadeOf, Tells};
 
+use pol_board_view::FaceChange;
+use pol_change_list::ChangeList;
 use pol_data::Memory;
-use pol_edits::ChangeList;
-use pol_face::FaceChange;
 use pol_model::Request;
 use pol_taken::Taken;
 use std::alloc::Global;

@@ -5,12 +5,12 @@ ghost use Rattle.pol_history.specs.Commits.{commits_by};
 ghost use Rattle.pol_history.specs.Grows.{PassGrows, PassGrowsWhole, nothing_yet};
 ghost use Rattle.pol_history.specs.Legal.{IsLegal};
 ghost use Rattle.pol_history.specs.Look.{look};
-ghost use Rattle.pol_face.specs.Answers.{IsLookOf};
+ghost use Rattle.pol_board_view.specs.Answers.{IsLookOf};
 
 use left_right::ReadHandle;
-use pol_book::{NodeName, Seen};
+use pol_board_view::{Face, LookError, Verdict};
 use pol_data::Steps;
-use pol_face::{Face, LookError, Verdict};
+use pol_history_log::{NodeName, Seen};
 use pol_model::{Query, Request};
 use std::marker::Model;
 use std::sync::Wait;

@@ -2,9 +2,9 @@
 use Rattle.std.proofs.Common.{◌≡◌, ◌+◌, ◌≤◌, List, ap, arith}
 use Rattle.std.specs.FinMap as finite
 use Rattle.pol_trie.specs.PolicyMap.{PolicyMap}
-use Rattle.pol_edits.specs.declared.change.Change.{Change}
-use Rattle.pol_edits.specs.Changes.{IsAscending, changed, set_count}
-use Rattle.pol_edits.proofs.Counting.{sets_fit}
+use Rattle.pol_change_list.specs.declared.change.Change.{Change}
+use Rattle.pol_change_list.specs.Changes.{IsAscending, changed, set_count}
+use Rattle.pol_change_list.proofs.Counting.{sets_fit}
 
 -- few changes, where few keys come of them
 pub few_changes : (changes : List Change) → IsAscending changes → (trie table : PolicyMap) → trie ≡ table → finite.len table ≤ 65536

@@ -11,11 +11,11 @@ use Rattle.pol_addr.specs.declared.address.Addr.{Addr}
 use Rattle.pol_addresses.specs.AddressTable.{number_in}
 use Rattle.pol_delta.specs.Work.{map_of}
 use Rattle.pol_distill.specs.Sorted.{HaveSets}
-use Rattle.pol_edits.specs.Changes.{changed, table_of}
-use Rattle.pol_facts.proofs.Lives.{added-within}
-use Rattle.pol_follow.specs.declared.follow.Followed.{Followed}
-use Rattle.pol_follow.specs.Followed.{Follows, id_in, table_then}
-use Rattle.pol_follow.proofs.Keeping.{follows-later}
+use Rattle.pol_change_list.specs.Changes.{changed, table_of}
+use Rattle.pol_model_laws.proofs.Lives.{added-within}
+use Rattle.pol_slot_map.specs.declared.follow.Followed.{Followed}
+use Rattle.pol_slot_map.specs.Followed.{Follows, id_in, table_then}
+use Rattle.pol_slot_map.proofs.Keeping.{follows-later}
 use Rattle.pol_history.specs.declared.event.EndpointId.{EndpointId}
 use Rattle.pol_history.specs.declared.event.HistoryEvent.{HistoryEvent}
 use Rattle.pol_history.specs.declared.event.HistoryEvent.TheVariants as event

@@ -1,7 +1,7 @@
 -- What is taken is kept for the slot.
 use Rattle.std.proofs.Common.{◌≡◌, ℕ, Option, Result, Ok, Err, refl, sym, subst}
 use Rattle.std.specs.Arc.{arc_value}
-use Rattle.pol_chains.specs.Moves.{TellsMovesSince}
+use Rattle.pol_moves.specs.Moves.{TellsMovesSince}
 use Rattle.pol_distill.specs.Distilled.{distilled}
 use Rattle.pol_history.specs.declared.machine.Reply.{Reply}
 use Rattle.pol_history.specs.declared.machine.Reply.TheVariants as reply

@@ -1,6 +1,6 @@
 -- A look-up in the rows is one in the history.
 use Rattle.std.proofs.Common.{◌≡◌, ℕ, ◌<◌, ◌^◌, Option, sym, ap, ◌∙◌}
-use Rattle.pol_facts.proofs.Positive.{rows_positive}
+use Rattle.pol_model_laws.proofs.Positive.{rows_positive}
 use Rattle.pol_model.specs.After.{state_of}
 use Rattle.pol_model.specs.declared.options.Options.{Options}
 use Rattle.pol_model.specs.declared.request.Query.{Query}

@@ -1,7 +1,7 @@
 -- A row is finished where its map was made and reported.
 use Rattle.std.proofs.Common.{◌≡◌, ℕ, ◌==◌, Bool, true, false, cond, inl, inr, Option, Some, Result, Ok, Err, refl, sym, ap, ◌∙◌, subst}
 use Rattle.std.proofs.lemmas.Bool.Decides.{eqb_tells}
-use Rattle.pol_follow.specs.declared.follow.Followed.{Followed}
+use Rattle.pol_slot_map.specs.declared.follow.Followed.{Followed}
 use Rattle.pol_history.specs.declared.machine.Reply.{Reply}
 use Rattle.pol_history.specs.declared.machine.Reply.TheVariants as reply
 use Rattle.pol_history.specs.Machine.{is_reported}

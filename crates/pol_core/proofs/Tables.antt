@@ -3,11 +3,11 @@ use Rattle.std.proofs.Common.{◌≡◌, ℕ, ◌≤◌, List, length, Option, N
 use Rattle.std.specs.FinMap as finite
 use Rattle.std.proofs.lemmas.Bool.Decides.{nat_tests}
 use Rattle.std.proofs.lemmas.Option.{same_Some}
-use Rattle.pol_book.specs.Asked.{or_none, table_at}
-use Rattle.pol_edits.specs.Changes.{table_of}
-use Rattle.pol_edits.proofs.Differences.{tables_have_their_entries}
-use Rattle.pol_facts.proofs.Canonical.{canonical_ascends}
-use Rattle.pol_follow.specs.Followed.{table_then}
+use Rattle.pol_history_log.specs.Asked.{or_none, table_at}
+use Rattle.pol_change_list.specs.Changes.{table_of}
+use Rattle.pol_change_list.proofs.Differences.{tables_have_their_entries}
+use Rattle.pol_model_laws.proofs.Canonical.{canonical_ascends}
+use Rattle.pol_slot_map.specs.Followed.{table_then}
 use Rattle.pol_history.specs.declared.event.EndpointId.{EndpointId}
 use Rattle.pol_history.specs.declared.event.HistoryEvent.{HistoryEvent}
 use Rattle.pol_history.specs.Commits.{live_endpoint, revision_of, state_after, state_now}

@@ -3,9 +3,9 @@ use Rattle.std.proofs.Common.{◌≡◌, ℕ, ◌==◌, ◌≤◌, inl, inr, con
 use Rattle.std.specs.Arc.{arc_value}
 use Rattle.std.proofs.lemmas.Bool.{eqb-true}
 use Rattle.std.proofs.lemmas.Option.{IfSome_then, same_Some}
-use Rattle.pol_chains.specs.Moves.{TellsMovesSince}
+use Rattle.pol_moves.specs.Moves.{TellsMovesSince}
 use Rattle.pol_distill.specs.Distilled.{distilled}
-use Rattle.pol_follow.specs.declared.follow.Followed.{Followed}
+use Rattle.pol_slot_map.specs.declared.follow.Followed.{Followed}
 use Rattle.pol_history.specs.declared.event.HistoryEvent.{HistoryEvent}
 use Rattle.pol_history.specs.declared.machine.Event.TheVariants as step
 use Rattle.pol_history.specs.declared.machine.Reply.{Reply}

@@ -2,15 +2,15 @@
 use Rattle.std.proofs.Common.{◌≡◌, ◌≢◌, ℕ, ◌≤◌, ◌⊎◌, inl, inr, List, Option, None, Some, IfSome, option_map, refl, sym, ap, ◌∙◌, subst, arith}
 use Rattle.std.specs.Arc.{arc_value}
 use Rattle.std.proofs.lemmas.Option.{same_Some}
-use Rattle.pol_book.specs.Asked.{or_none}
-use Rattle.pol_chains.specs.Moves.{TellsMovesSince}
+use Rattle.pol_history_log.specs.Asked.{or_none}
+use Rattle.pol_moves.specs.Moves.{TellsMovesSince}
 use Rattle.pol_delta.specs.Work.{map_of}
-use Rattle.pol_edits.specs.Changes.{changed, table_of}
-use Rattle.pol_follow.specs.declared.follow.Followed.{Followed}
-use Rattle.pol_follow.specs.Follow.{IsShown, MayApply, changed_by, led}
-use Rattle.pol_follow.specs.Followed.{Follows, id_in, table_then}
-use Rattle.pol_follow.proofs.Applying.{may_apply}
-use Rattle.pol_follow.proofs.Keeping.{follows-on, follows-shown, follows-start, follows-stays}
+use Rattle.pol_change_list.specs.Changes.{changed, table_of}
+use Rattle.pol_slot_map.specs.declared.follow.Followed.{Followed}
+use Rattle.pol_slot_map.specs.Follow.{IsShown, MayApply, changed_by, led}
+use Rattle.pol_slot_map.specs.Followed.{Follows, id_in, table_then}
+use Rattle.pol_slot_map.proofs.Applying.{may_apply}
+use Rattle.pol_slot_map.proofs.Keeping.{follows-on, follows-shown, follows-start, follows-stays}
 use Rattle.pol_history.specs.declared.event.EndpointId.{EndpointId}
 use Rattle.pol_history.specs.declared.event.HistoryEvent.{HistoryEvent}
 use Rattle.pol_history.specs.Commits.{commits_in, live_endpoint, revision_of, state_after, state_now}

@@ -1,7 +1,7 @@
 -- The second trie of a published map.
 use Rattle.std.specs.Prelude.{◌≡◌, ◌+◌, ◌≤◌}
 use Rattle.std.specs.FinMap as finite
-use Rattle.pol_edits.specs.Changes.{changed, set_count}
+use Rattle.pol_change_list.specs.Changes.{changed, set_count}
 use Rattle.pol_trie.specs.PolicyMap.{PolicyMap}
 use Rattle.pol_core.specs.declared.double.Behind.{Behind}
 

@@ -3,13 +3,13 @@ use Rattle.std.specs.Prelude.{◌≡◌, ◌≢◌, ℕ, ◌==◌, ◌<◌, ◌�
 use Rattle.std.specs.Arc.{arc_value}
 use Rattle.std.specs.FinMap as finite
 use Rattle.indexmap.specs.IndexMap.{IndexMap, get}
-use Rattle.pol_chains.specs.Moves.{TellsMovesSince}
+use Rattle.pol_moves.specs.Moves.{TellsMovesSince}
 use Rattle.pol_delta.specs.Work.{map_of}
 use Rattle.pol_distill.specs.Distilled.{distilled}
-use Rattle.pol_edits.specs.Changes.{changed}
-use Rattle.pol_edits.specs.declared.change.Change.{Change}
-use Rattle.pol_follow.specs.declared.follow.Followed.{Followed}
-use Rattle.pol_follow.specs.Follow.{GoesOn, IsShown, IsStartOf, MayApply, Stays}
+use Rattle.pol_change_list.specs.Changes.{changed}
+use Rattle.pol_change_list.specs.declared.change.Change.{Change}
+use Rattle.pol_slot_map.specs.declared.follow.Followed.{Followed}
+use Rattle.pol_slot_map.specs.Follow.{GoesOn, IsShown, IsStartOf, MayApply, Stays}
 use Rattle.pol_history.specs.declared.machine.Reply.{Reply}
 use Rattle.pol_history.specs.declared.machine.Reply.TheVariants as reply
 use Rattle.pol_history.specs.Machine.{endpoint_in, is_reported}

@@ -1,12 +1,12 @@
 //! The trie of a published map, which costs what changes.
 ghost use Rattle.std.specs.Prelude.{◌≡◌, ◌+◌, ◌≤◌, IfOk, IfSome, OnErr, OnOk};
 ghost use Rattle.std.specs.FinMap as finite;
-ghost use Rattle.pol_edits.specs.Changes.{changed, set_count};
+ghost use Rattle.pol_change_list.specs.Changes.{changed, set_count};
 ghost use Rattle.pol_mapkey.specs.Entries.{read_map};
 ghost use Rattle.pol_core.specs.Double.{LeadsTo};
 
+use pol_change_list::ChangeList;
 use pol_data::{Memory, Steps};
-use pol_edits::ChangeList;
 use pol_mapkey::Word;
 use pol_ports::{Direction, Proto};
 use pol_trie::PolicyTrie;

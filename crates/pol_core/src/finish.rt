@@ -3,7 +3,7 @@ ghost use Rattle.std.specs.Prelude.{◌≡◌, IfSome, None, OnErr, OnOk, Some, 
 ghost use Rattle.std.specs.Arc.{arc_value};
 ghost use Rattle.pol_delta.specs.Work.{map_of};
 ghost use Rattle.pol_distill.specs.Sorted.{HaveSets};
-ghost use Rattle.pol_follow.specs.declared.follow.Followed.{Followed as OneFollowed};
+ghost use Rattle.pol_slot_map.specs.declared.follow.Followed.{Followed as OneFollowed};
 ghost use Rattle.pol_history.specs.Machine.{is_reported};
 ghost use Rattle.pol_history.specs.Reports.{published_before};
 ghost use Rattle.pol_core.specs.Parts.{Finishes, FinishesRow, FinishesSlot, FinishesTaken, Follows, HasFewKeys, IsShownOf, IsSmallMap, MayFinish, MayFinishTaken, MayGo, PublishesRow, Reports, by_slot, left_over};
@@ -12,10 +12,10 @@ ghost use Rattle.pol_core.specs.Rows.{by_name};
 use crate::double::DoubleTrie;
 use crate::row::{MachineMap, MachineRow, Rows};
 use crate::take::Takes;
+use pol_change_list::ChangeList;
 use pol_data::Memory;
-use pol_edits::ChangeList;
-use pol_follow::Followed;
 use pol_history::{LastReport, Reply};
+use pol_slot_map::Followed;
 use pol_taken::Taken;
 use std::alloc::Global;
 

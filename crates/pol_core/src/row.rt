@@ -10,9 +10,9 @@ use crate::double::DoubleTrie;
 use indexmap::IndexMap;
 use pol_addresses::Addresses;
 use pol_data::{Steps, Text};
-use pol_follow::Followed;
 use pol_history::{LastReport, Reply};
 use pol_model::{Query, Remote};
+use pol_slot_map::Followed;
 use std::sync::Arc;
 use std::sync::ledger::Ledger;
 

@@ -30,7 +30,7 @@ use Rattle.pol_rule.specs.declared.policy.Peers.{Peers}
 use Rattle.pol_rule.specs.declared.policy.Peers.TheVariants.{Listed}
 use Rattle.pol_rule.specs.declared.policy.PortSpec.{PortSpec}
 use Rattle.pol_model.specs.PolicyMap.{peer_numbers, peers_numbers, ports_keys, protos_of, spec_keys}
-use Rattle.pol_facts.proofs.Merged.{any_from, passing}
+use Rattle.pol_model_laws.proofs.Merged.{any_from, passing}
 use Rattle.pol_l4.specs.declared.filter.Filter.{Filter}
 use Rattle.pol_l4.specs.FilterParts.{entry_of}
 use Rattle.pol_distill.proofs.AnyLemmas.{any_agree, any_and, any_flat_map, any_map}

@@ -12,14 +12,14 @@ use Rattle.pol_distill.specs.Distilled.{distilled}
 use Rattle.pol_distill.specs.Sorted.{HaveSets, IsSmall}
 use Rattle.pol_distill.proofs.Small.{raw_small}
 use Rattle.pol_mapkey.specs.Entries.{Entry}
-use Rattle.pol_edits.specs.Changes.{IsDifference, table_of}
-use Rattle.pol_tally.specs.declared.sizes.Changed.{Changed}
-use Rattle.pol_tally.specs.declared.tally.Tally.{Tally}
-use Rattle.pol_tally.specs.Counted.{IsAtRest, IsTallyOf, times_of}
-use Rattle.pol_tally.specs.Times.{times}
-use Rattle.pol_given.specs.Balance.{Leads}
-use Rattle.pol_given.specs.Given.{raw_of}
-use Rattle.pol_given.specs.declared.staying.Moved.{Moved}
+use Rattle.pol_change_list.specs.Changes.{IsDifference, table_of}
+use Rattle.pol_entry_tally.specs.declared.sizes.Changed.{Changed}
+use Rattle.pol_entry_tally.specs.declared.tally.Tally.{Tally}
+use Rattle.pol_entry_tally.specs.Counted.{IsAtRest, IsTallyOf, times_of}
+use Rattle.pol_entry_tally.specs.Times.{times}
+use Rattle.pol_raw_entries.specs.Balance.{Leads}
+use Rattle.pol_raw_entries.specs.Given.{raw_of}
+use Rattle.pol_raw_entries.specs.declared.staying.Moved.{Moved}
 use Rattle.pol_delta.specs.Kept.{IsKept}
 use Rattle.pol_delta.specs.Lists.{told}
 use Rattle.pol_delta.proofs.SameRows.{same_given, same_map, same_sets}

@@ -8,7 +8,7 @@ use Rattle.pol_rule.specs.declared.policy.Peers.TheVariants.{Every, Listed}
 use Rattle.pol_sets.specs.declared.sets.Move.{Move}
 use Rattle.pol_sets.specs.declared.sets.SetRow.{SetRow}
 use Rattle.pol_l4.specs.declared.filter.Filters.{Filters}
-use Rattle.pol_given.specs.Told.{IsTold, PeersTold, Stays}
+use Rattle.pol_raw_entries.specs.Told.{IsTold, PeersTold, Stays}
 use Rattle.pol_delta.specs.Applies.{HasMove, MovesTell, NamesFilters}
 use Rattle.pol_delta.specs.Work.{AllOfPeers, WorkOf}
 

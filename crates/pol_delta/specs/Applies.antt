@@ -5,7 +5,7 @@ use Rattle.pol_rule.specs.declared.policy.Peer.{Peer}
 use Rattle.pol_sets.specs.declared.sets.Move.{Move}
 use Rattle.pol_sets.specs.declared.sets.SetRow.{SetRow}
 use Rattle.pol_sets.specs.Sets.{is_row_of, set_given}
-use Rattle.pol_changes.specs.Sets.{IsMove}
+use Rattle.pol_change_log.specs.Sets.{IsMove}
 use Rattle.pol_l4.specs.declared.filter.Filter.{Filter}
 use Rattle.pol_l4.specs.declared.filter.Filters.{Filters}
 use Rattle.pol_delta.specs.Work.{AllOfPeers, WorkOf}

@@ -4,9 +4,9 @@ use Rattle.pol_sets.specs.declared.sets.SetRow.{SetRow}
 use Rattle.pol_l4.specs.declared.filter.Filters.{Filters}
 use Rattle.pol_distill.specs.Distilled.{distilled}
 use Rattle.pol_distill.specs.Sorted.{HaveSets}
-use Rattle.pol_tally.specs.declared.tally.Tally.{Tally}
-use Rattle.pol_tally.specs.Counted.{IsTallyOf}
-use Rattle.pol_given.specs.Given.{raw_of}
+use Rattle.pol_entry_tally.specs.declared.tally.Tally.{Tally}
+use Rattle.pol_entry_tally.specs.Counted.{IsTallyOf}
+use Rattle.pol_raw_entries.specs.Given.{raw_of}
 
 -- The tally counts what the filters put into the map, and the number is the map's size.
 pub record IsKept (filters : Filters) (rows : List SetRow) (size : ℕ) (tally : Tally) : Type 0 where

@@ -2,8 +2,8 @@
 use Rattle.std.specs.Prelude.{◌≡◌, List}
 use Rattle.std.specs.FinMap as finite
 use Rattle.pol_trie.specs.PolicyMap.{PolicyMap}
-use Rattle.pol_edits.specs.declared.change.Change.{Change}
-use Rattle.pol_edits.specs.Changes.{IsDifference, changed, table_of}
+use Rattle.pol_change_list.specs.declared.change.Change.{Change}
+use Rattle.pol_change_list.specs.Changes.{IsDifference, changed, table_of}
 use Rattle.pol_delta.specs.Work.{WorkOf, map_of}
 
 -- a map that has the table of a work has that of the next one once the list between them is made, and no other entries

@@ -13,5 +13,5 @@ mod turned;
 mod work;
 
 pub use changes::{Changes, Givers};
-pub use pol_edits::{Change, ChangeList};
+pub use pol_change_list::{Change, ChangeList};
 pub use work::Work;

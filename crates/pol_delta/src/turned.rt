@@ -2,17 +2,17 @@
 ghost use Rattle.std.specs.Prelude.{◌≡◌, IfOk, IfSome, OnErr};
 ghost use Rattle.pol_distill.specs.Distilled.{distilled};
 ghost use Rattle.pol_distill.specs.Sorted.{HaveSets};
-ghost use Rattle.pol_edits.specs.Changes.{IsDifference, table_of};
-ghost use Rattle.pol_given.specs.Balance.{Leads};
-ghost use Rattle.pol_given.specs.Given.{raw_of};
+ghost use Rattle.pol_change_list.specs.Changes.{IsDifference, table_of};
+ghost use Rattle.pol_raw_entries.specs.Balance.{Leads};
+ghost use Rattle.pol_raw_entries.specs.Given.{raw_of};
 ghost use Rattle.pol_delta.specs.Applies.{MovesTell, NamesFilters};
 ghost use Rattle.pol_delta.specs.Kept.{IsKept};
 
 use pol_data::Memory;
-use pol_given::{Moved, moved, replaced};
+use pol_entry_tally::{Changed, Tally};
 use pol_l4::Filters;
+use pol_raw_entries::{Moved, moved, replaced};
 use pol_sets::{Moves, SetRow};
-use pol_tally::{Changed, Tally};
 use std::alloc::Global;
 
 /// Which entries come and go: by the moves where they are there, and else all of them.

@@ -15,10 +15,10 @@ use Rattle.pol_mapkey.specs.declared.Word.TheVariants.{Allowed, DeniedByRule, De
 use Rattle.pol_mapkey.proofs.Equality.{same_key-is, same_key-self}
 use Rattle.pol_mapkey.proofs.Keys.{covers_is, covers-self, covers-both, covers-three, covers-packet, chain}
 use Rattle.pol_mapkey.proofs.Longest.{NoneReaches, IsLongest, longest_gives, one_kind}
-use Rattle.pol_facts.specs.MapFacts.{HasKey}
+use Rattle.pol_model_laws.specs.MapFacts.{HasKey}
 use Rattle.pol_model.specs.PolicyMap.{canonical}
-use Rattle.pol_facts.proofs.Canonical.{deny_is, canonical_keys, canonical_denies, canonical_once, canonical_under_none}
-use Rattle.pol_facts.proofs.Merged.{passing, any_from}
+use Rattle.pol_model_laws.proofs.Canonical.{deny_is, canonical_keys, canonical_denies, canonical_once, canonical_under_none}
+use Rattle.pol_model_laws.proofs.Merged.{passing, any_from}
 
 -- an element that passes, and leads all that pass
 record Leads {X : Type 0} (q : X → Bool) (R : X → X → Type 0) (xs : List X) (x : X) : Type 0 where

@@ -23,7 +23,7 @@ use Rattle.pol_model.specs.PolicyMap.{allow_every, canonical, direction_entries,
 use Rattle.pol_model.specs.Selects.{set_at}
 use Rattle.pol_model.specs.State.{State}
 use Rattle.pol_model.specs.Verdict.{is_never}
-use Rattle.pol_facts.proofs.PeerSets.{map_same}
+use Rattle.pol_model_laws.proofs.PeerSets.{map_same}
 use Rattle.pol_sets.specs.declared.sets.SetRow.{SetRow}
 use Rattle.pol_sets.specs.Sets.{set_given}
 use Rattle.pol_l4.specs.declared.filter.Filter.{Filter}

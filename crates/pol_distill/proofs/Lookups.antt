@@ -18,7 +18,7 @@ use Rattle.pol_mapkey.specs.declared.Kind.{Kind}
 use Rattle.pol_mapkey.specs.declared.MapKey.{MapKey}
 use Rattle.pol_mapkey.proofs.Keys.{covers-self, covers_from, key_same, packet_from, packet_is, proto_covers-cases, proto_covers-self}
 use Rattle.pol_mapkey.proofs.Longest.{longest_is, longest_none, one_kind}
-use Rattle.pol_facts.proofs.Merged.{each_once}
+use Rattle.pol_model_laws.proofs.Merged.{each_once}
 use Rattle.pol_distill.specs.Sorted.{IsKindOf, IsTable}
 use Rattle.pol_distill.proofs.RawLists.{every_key_is}
 

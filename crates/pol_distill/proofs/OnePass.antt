@@ -12,8 +12,8 @@ use Rattle.pol_mapkey.specs.declared.Kind.TheVariants.{Deny}
 use Rattle.pol_mapkey.specs.declared.MapKey.{MapKey}
 use Rattle.pol_mapkey.proofs.Equality.{same_key-is, same_key-self}
 use Rattle.pol_model.specs.PolicyMap.{canonical, is_under_deny, merged}
-use Rattle.pol_facts.proofs.Canonical.{canonical_ascends, canonical_same}
-use Rattle.pol_facts.proofs.Merged.{any_from, denies_key, merged_ascends, merged_has, merged_key, merged_kind, passing}
+use Rattle.pol_model_laws.proofs.Canonical.{canonical_ascends, canonical_same}
+use Rattle.pol_model_laws.proofs.Merged.{any_from, denies_key, merged_ascends, merged_has, merged_key, merged_kind, passing}
 use Rattle.pol_distill.specs.Passing.{Rises, begins_with, is_covered, last_deny}
 use Rattle.pol_distill.specs.Sorted.{IsSmall, IsTable}
 use Rattle.pol_distill.proofs.Joined.{joined, joined_is}

@@ -10,7 +10,7 @@ use Rattle.pol_mapkey.specs.Entries.{Entry, is_deny}
 use Rattle.pol_mapkey.specs.declared.MapKey.{MapKey}
 use Rattle.pol_mapkey.proofs.Equality.{same_key-self}
 use Rattle.pol_model.specs.PolicyMap.{is_under_deny}
-use Rattle.pol_facts.proofs.Merged.{entry_cmp}
+use Rattle.pol_model_laws.proofs.Merged.{entry_cmp}
 use Rattle.pol_distill.specs.Passing.{is_covered, last_deny}
 use Rattle.pol_distill.specs.Sorted.{IsSmall}
 use Rattle.pol_distill.proofs.Between.{key_between, no_later_covers, strict_covers, strict_in_order, strict_through}

@@ -6,7 +6,7 @@ use Rattle.pol_model.specs.declared.row.Endpoint.{Endpoint}
 use Rattle.pol_model.specs.PolicyMap.{canonical, raw_entries}
 use Rattle.pol_model.specs.Selects.{set_at}
 use Rattle.pol_model.specs.State.{State}
-use Rattle.pol_facts.specs.MapFacts.{AgreeOnParts}
+use Rattle.pol_model_laws.specs.MapFacts.{AgreeOnParts}
 use Rattle.pol_sets.specs.declared.sets.SetRow.{SetRow}
 use Rattle.pol_sets.specs.Sets.{set_given}
 use Rattle.pol_l4.specs.declared.filter.Filters.{Filters}

@@ -13,7 +13,7 @@ ghost use Rattle.pol_model.specs.Fault.{is_init};
 ghost use Rattle.pol_model.specs.PolicyMap.{policy_map};
 ghost use Rattle.pol_model.specs.State.{State};
 ghost use Rattle.pol_model.specs.Verdict.{verdict_of};
-ghost use Rattle.pol_facts.specs.WithoutFaults.{WithoutFaults};
+ghost use Rattle.pol_model_laws.specs.WithoutFaults.{WithoutFaults};
 ghost use Rattle.pol_sets.specs.declared.sets.SetRow.{SetRow as OneRow};
 ghost use Rattle.pol_distill.specs.Distilled.{HasSetsOf, distilled, filters_at};
 

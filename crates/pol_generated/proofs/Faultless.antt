@@ -1,7 +1,7 @@
 -- Each request of a generated script may commit, and each of its queries is for a live endpoint.
 use Rattle.std.proofs.Common.{◌≡◌, ℕ, zero, suc, ◌+◌, ◌*◌, ◌%◌, ◌<◌, ◌≤◌, ◌==◌, Bool, true, false, cond, if◌then◌else◌, List, [], ◌∷◌, ◌++◌, map, Ok, refl, sym, ap, ◌∙◌, subst, arith, append_assoc}
 use Rattle.std.specs.List.{AllByRecursion, flat_map, range_with_len}
-use Rattle.pol_facts.specs.WithoutFaults.{WithoutFaults}
+use Rattle.pol_model_laws.specs.WithoutFaults.{WithoutFaults}
 use Rattle.pol_gen.specs.Draws.{after as after_draws, drawn}
 use Rattle.pol_gen.specs.Generated.{draws_before, generated}
 use Rattle.pol_model.specs.After.{after, start}

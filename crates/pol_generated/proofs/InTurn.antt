@@ -8,7 +8,7 @@ use Rattle.pol_answer.specs.declared.answer.Answer.{Answer}
 use Rattle.pol_answer.specs.declared.answer.Answer.TheVariants as answer
 use Rattle.pol_data.proofs.Counts.{count_by-cons}
 use Rattle.pol_data.proofs.Members.{Contains-here}
-use Rattle.pol_facts.proofs.Lives.{added-within}
+use Rattle.pol_model_laws.proofs.Lives.{added-within}
 use Rattle.pol_model.specs.After.{after}
 use Rattle.pol_model.specs.Committed.{identity_given}
 use Rattle.pol_model.specs.Endpoints.{endpoint_of}

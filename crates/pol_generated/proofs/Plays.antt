@@ -1,7 +1,7 @@
 -- Commands that may all be answered in input order: requests that may commit, and queries of live endpoints.
 use Rattle.std.proofs.Common.{◌≡◌, ℕ, Bool, true, false, ◌||◌, List, [], ◌∷◌, ◌++◌, map, Option, None, Some, option_map, Ok, refl, sym, subst}
 use Rattle.std.specs.List.{list_any}
-use Rattle.pol_facts.specs.WithoutFaults.{CommitFrom, MayCommit}
+use Rattle.pol_model_laws.specs.WithoutFaults.{CommitFrom, MayCommit}
 use Rattle.pol_model.specs.After.{after, after_all}
 use Rattle.pol_model.specs.Endpoints.{endpoint_of}
 use Rattle.pol_model.specs.Explain.{explain_for}

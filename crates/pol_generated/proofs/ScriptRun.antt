@@ -5,9 +5,9 @@ use Rattle.std.proofs.lemmas.List.{length-map}
 use Rattle.std.proofs.lemmas.Option.{same_Some}
 use Rattle.pol_answer.specs.declared.answer.Answer.{Answer}
 use Rattle.pol_data.proofs.Every.{every-append}
-use Rattle.pol_facts.proofs.StateLaws.{keeps-after, keeps-start}
-use Rattle.pol_facts.specs.Keeps.{Keeps}
-use Rattle.pol_facts.specs.WithoutFaults.{CommitFrom}
+use Rattle.pol_model_laws.proofs.StateLaws.{keeps-after, keeps-start}
+use Rattle.pol_model_laws.specs.Keeps.{Keeps}
+use Rattle.pol_model_laws.specs.WithoutFaults.{CommitFrom}
 use Rattle.pol_gen.specs.Draws.{after as after_draws, drawn}
 use Rattle.pol_gen.specs.Generated.{draws_before, generated}
 use Rattle.pol_model.specs.After.{after, after_all, start}

@@ -5,7 +5,7 @@ use Rattle.std.specs.List.{AllByRecursion}
 use Rattle.std.proofs.lemmas.Bool.{le-leb}
 use Rattle.std.proofs.lemmas.List.{length-map}
 use Rattle.pol_answer.specs.declared.answer.Answer.TheVariants as answer
-use Rattle.pol_facts.proofs.StateLaws.{keeps-start}
+use Rattle.pol_model_laws.proofs.StateLaws.{keeps-start}
 use Rattle.pol_gen.specs.Generated.{generated}
 use Rattle.pol_model.specs.After.{after, start}
 use Rattle.pol_model.specs.Endpoints.{endpoint_of}

@@ -9,8 +9,8 @@ use Rattle.std.specs.List.Sorted.{IsStrictlySortedBy}
 use Rattle.pol_addr.specs.Address.{same_addr}
 use Rattle.pol_addr.specs.declared.address.Addr.{Addr}
 use Rattle.pol_addr.specs.declared.network.Prefix.{Prefix}
-use Rattle.pol_facts.proofs.Membership.{In-list_any, found-some, insert-here, insert-kept, list_any-In}
-use Rattle.pol_facts.specs.WithoutFaults.{MayCommit}
+use Rattle.pol_model_laws.proofs.Membership.{In-list_any, found-some, insert-here, insert-kept, list_any-In}
+use Rattle.pol_model_laws.specs.WithoutFaults.{MayCommit}
 use Rattle.pol_labels.specs.Order.{IsLabelSet}
 use Rattle.pol_model.specs.After.{after, new_endpoint}
 use Rattle.pol_model.specs.Endpoints.{endpoint_of}

@@ -12,11 +12,11 @@ use Rattle.std.proofs.lemmas.List.Sums.{count_by-le-length, length-filter}
 use Rattle.std.proofs.lemmas.Map.Made.{length-le_from_is_member}
 use Rattle.pol_data.proofs.Every.{every-kept}
 use Rattle.pol_data.proofs.Members.{In, Contains-from_In, In-from_Contains, every-in}
-use Rattle.pol_facts.proofs.Membership.{In-filter, In-list_any, In-map, list_any-In, map-In}
-use Rattle.pol_facts.proofs.PolicyHolders.{same_key-Decides}
-use Rattle.pol_facts.proofs.FoundRows.{row-kinds}
-use Rattle.pol_facts.proofs.StartRows.{start_row}
-use Rattle.pol_facts.specs.Keeps.{Keeps, KeepsRows}
+use Rattle.pol_model_laws.proofs.Membership.{In-filter, In-list_any, In-map, list_any-In, map-In}
+use Rattle.pol_model_laws.proofs.PolicyHolders.{same_key-Decides}
+use Rattle.pol_model_laws.proofs.FoundRows.{row-kinds}
+use Rattle.pol_model_laws.proofs.StartRows.{start_row}
+use Rattle.pol_model_laws.specs.Keeps.{Keeps, KeepsRows}
 use Rattle.pol_labels.specs.Match.{matches}
 use Rattle.pol_labels.specs.declared.label.Label.{Label}
 use Rattle.pol_mapkey.specs.Entries.{Entry as MapEntry}

@@ -2,7 +2,7 @@
 //! Each function does nothing: its contract is the law.
 ghost use Rattle.std.specs.Prelude.{◌≡◌, ℕ, ◌+◌, ◌*◌, ◌/◌, List, Option, length, map, Ok};
 ghost use Rattle.std.specs.List.{count_by};
-ghost use Rattle.pol_facts.specs.WithoutFaults.{WithoutFaults};
+ghost use Rattle.pol_model_laws.specs.WithoutFaults.{WithoutFaults};
 ghost use Rattle.pol_gen.specs.Generated.{generated};
 ghost use Rattle.pol_model.specs.declared.options.Options.{Options};
 ghost use Rattle.pol_run.specs.Run.{readings_of, status_of};

@@ -16,9 +16,9 @@ use Rattle.pol_model.specs.declared.request.Request.{Request}
 use Rattle.pol_model.specs.declared.request.Request.TheVariants.{AddEndpoint, RemoveEndpoint, AddIdentity, RemoveIdentity, Apply, Remove, SetMode}
 use Rattle.pol_model.specs.declared.row.Endpoint.{Endpoint}
 use Rattle.pol_model.proofs.Histories.{state_of-revision}
-use Rattle.pol_facts.proofs.Membership.{find-In}
-use Rattle.pol_facts.proofs.NoFault.{add_endpoint}
-use Rattle.pol_facts.proofs.Lives.{found_kept, found_lost, named_alike}
+use Rattle.pol_model_laws.proofs.Membership.{find-In}
+use Rattle.pol_model_laws.proofs.NoFault.{add_endpoint}
+use Rattle.pol_model_laws.proofs.Lives.{found_kept, found_lost, named_alike}
 use Rattle.pol_history.specs.declared.event.EndpointId.{EndpointId}
 use Rattle.pol_history.specs.declared.event.HistoryEvent.{HistoryEvent}
 use Rattle.pol_history.specs.declared.event.HistoryEvent.TheVariants as event

@@ -16,10 +16,10 @@ use Rattle.pol_model.specs.declared.options.Options.{Options}
 use Rattle.pol_model.specs.declared.request.Query.{Query}
 use Rattle.pol_model.specs.declared.request.Request.{Request}
 use Rattle.pol_model.specs.declared.row.Endpoint.{Endpoint}
-use Rattle.pol_facts.proofs.Remembered.{added-by}
+use Rattle.pol_model_laws.proofs.Remembered.{added-by}
 use Rattle.pol_data.proofs.Members.{Contains-from_In}
 use Rattle.std.proofs.lemmas.List.{length-take}
-use Rattle.pol_facts.proofs.Membership.{find-In}
+use Rattle.pol_model_laws.proofs.Membership.{find-In}
 use Rattle.pol_history.specs.declared.event.EndpointId.{EndpointId}
 use Rattle.pol_history.specs.declared.event.HistoryEvent.{HistoryEvent}
 use Rattle.pol_history.specs.declared.event.HistoryEvent.TheVariants as event

@@ -11,7 +11,7 @@ use Rattle.pol_model.specs.declared.request.Query.{Query}
 use Rattle.pol_model.specs.declared.request.Remote.{Remote}
 use Rattle.pol_model.specs.declared.request.Remote.TheVariants.{Identity, Address}
 use Rattle.pol_model.specs.declared.row.Endpoint.{Endpoint}
-use Rattle.pol_facts.proofs.Membership.{find-In}
+use Rattle.pol_model_laws.proofs.Membership.{find-In}
 use Rattle.pol_history.specs.declared.event.HistoryEvent.{HistoryEvent}
 use Rattle.pol_history.specs.Commits.{commits_in, revision_of, state_after, state_now}
 use Rattle.pol_history.specs.Content.{BoardRow, PublishedMap, content_of}

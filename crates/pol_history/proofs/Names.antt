@@ -12,10 +12,10 @@ use Rattle.pol_model.specs.declared.request.Request.TheVariants.{AddEndpoint, Re
 use Rattle.pol_model.specs.declared.row.Endpoint.{Endpoint}
 use Rattle.pol_model.proofs.AscendingStates.{state_slots_ascend}
 use Rattle.pol_model.proofs.Histories.{state_of-push}
-use Rattle.pol_facts.proofs.Distinct.{differ_filtered, differ_inserted, found_by_key}
-use Rattle.pol_facts.proofs.Keyed.{found_by_number, one_of_number}
-use Rattle.pol_facts.proofs.Membership.{find-In}
-use Rattle.pol_facts.proofs.NoFault.{add_endpoint}
+use Rattle.pol_model_laws.proofs.Distinct.{differ_filtered, differ_inserted, found_by_key}
+use Rattle.pol_model_laws.proofs.Keyed.{found_by_number, one_of_number}
+use Rattle.pol_model_laws.proofs.Membership.{find-In}
+use Rattle.pol_model_laws.proofs.NoFault.{add_endpoint}
 use Rattle.pol_history.specs.declared.event.EndpointId.{EndpointId}
 use Rattle.pol_history.specs.declared.event.HistoryEvent.{HistoryEvent}
 use Rattle.pol_history.specs.declared.event.HistoryEvent.TheVariants as event

@@ -11,7 +11,7 @@ use Rattle.pol_model.specs.declared.options.Options.{Options}
 use Rattle.pol_model.specs.declared.request.Request.{Request}
 use Rattle.pol_model.specs.declared.row.Endpoint.{Endpoint}
 use Rattle.pol_model.specs.FullRows.{fits_limit}
-use Rattle.pol_facts.proofs.Membership.{find-In}
+use Rattle.pol_model_laws.proofs.Membership.{find-In}
 use Rattle.pol_history.specs.declared.event.EndpointId.{EndpointId}
 use Rattle.pol_history.specs.declared.event.HistoryEvent.{HistoryEvent}
 use Rattle.pol_history.specs.declared.event.HistoryEvent.TheVariants as event
@@ -28,7 +28,7 @@ use Rattle.pol_history.proofs.Cuts.{revision-append, revision-take, state-cut, s
 use Rattle.pol_history.proofs.LastReports.{Tells, last_report-more, told}
 use Rattle.pol_history.proofs.LegalEvents.{each_legal, legal_more}
 use Rattle.pol_history.proofs.Lists.{get_cases}
-use Rattle.pol_facts.proofs.Lives.{added-within}
+use Rattle.pol_model_laws.proofs.Lives.{added-within}
 use Rattle.pol_history.proofs.Lives.{lives-back, lives-then}
 use Rattle.pol_history.proofs.Names.{slot-live}
 use Rattle.pol_history.proofs.Same.{live-parts, same_cases}

@@ -19,9 +19,9 @@ use Rattle.pol_model.specs.declared.options.Options.{Options}
 use Rattle.pol_model.specs.declared.row.Endpoint.{Endpoint}
 use Rattle.pol_model.proofs.AscendingStates.{state_slots_ascend}
 use Rattle.pol_model.specs.FullRows.{FullRowsAscend}
-use Rattle.pol_facts.proofs.Keyed.{found_by_number}
-use Rattle.pol_facts.proofs.Lives.{added-within}
-use Rattle.pol_facts.proofs.Membership.{find-In}
+use Rattle.pol_model_laws.proofs.Keyed.{found_by_number}
+use Rattle.pol_model_laws.proofs.Lives.{added-within}
+use Rattle.pol_model_laws.proofs.Membership.{find-In}
 use Rattle.pol_history.specs.declared.event.EndpointId.{EndpointId}
 use Rattle.pol_history.specs.declared.event.HistoryEvent.{HistoryEvent}
 use Rattle.pol_history.specs.declared.event.HistoryEvent.TheVariants as event

@@ -6,18 +6,18 @@ use Rattle.pol_labels.specs.declared.label.Label.{Label}
 use Rattle.pol_model.specs.declared.limits.TheConstants.{RESERVED_LAST}
 use Rattle.pol_model.specs.declared.row.IdentityRow.{IdentityRow}
 use Rattle.pol_model.specs.Identities.{is_reserved, released}
-use Rattle.pol_facts.specs.Holding.{has_row, row_of}
-use Rattle.pol_facts.specs.Keeps.{KeepsRows}
-use Rattle.pol_facts.proofs.RowLaws.{keep_released}
+use Rattle.pol_model_laws.specs.Holding.{has_row, row_of}
+use Rattle.pol_model_laws.specs.Keeps.{KeepsRows}
+use Rattle.pol_model_laws.proofs.RowLaws.{keep_released}
 use Rattle.pol_ident.specs.declared.place.Place.TheVariants.{Reserved, Cluster, Local, Nowhere}
 use Rattle.pol_ident.specs.Place.{IsPlaceOf}
 use Rattle.pol_ident.specs.Rows.{IsIdentities, rows_of}
-use Rattle.pol_places.specs.Slots.{Slot, changed, one_less, slot_at}
+use Rattle.pol_interner.specs.Slots.{Slot, changed, one_less, slot_at}
 use Rattle.pol_ident.proofs.HeldLabels as labels
 use Rattle.pol_ident.proofs.HeldPrefixes as prefixes
 use Rattle.pol_ident.proofs.Looks.{cluster-row, has_row-found, local-row, nowhere-row}
 use Rattle.pol_ident.proofs.RowLists.{AreHeld, recounted-reserved}
-use Rattle.pol_places.proofs.SlotLengths.{length-changed}
+use Rattle.pol_interner.proofs.SlotLengths.{length-changed}
 
 -- What a call that gave the number back owes.
 pub record IsReleased (number : ℕ) (reserved rows : List IdentityRow) (cluster : List (Slot (List Label))) (local : List (Slot Prefix)) : Type 0 where

@@ -13,17 +13,17 @@ use Rattle.pol_model.specs.declared.row.IdentityRow.{IdentityRow}
 use Rattle.pol_model.specs.Fault.{has_reserved, is_exhausted, is_init}
 use Rattle.pol_model.specs.Identities.{free_number, held_or_new, is_local, is_reserved, labels_held, number_for, number_of_labels, or_free, released, reserved_identities, reserved_row, with_holder}
 use Rattle.pol_model.specs.Numbers.{placed_by}
-use Rattle.pol_facts.specs.Keeps.{KeepsRows}
-use Rattle.pol_facts.proofs.FoundRows.{found-labels, found_with, labels_pass, reserved-there}
-use Rattle.pol_facts.proofs.Keyed.{placed_behind}
-use Rattle.pol_facts.proofs.Membership.{In-append, In-right}
-use Rattle.pol_facts.proofs.RowLaws.{keep_labels}
-use Rattle.pol_facts.proofs.StartRows.{start_row}
+use Rattle.pol_model_laws.specs.Keeps.{KeepsRows}
+use Rattle.pol_model_laws.proofs.FoundRows.{found-labels, found_with, labels_pass, reserved-there}
+use Rattle.pol_model_laws.proofs.Keyed.{placed_behind}
+use Rattle.pol_model_laws.proofs.Membership.{In-append, In-right}
+use Rattle.pol_model_laws.proofs.RowLaws.{keep_labels}
+use Rattle.pol_model_laws.proofs.StartRows.{start_row}
 use Rattle.pol_ident.specs.Rows.{IsIdentities, cluster_rows, local_rows, row_with, rows_of}
-use Rattle.pol_places.specs.Slots.{HasNone, HasPlace, Slot, changed, filled, free_place, one_less, one_more}
-use Rattle.pol_places.proofs.FreePlaces.{free_place-le, taken_within}
+use Rattle.pol_interner.specs.Slots.{HasNone, HasPlace, Slot, changed, filled, free_place, one_less, one_more}
+use Rattle.pol_interner.proofs.FreePlaces.{free_place-le, taken_within}
 use Rattle.pol_ident.proofs.RowLists.{AllAbove, AreHeld, recounted-reserved}
-use Rattle.pol_places.proofs.SlotLengths.{length-changed, length-filled}
+use Rattle.pol_interner.proofs.SlotLengths.{length-changed, length-filled}
 use Rattle.pol_ident.proofs.RowsOf.{In-here, In-slots, held-behind, less-front, more-front, reserved-below}
 use Rattle.pol_ident.proofs.SlotRows.{free-here, less-here, more-here, placed-here, rows-above}
 

@@ -17,19 +17,19 @@ use Rattle.pol_model.specs.Identities.{free_number, held_or_new, is_local, or_fr
 use Rattle.pol_model.specs.Numbers.{placed_by}
 use Rattle.pol_model.specs.Prefixes.{has_prefix, number_of_prefix, prefix_held, prefix_row}
 use Rattle.pol_model.specs.Worlds.{world_around, world_labels}
-use Rattle.pol_facts.specs.Keeps.{KeepsRows}
-use Rattle.pol_facts.proofs.FoundRows.{found-prefix, found_with, locals-few, reserved-there}
-use Rattle.pol_facts.proofs.Keyed.{placed_behind}
-use Rattle.pol_facts.proofs.Ledger.{has_prefix-is}
-use Rattle.pol_facts.proofs.Membership.{In-append, In-right}
-use Rattle.pol_facts.proofs.PrefixHolders.{least_free-within}
-use Rattle.pol_facts.proofs.RowLaws.{keep_prefix}
+use Rattle.pol_model_laws.specs.Keeps.{KeepsRows}
+use Rattle.pol_model_laws.proofs.FoundRows.{found-prefix, found_with, locals-few, reserved-there}
+use Rattle.pol_model_laws.proofs.Keyed.{placed_behind}
+use Rattle.pol_model_laws.proofs.Ledger.{has_prefix-is}
+use Rattle.pol_model_laws.proofs.Membership.{In-append, In-right}
+use Rattle.pol_model_laws.proofs.PrefixHolders.{least_free-within}
+use Rattle.pol_model_laws.proofs.RowLaws.{keep_prefix}
 use Rattle.pol_ident.specs.Look.{number_for_prefix}
 use Rattle.pol_ident.specs.Rows.{IsIdentities, cluster_rows, local_rows, row_with, rows_of, rows_then}
-use Rattle.pol_places.specs.Slots.{HasNone, HasPlace, Slot, changed, filled, free_place, one_less, one_more}
+use Rattle.pol_interner.specs.Slots.{HasNone, HasPlace, Slot, changed, filled, free_place, one_less, one_more}
 use Rattle.pol_ident.proofs.HeldLabels.{plain, unreserved, without}
 use Rattle.pol_ident.proofs.RowLists.{AreHeld, recounted-reserved}
-use Rattle.pol_places.proofs.SlotLengths.{length-changed, length-filled}
+use Rattle.pol_interner.proofs.SlotLengths.{length-changed, length-filled}
 use Rattle.pol_ident.proofs.RowsOf.{AllBelow, In-here, In-past, In-slots, held-behind, held-past, less-front, more-front, reserved-below}
 use Rattle.pol_ident.proofs.SlotRows.{free-here, free-past, less-here, less-past, more-here, more-past, placed-here, placed-past}
 

@@ -8,15 +8,15 @@ use Rattle.pol_data.proofs.Members.{Contains-from_In, In-from_Contains}
 use Rattle.pol_model.specs.declared.limits.TheConstants.{CLUSTER_FIRST, CLUSTER_IDENTITIES, LOCAL_FIRST, RESERVED_LAST}
 use Rattle.pol_model.specs.declared.row.IdentityRow.{IdentityRow}
 use Rattle.pol_model.specs.Identities.{reserved_identities}
-use Rattle.pol_facts.specs.Holding.{has_row, row_of}
-use Rattle.pol_facts.specs.Keeps.{KeepsRows}
-use Rattle.pol_facts.proofs.FoundRows.{row-kinds}
-use Rattle.pol_facts.proofs.Membership.{find-In}
-use Rattle.pol_facts.proofs.StartRows.{start_row}
+use Rattle.pol_model_laws.specs.Holding.{has_row, row_of}
+use Rattle.pol_model_laws.specs.Keeps.{KeepsRows}
+use Rattle.pol_model_laws.proofs.FoundRows.{row-kinds}
+use Rattle.pol_model_laws.proofs.Membership.{find-In}
+use Rattle.pol_model_laws.proofs.StartRows.{start_row}
 use Rattle.pol_ident.specs.declared.place.Place.TheVariants.{Reserved, Cluster, Local, Nowhere}
 use Rattle.pol_ident.specs.Place.{IsPlaceOf}
 use Rattle.pol_ident.specs.Rows.{cluster_rows, local_rows, row_with, rows_of}
-use Rattle.pol_places.specs.Slots.{Slot, slot_at}
+use Rattle.pol_interner.specs.Slots.{Slot, slot_at}
 use Rattle.pol_ident.proofs.HeldLabels.{local-above, plain, without}
 use Rattle.pol_ident.proofs.HeldPrefixes.{worlds}
 use Rattle.pol_ident.proofs.RowsOf.{reserved-below, row-front}

@@ -8,9 +8,9 @@ use Rattle.pol_data.proofs.Members.{In}
 use Rattle.pol_model.specs.declared.limits.TheConstants.{RESERVED_LAST}
 use Rattle.pol_model.specs.declared.row.IdentityRow.{IdentityRow}
 use Rattle.pol_model.specs.Identities.{released, reserved_identities, with_holder}
-use Rattle.pol_facts.specs.Holding.{row_of}
+use Rattle.pol_model_laws.specs.Holding.{row_of}
 use Rattle.pol_ident.specs.Rows.{row_with, rows_then}
-use Rattle.pol_places.specs.Slots.{Slot, slot_at}
+use Rattle.pol_interner.specs.Slots.{Slot, slot_at}
 use Rattle.pol_ident.proofs.RowLists.{AreHeld, recounted-other, released-cons}
 
 -- each number is below this one

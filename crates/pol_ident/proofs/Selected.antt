@@ -6,8 +6,8 @@ use Rattle.std.proofs.lemmas.Bool.{eqb-true}
 use Rattle.pol_addr.specs.declared.network.Prefix.{Prefix}
 use Rattle.pol_labels.specs.declared.label.Label.{Label}
 use Rattle.pol_rule.specs.declared.policy.Peer.{Peer}
-use Rattle.pol_facts.specs.Holding.{row_of}
-use Rattle.pol_facts.proofs.Membership.{find-In}
+use Rattle.pol_model_laws.specs.Holding.{row_of}
+use Rattle.pol_model_laws.proofs.Membership.{find-In}
 use Rattle.pol_model.specs.declared.row.IdentityRow.{IdentityRow}
 use Rattle.pol_model.specs.Selects.{known_as, selects, selects_row}
 use Rattle.pol_ident.specs.Look.{labels_at, prefix_at, selects_held}

@@ -7,9 +7,9 @@ use Rattle.pol_model.specs.declared.row.IdentityRow.{IdentityRow}
 use Rattle.pol_model.specs.Identities.{is_reserved, released, with_holder}
 use Rattle.pol_model.specs.Numbers.{least_free, placed_by}
 use Rattle.pol_model.proofs.Ascents.{placed_later}
-use Rattle.pol_facts.specs.Holding.{row_of}
+use Rattle.pol_model_laws.specs.Holding.{row_of}
 use Rattle.pol_ident.specs.Rows.{row_with, rows_then}
-use Rattle.pol_places.specs.Slots.{Slot, changed, filled, free_place, numbers_from, one_less, one_more, slot_at}
+use Rattle.pol_interner.specs.Slots.{Slot, changed, filled, free_place, numbers_from, one_less, one_more, slot_at}
 use Rattle.pol_ident.proofs.RowLists.{above-same, AllAbove, AreHeld, least_free-above, least_free-below, least_free-here, numbers, placed_first, recounted-above, recounted-other, recounted-own, released-above, released-cons}
 
 module _ {K : Type 0} (labels : K → List Label) (prefix : K → Option Prefix) where

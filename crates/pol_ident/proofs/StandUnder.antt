@@ -3,13 +3,13 @@ use Rattle.std.proofs.Common.{◌≡◌, ℕ, ◌+◌, Bool, true, false, cond, 
 use Rattle.std.proofs.lemmas.List.{append-nil, append_assoc, map-append}
 use Rattle.std.proofs.lemmas.List.Elements.{filter-append}
 use Rattle.pol_addr.specs.declared.network.Prefix.{Prefix}
-use Rattle.pol_filing.specs.declared.heading.Heading.{Heading}
-use Rattle.pol_filing.specs.Stands.{stands_under, stands_with}
+use Rattle.pol_headings.specs.declared.heading.Heading.{Heading}
+use Rattle.pol_headings.specs.Stands.{stands_under, stands_with}
 use Rattle.pol_labels.specs.declared.label.Label.{Label}
 use Rattle.pol_model.specs.declared.limits.TheConstants.{CLUSTER_FIRST, LOCAL_FIRST}
 use Rattle.pol_model.specs.declared.row.IdentityRow.{IdentityRow}
 use Rattle.pol_model.specs.Identities.{reserved_identities}
-use Rattle.pol_places.specs.Slots.{Slot, numbers_from, numbers_where}
+use Rattle.pol_interner.specs.Slots.{Slot, numbers_from, numbers_where}
 use Rattle.pol_ident.specs.Rows.{cluster_rows, local_rows, row_with, rows_of, rows_then}
 use Rattle.pol_ident.proofs.HeldLabels.{plain, without}
 use Rattle.pol_ident.proofs.HeldPrefixes.{worlds}

@@ -9,7 +9,7 @@ use Rattle.pol_model.specs.Identities.{free_number, or_free}
 use Rattle.pol_model.specs.Prefixes.{number_of_prefix}
 use Rattle.pol_model.specs.Selects.{selects_row}
 use Rattle.pol_rule.specs.declared.policy.Peer.{Peer}
-use Rattle.pol_facts.specs.Holding.{row_of}
+use Rattle.pol_model_laws.specs.Holding.{row_of}
 
 -- the labels of the number, where it has a row
 abbrev pub labels_at : ℕ → List IdentityRow → Option (List Label)

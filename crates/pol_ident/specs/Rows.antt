@@ -7,8 +7,8 @@ use Rattle.pol_model.specs.declared.limits.TheConstants.{CLUSTER_FIRST, CLUSTER_
 use Rattle.pol_model.specs.declared.row.IdentityRow.{IdentityRow}
 use Rattle.pol_model.specs.Identities.{reserved_identities}
 use Rattle.pol_model.specs.Worlds.{world_around, world_labels}
-use Rattle.pol_facts.specs.Keeps.{KeepsRows}
-use Rattle.pol_places.specs.Slots.{Slot}
+use Rattle.pol_model_laws.specs.Keeps.{KeepsRows}
+use Rattle.pol_interner.specs.Slots.{Slot}
 
 module _ {K : Type 0} (labels : K → List Label) (prefix : K → Option Prefix) where
   -- the row of a key under a number

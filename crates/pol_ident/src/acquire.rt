@@ -3,7 +3,7 @@ ghost use Rattle.std.specs.Prelude.{◌≡◌, ◌&&◌, ◌↔◌, not, true, f
 ghost use Rattle.pol_model.specs.Fault.{has_reserved, is_exhausted, is_init, locals_held};
 ghost use Rattle.pol_model.specs.Identities.{labels_held, number_for};
 ghost use Rattle.pol_model.specs.Prefixes.{number_of_prefix, prefix_held};
-ghost use Rattle.pol_facts.specs.Keeps.{KeepsRows};
+ghost use Rattle.pol_model_laws.specs.Keeps.{KeepsRows};
 ghost use Rattle.pol_ident.specs.Look.{number_for_prefix};
 
 use crate::{IdentError, Identities};

@@ -2,7 +2,7 @@
 ghost use Rattle.std.specs.Prelude.{◌≡◌, ◌&&◌, not, false};
 ghost use Rattle.pol_model.specs.Fault.{has_reserved, is_init};
 ghost use Rattle.pol_model.specs.Identities.{number_of_labels};
-ghost use Rattle.pol_facts.specs.Keeps.{KeepsRows};
+ghost use Rattle.pol_model_laws.specs.Keeps.{KeepsRows};
 
 use crate::Identities;
 use pol_labels::LabelSet;

@@ -1,7 +1,7 @@
 //! How many hold a number.
 ghost use Rattle.std.specs.Prelude.{◌≡◌, option_map};
-ghost use Rattle.pol_facts.specs.Holding.{row_of};
-ghost use Rattle.pol_facts.specs.Keeps.{KeepsRows};
+ghost use Rattle.pol_model_laws.specs.Holding.{row_of};
+ghost use Rattle.pol_model_laws.specs.Keeps.{KeepsRows};
 
 use crate::Identities;
 use crate::place::{Place, place_of};

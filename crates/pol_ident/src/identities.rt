@@ -1,7 +1,7 @@
 //! The identities of a cluster and of prefixes.
 ghost use Rattle.std.specs.Prelude.{◌≡◌, IfOk};
 ghost use Rattle.pol_model.specs.Identities.{reserved_identities};
-ghost use Rattle.pol_facts.specs.Keeps.{KeepsRows};
+ghost use Rattle.pol_model_laws.specs.Keeps.{KeepsRows};
 
 use pol_data::Memory;
 use pol_label_sets::LabelSets;

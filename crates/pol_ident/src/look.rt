@@ -1,8 +1,8 @@
 //! What is known of a number.
 ghost use Rattle.std.specs.Prelude.{◌≡◌, option_map};
 ghost use Rattle.std.specs.Option.{option_copied};
-ghost use Rattle.pol_facts.specs.Holding.{has_row, row_of};
-ghost use Rattle.pol_facts.specs.Keeps.{KeepsRows};
+ghost use Rattle.pol_model_laws.specs.Holding.{has_row, row_of};
+ghost use Rattle.pol_model_laws.specs.Keeps.{KeepsRows};
 ghost use Rattle.pol_ident.specs.Look.{labels_at, prefix_at};
 
 use crate::Identities;

@@ -2,7 +2,7 @@
 ghost use Rattle.std.specs.Prelude.{◌≡◌};
 ghost use Rattle.pol_model.specs.Fault.{locals_held};
 ghost use Rattle.pol_model.specs.Prefixes.{number_of_prefix};
-ghost use Rattle.pol_facts.specs.Keeps.{KeepsRows};
+ghost use Rattle.pol_model_laws.specs.Keeps.{KeepsRows};
 
 use crate::Identities;
 use pol_addr::Prefix;

@@ -1,8 +1,8 @@
 //! Numbers given back.
 ghost use Rattle.std.specs.Prelude.{◌≡◌, true};
 ghost use Rattle.pol_model.specs.Identities.{released};
-ghost use Rattle.pol_facts.specs.Holding.{has_row};
-ghost use Rattle.pol_facts.specs.Keeps.{KeepsRows};
+ghost use Rattle.pol_model_laws.specs.Holding.{has_row};
+ghost use Rattle.pol_model_laws.specs.Keeps.{KeepsRows};
 
 use crate::Identities;
 use crate::place::{Place, place_of};

@@ -1,6 +1,6 @@
 //! Which held numbers a peer selects.
 ghost use Rattle.std.specs.Prelude.{◌≡◌};
-ghost use Rattle.pol_facts.specs.Keeps.{KeepsRows};
+ghost use Rattle.pol_model_laws.specs.Keeps.{KeepsRows};
 ghost use Rattle.pol_ident.specs.Look.{selects_held};
 
 use crate::Identities;

@@ -1,16 +1,16 @@
 //! The identities under a heading, by the index of their kind.
 ghost use Rattle.std.specs.Prelude.{◌≡◌, ◌≤◌, ◌++◌, None, Some, IfOk, OnOk, filter, length, map};
-ghost use Rattle.pol_facts.specs.Keeps.{KeepsRows};
-ghost use Rattle.pol_filing.specs.declared.heading.Heading.TheVariants.{Label as ByLabel};
-ghost use Rattle.pol_filing.specs.Heading.{heading_by};
-ghost use Rattle.pol_filing.specs.Stands.{stands_under, stands_with};
+ghost use Rattle.pol_model_laws.specs.Keeps.{KeepsRows};
+ghost use Rattle.pol_headings.specs.declared.heading.Heading.TheVariants.{Label as ByLabel};
+ghost use Rattle.pol_headings.specs.Heading.{heading_by};
+ghost use Rattle.pol_headings.specs.Stands.{stands_under, stands_with};
 ghost use Rattle.pol_label_sets.specs.Carried.{carries_heading};
 ghost use Rattle.pol_model.specs.Worlds.{ipv4, world_around, world_labels};
-ghost use Rattle.pol_places.specs.Slots.{numbers_where};
+ghost use Rattle.pol_interner.specs.Slots.{numbers_where};
 
 use crate::Identities;
 use pol_data::Memory;
-use pol_filing::HeadingRef;
+use pol_headings::HeadingRef;
 use pol_label_sets::LabelSets;
 use pol_labels::LabelSet;
 use pol_local_prefixes::LocalPrefixes;

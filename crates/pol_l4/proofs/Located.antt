@@ -19,7 +19,7 @@ use Rattle.pol_model.specs.declared.request.Request.TheVariants.{Apply}
 use Rattle.pol_model.specs.declared.row.Stamped.{Stamped}
 use Rattle.pol_model.specs.After.{state_of}
 use Rattle.pol_model.specs.Enforced.{allow_section, deny_section}
-use Rattle.pol_facts.proofs.Remembered.{applied-by}
+use Rattle.pol_model_laws.proofs.Remembered.{applied-by}
 use Rattle.pol_l4.specs.declared.filter.Filter.{Filter}
 use Rattle.pol_l4.specs.Resolved.{filter_at, entry_filters, rule_filters, policy_filters, filters_in}
 

@@ -17,7 +17,7 @@ ghost use Rattle.pol_model.specs.Enforced.{allow_section, deny_section, enforced
 ghost use Rattle.pol_model.specs.Explain.{covering_places};
 ghost use Rattle.pol_model.specs.Fault.{is_init};
 ghost use Rattle.pol_model.specs.State.{State};
-ghost use Rattle.pol_facts.specs.Keeps.{Keeps};
+ghost use Rattle.pol_model_laws.specs.Keeps.{Keeps};
 ghost use Rattle.pol_l4.specs.declared.filter.Filter.{Filter as OneFilter};
 ghost use Rattle.pol_l4.specs.FilterParts.{entry_of};
 ghost use Rattle.pol_l4.specs.Resolved.{filters_in, labels_enforced};

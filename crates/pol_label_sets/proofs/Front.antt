@@ -2,8 +2,8 @@
 use Rattle.std.proofs.Common.{zero, suc, ◌≡◌, ◌==◌, ◌<◌, ◌+◌, ◌||◌, ◌&&◌, Bool, true, false, ℕ, List, [], ◌∷◌, length, get_or, take, refl, sym, ap, ◌∙◌}
 use Rattle.std.specs.List.{list_any}
 use Rattle.std.proofs.lemmas.List.Folds.{list_any_more}
-use Rattle.pol_filing.specs.declared.heading.Heading.{Heading}
-use Rattle.pol_filing.specs.Heading.{label_heading, same_heading}
+use Rattle.pol_headings.specs.declared.heading.Heading.{Heading}
+use Rattle.pol_headings.specs.Heading.{label_heading, same_heading}
 use Rattle.pol_labels.specs.declared.label.Label.{Label}
 use Rattle.pol_label_sets.specs.Carried.{carries_heading}
 use Rattle.pol_label_sets.specs.Filed.{is_of}

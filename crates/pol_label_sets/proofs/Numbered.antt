@@ -9,13 +9,13 @@ use Rattle.std.proofs.lemmas.Bool.{eq-eqb, eqb-true, lt-ltb, or_cases}
 use Rattle.std.proofs.lemmas.Cmp.{nat_cmp_total}
 use Rattle.pol_data.proofs.Ascending.{same_members}
 use Rattle.pol_data.proofs.Members.{In, All-from_Contains, In-from_Contains}
-use Rattle.pol_filing.specs.declared.heading.Heading.{Heading}
-use Rattle.pol_filing.specs.Filed.{Drawers, has, is_filed}
+use Rattle.pol_headings.specs.declared.heading.Heading.{Heading}
+use Rattle.pol_headings.specs.Filed.{Drawers, has, is_filed}
 use Rattle.pol_labels.specs.declared.label.Label.{Label}
 use Rattle.pol_model.specs.Ascending.{Ascends}
-use Rattle.pol_places.specs.Slots.{Slot, numbers_where, slot_at}
-use Rattle.pol_places.proofs.FreePlaces.{taken_within}
-use Rattle.pol_places.proofs.NumbersWhere.{where-ascends, where-from, where-has}
+use Rattle.pol_interner.specs.Slots.{Slot, numbers_where, slot_at}
+use Rattle.pol_interner.proofs.FreePlaces.{taken_within}
+use Rattle.pol_interner.proofs.NumbersWhere.{where-ascends, where-from, where-has}
 use Rattle.pol_label_sets.specs.Carried.{carries_heading}
 use Rattle.pol_label_sets.specs.Filed.{IsFiledAs, slot_carries}
 

@@ -4,11 +4,11 @@ use Rattle.std.specs.Prelude.{nat_le}
 use Rattle.std.proofs.lemmas.Bool.{and_parts, eqb-true, le-leb, lt-leb}
 use Rattle.std.proofs.lemmas.Bool.Decides.{eqb_tells}
 use Rattle.std.proofs.lemmas.Option.{same_Some}
-use Rattle.pol_filing.specs.declared.heading.Heading.{Heading}
-use Rattle.pol_filing.specs.Filed.{Drawers, is_filed}
+use Rattle.pol_headings.specs.declared.heading.Heading.{Heading}
+use Rattle.pol_headings.specs.Filed.{Drawers, is_filed}
 use Rattle.pol_labels.specs.declared.label.Label.{Label}
-use Rattle.pol_places.specs.Slots.{Slot, changed, filled, free_place, one_less, one_more, slot_at}
-use Rattle.pol_places.proofs.SlotAt.{changed-here, changed-other, filled-here, filled-other, none-free}
+use Rattle.pol_interner.specs.Slots.{Slot, changed, filled, free_place, one_less, one_more, slot_at}
+use Rattle.pol_interner.proofs.SlotAt.{changed-here, changed-other, filled-here, filled-other, none-free}
 use Rattle.pol_label_sets.specs.Carried.{carries_heading}
 use Rattle.pol_label_sets.specs.Filed.{IsFiledApart, IsFiledAs, is_of, slot_carries}
 

@@ -1,10 +1,10 @@
 -- How the filing fits the places. No public clause cites this module.
 use Rattle.std.specs.Prelude.{ℕ, ◌≡◌, ◌==◌, ◌&&◌, Bool, false, List}
 use Rattle.std.specs.Option.{option_map_or}
-use Rattle.pol_filing.specs.declared.heading.Heading.{Heading}
-use Rattle.pol_filing.specs.Filed.{Drawers, is_filed}
+use Rattle.pol_headings.specs.declared.heading.Heading.{Heading}
+use Rattle.pol_headings.specs.Filed.{Drawers, is_filed}
 use Rattle.pol_labels.specs.declared.label.Label.{Label}
-use Rattle.pol_places.specs.Slots.{Slot, slot_at}
+use Rattle.pol_interner.specs.Slots.{Slot, slot_at}
 use Rattle.pol_label_sets.specs.Carried.{carries_heading}
 
 -- the slot has a set with a label of the heading

@@ -1,11 +1,11 @@
 //! A place under the headings of labels.
 ghost use Rattle.std.specs.Prelude.{◌≡◌, ◌+◌, ◌^◌, ◌<◌, ◌||◌, ◌&&◌, ◌++◌, ℕ, not, IfOk, OnOk, All, map};
-ghost use Rattle.pol_filing.specs.declared.heading.Heading.{Heading as OneHeading};
-ghost use Rattle.pol_filing.specs.Filed.{is_filed};
+ghost use Rattle.pol_headings.specs.declared.heading.Heading.{Heading as OneHeading};
+ghost use Rattle.pol_headings.specs.Filed.{is_filed};
 ghost use Rattle.pol_label_sets.specs.Filed.{IsFiledApart, is_of};
 
 use pol_data::Memory;
-use pol_filing::{Filing, HeadingRef};
+use pol_headings::{Filing, HeadingRef};
 use pol_labels::Label;
 
 /// Files the place under the heading of each label. After an error some of them may be filed.

@@ -1,16 +1,16 @@
 //! Label sets under places: each has the least place that was free when it came, until its last holder goes.
 ghost use Rattle.std.specs.Prelude.{◌≡◌, ◌+◌, ◌^◌, ◌<◌, ◌++◌, [], IsSome, IfSome, IfNone, OnOk, OnErr, count_by, is_some, option_map, length};
 ghost use Rattle.std.specs.Option.{option_copied};
-ghost use Rattle.pol_filing.specs.Heading.{heading_by};
-ghost use Rattle.pol_places.specs.Slots.{HasNone, HasPlace, changed, filled, free_place, numbers_from, numbers_where, one_less, one_more, slot_at};
+ghost use Rattle.pol_headings.specs.Heading.{heading_by};
+ghost use Rattle.pol_interner.specs.Slots.{HasNone, HasPlace, changed, filled, free_place, numbers_from, numbers_where, one_less, one_more, slot_at};
 ghost use Rattle.pol_label_sets.specs.Carried.{carries_heading};
 ghost use Rattle.pol_label_sets.specs.Filed.{IsFiledApart, IsFiledAs};
 
 use crate::filed::{file_each, push_each, unfile_each};
 use pol_data::Memory;
-use pol_filing::{Filing, HeadingRef};
+use pol_headings::{Filing, HeadingRef};
+use pol_interner::Places;
 use pol_labels::LabelSet;
-use pol_places::Places;
 use std::alloc::Global;
 use std::marker::Model;
 
@@ -27,7 +27,7 @@ pub struct LabelSets {
 impl Model for LabelSets {
     ghost use Rattle.std.specs.Prelude.{List};
     ghost use Rattle.pol_labels.specs.declared.label.Label.{Label};
-    ghost use Rattle.pol_places.specs.Slots.{Slot};
+    ghost use Rattle.pol_interner.specs.Slots.{Slot};
     ghost use Rattle.pol_label_sets.specs.Filed.{IsFiledAs};
 
     ghost Value = { List (Slot (List Label)) };

@@ -10,8 +10,8 @@ use Rattle.pol_addr.specs.contracts.network.PrefixOrd.TheImpl as prefix_ord
 use Rattle.pol_addr.specs.contracts.network.PrefixPartialEq.TheImpl as prefixes
 use Rattle.pol_addr.proofs.Equality.{prefix_eq-Decides}
 use Rattle.pol_addr.proofs.Order.{cases_same, not_tied, tied_same}
-use Rattle.pol_places.specs.Slots.{HasNone, Slot, changed, filled, free_place, one_less, one_more, slot_at}
-use Rattle.pol_places.proofs.SlotAt.{changed-here, changed-other, filled-here, filled-other, none-free}
+use Rattle.pol_interner.specs.Slots.{HasNone, Slot, changed, filled, free_place, one_less, one_more, slot_at}
+use Rattle.pol_interner.proofs.SlotAt.{changed-here, changed-other, filled-here, filled-other, none-free}
 use Rattle.pol_local_prefixes.specs.Tied.{IsOrderOf, last_held}
 use Rattle.pol_local_prefixes.proofs.Between.{same_order}
 

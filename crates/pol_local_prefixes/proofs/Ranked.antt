@@ -22,8 +22,8 @@ use Rattle.pol_addr.proofs.Order.{prefix_cmp_total, prefix_cmp-IsAntisymmetric}
 use Rattle.pol_data.proofs.Ascending.{same_members}
 use Rattle.pol_data.proofs.Every.{every-kept, every-map}
 use Rattle.pol_data.proofs.Members.{Contains-filter, Contains-from_In, Contains-from_filter, In, In-from_Contains, every-from_in, passes-from_filter}
-use Rattle.pol_places.specs.Slots.{Slot, numbers_where, slot_at}
-use Rattle.pol_places.proofs.NumbersWhere.{where-ascends, where-from, where-has}
+use Rattle.pol_interner.specs.Slots.{Slot, numbers_where, slot_at}
+use Rattle.pol_interner.proofs.NumbersWhere.{where-ascends, where-from, where-has}
 use Rattle.pol_local_prefixes.specs.Tied.{IsOrderOf, entries_within, number_from}
 
 eqb-flips : (m n : ℕ) → eqb m n ≡ eqb n m

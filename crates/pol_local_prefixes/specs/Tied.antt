@@ -3,7 +3,7 @@ use Rattle.std.specs.Prelude.{ℕ, ◌≡◌, ◌+◌, nat_le, if◌then◌else�
 use Rattle.std.specs.List.{filter}
 use Rattle.pol_addr.specs.declared.network.Prefix.{Prefix}
 use Rattle.pol_addr.specs.Prefix.{covers}
-use Rattle.pol_places.specs.Slots.{Slot, slot_at}
+use Rattle.pol_interner.specs.Slots.{Slot, slot_at}
 
 -- the entries whose prefix lies in this one
 abbrev pub entries_within : Prefix → List (Prefix × ℕ) → List (Prefix × ℕ)

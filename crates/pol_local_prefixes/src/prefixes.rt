@@ -2,13 +2,13 @@
 ghost use Rattle.std.specs.Prelude.{◌≡◌, ◌+◌, ◌^◌, ◌<◌, ◌++◌, [], IsSome, IfSome, IfNone, OnOk, OnErr, count_by, is_some, option_map, length};
 ghost use Rattle.std.specs.Option.{option_copied};
 ghost use Rattle.pol_addr.specs.Prefix.{covers};
-ghost use Rattle.pol_places.specs.Slots.{HasNone, HasPlace, changed, filled, free_place, numbers_from, numbers_where, one_less, one_more, slot_at};
+ghost use Rattle.pol_interner.specs.Slots.{HasNone, HasPlace, changed, filled, free_place, numbers_from, numbers_where, one_less, one_more, slot_at};
 ghost use Rattle.pol_local_prefixes.specs.Tied.{last_held};
 
 use crate::order::{push_within, sort_from};
 use pol_addr::Prefix;
 use pol_data::Memory;
-use pol_places::Places;
+use pol_interner::Places;
 use std::alloc::Global;
 use std::collections::BTreeMap;
 use std::marker::Model;
@@ -27,7 +27,7 @@ impl Model for LocalPrefixes {
     ghost use Rattle.std.specs.BTreeMap.{get};
     ghost use Rattle.pol_addr.specs.declared.network.Prefix.{Prefix};
     ghost use Rattle.pol_addr.specs.Order.{prefix_cmp};
-    ghost use Rattle.pol_places.specs.Slots.{Slot};
+    ghost use Rattle.pol_interner.specs.Slots.{Slot};
 
     ghost Value = { List (Slot Prefix) };
 

@@ -4,7 +4,7 @@ use Rattle.std.specs.List.{AllByRecursion}
 use Rattle.pol_model.specs.Committed.{slots_of}
 use Rattle.pol_model.specs.State.{State}
 use Rattle.pol_model.specs.declared.row.Endpoint.{Endpoint}
-use Rattle.pol_facts.specs.Keeps.{IsLiveIn, Keeps}
+use Rattle.pol_model_laws.specs.Keeps.{IsLiveIn, Keeps}
 
 few_slots_of : (s : State) (endpoints : List Endpoint) → AllByRecursion (IsLiveIn s) endpoints → slots_of endpoints ≤ 256
 few_slots_of s [] each = omega arith

@@ -8,8 +8,8 @@ use Rattle.pol_model.specs.declared.options.Options.{Options}
 use Rattle.pol_model.specs.declared.row.Endpoint.{Endpoint}
 use Rattle.pol_model.specs.PolicyMap.{policy_map}
 use Rattle.pol_model.specs.State.{State}
-use Rattle.pol_facts.proofs.Membership.{find-In}
-use Rattle.pol_edits.specs.Changes.{changed, table_of}
+use Rattle.pol_model_laws.proofs.Membership.{find-In}
+use Rattle.pol_change_list.specs.Changes.{changed, table_of}
 use Rattle.pol_delta.specs.Work.{map_of}
 use Rattle.pol_history.specs.declared.event.HistoryEvent.{HistoryEvent}
 use Rattle.pol_history.specs.Commits.{commits_in, live_endpoint, revision_of, state_after, state_now}
@@ -17,11 +17,11 @@ use Rattle.pol_history.specs.Machine.{endpoint_id}
 use Rattle.pol_history.proofs.Cuts.{state-now}
 use Rattle.pol_history.proofs.Names.{slot-live}
 use Rattle.pol_taken.specs.declared.taken.Taken.{Taken}
-use Rattle.pol_follow.specs.declared.follow.Followed.{Followed}
-use Rattle.pol_follow.specs.Follow.{GoesOn, MayApply, Stays, changed_by, led}
-use Rattle.pol_follow.specs.Followed.{Follows, id_in, table_then}
-use Rattle.pol_follow.proofs.Applying.{may_apply}
-use Rattle.pol_follow.proofs.Keeping.{follows-later, follows-on, follows-stays}
+use Rattle.pol_slot_map.specs.declared.follow.Followed.{Followed}
+use Rattle.pol_slot_map.specs.Follow.{GoesOn, MayApply, Stays, changed_by, led}
+use Rattle.pol_slot_map.specs.Followed.{Follows, id_in, table_then}
+use Rattle.pol_slot_map.proofs.Applying.{may_apply}
+use Rattle.pol_slot_map.proofs.Keeping.{follows-later, follows-on, follows-stays}
 use Rattle.pol_node.specs.Slot.{IsMade, IsTakenAt, TellsMovesFrom, kept_of}
 
 pub some_later : (options : Options) (old new : List HistoryEvent) (followed : Option Followed) → IsPrefix old new

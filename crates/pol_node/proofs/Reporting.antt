@@ -9,18 +9,18 @@ use mathlib.Core.List.{IsPrefix}
 use Rattle.pol_data.proofs.Members.{Contains-from_In}
 use Rattle.pol_mapkey.specs.Entries.{Entry as MapEntry}
 use Rattle.pol_trie.specs.PolicyMap.{PolicyMap}
-use Rattle.pol_edits.specs.Changes.{changed, table_of}
-use Rattle.pol_edits.specs.declared.change.Change.{Change}
-use Rattle.pol_edits.proofs.Differences.{tables_have_their_entries}
+use Rattle.pol_change_list.specs.Changes.{changed, table_of}
+use Rattle.pol_change_list.specs.declared.change.Change.{Change}
+use Rattle.pol_change_list.proofs.Differences.{tables_have_their_entries}
 use Rattle.pol_model.specs.PolicyMap.{map_parts, map_size, policy_map, raw_entries}
 use Rattle.pol_model.specs.Selects.{set_at}
 use Rattle.pol_model.specs.State.{State}
 use Rattle.pol_model.specs.declared.options.Options.{Options}
 use Rattle.pol_model.specs.declared.row.Endpoint.{Endpoint}
 use Rattle.pol_model.specs.FullRows.{fits_limit}
-use Rattle.pol_facts.proofs.Canonical.{canonical_ascends}
-use Rattle.pol_facts.proofs.Membership.{find-In}
-use Rattle.pol_facts.proofs.Remembered.{added-by}
+use Rattle.pol_model_laws.proofs.Canonical.{canonical_ascends}
+use Rattle.pol_model_laws.proofs.Membership.{find-In}
+use Rattle.pol_model_laws.proofs.Remembered.{added-by}
 use Rattle.pol_history.specs.declared.event.EndpointId.{EndpointId}
 use Rattle.pol_history.specs.declared.event.HistoryEvent.{HistoryEvent}
 use Rattle.pol_history.specs.declared.event.HistoryEvent.TheVariants as event
@@ -40,12 +40,12 @@ use Rattle.pol_history.proofs.Lives.{lives-then}
 use Rattle.pol_history.proofs.Names.{live-id, slot-live}
 use Rattle.pol_history.proofs.Own.{legal_prefix, map-prefix, revision-prefix, state-prefix}
 use Rattle.pol_history.proofs.Same.{live-parts}
-use Rattle.pol_book.specs.Asked.{or_none, table_at}
-use Rattle.pol_face.specs.Changes.{table_held, table_shown}
-use Rattle.pol_face.specs.Rows.{Leads, table_in}
+use Rattle.pol_history_log.specs.Asked.{or_none, table_at}
+use Rattle.pol_board_view.specs.Changes.{table_held, table_shown}
+use Rattle.pol_board_view.specs.Rows.{Leads, table_in}
 use Rattle.pol_taken.specs.OfState.{IsTakenOf}
 use Rattle.pol_taken.specs.declared.taken.Taken.{Taken}
-use Rattle.pol_follow.specs.Followed.{table_then}
+use Rattle.pol_slot_map.specs.Followed.{table_then}
 use Rattle.pol_node.specs.Finish.{TellsPublished, WasBlocked, WasPublished, WasReportedAs}
 
 -- ---- tables by their entries

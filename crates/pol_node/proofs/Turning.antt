@@ -7,7 +7,7 @@ use Rattle.pol_model.specs.declared.options.Options.{Options}
 use Rattle.pol_model.specs.declared.row.Endpoint.{Endpoint}
 use Rattle.pol_model.specs.PolicyMap.{map_size, policy_map}
 use Rattle.pol_model.specs.State.{State}
-use Rattle.pol_facts.proofs.Membership.{find-In}
+use Rattle.pol_model_laws.proofs.Membership.{find-In}
 use Rattle.pol_history.specs.declared.event.EndpointId.{EndpointId}
 use Rattle.pol_history.specs.declared.event.HistoryEvent.{HistoryEvent}
 use Rattle.pol_history.specs.declared.turn.SlotTurn.{SlotTurn}

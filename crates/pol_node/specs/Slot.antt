@@ -1,10 +1,10 @@
 -- What a slot does with what was taken at a history, and what it tells of how that was finished.
 use Rattle.std.specs.Prelude.{◌≡◌, ℕ, ◌≤◌, List, true, false, Option, None, option_map}
 use Rattle.std.specs.Arc.{arc_value}
-use Rattle.pol_chains.specs.Moves.{TellsMovesSince}
+use Rattle.pol_moves.specs.Moves.{TellsMovesSince}
 use Rattle.pol_distill.specs.Distilled.{distilled}
-use Rattle.pol_follow.specs.declared.follow.Followed.{Followed}
-use Rattle.pol_follow.specs.Followed.{id_in}
+use Rattle.pol_slot_map.specs.declared.follow.Followed.{Followed}
+use Rattle.pol_slot_map.specs.Followed.{id_in}
 use Rattle.pol_history.specs.declared.event.HistoryEvent.{HistoryEvent}
 use Rattle.pol_history.specs.declared.turn.SlotTurn.{SlotTurn}
 use Rattle.pol_history.specs.declared.turn.SlotTurn.TheVariants as turn

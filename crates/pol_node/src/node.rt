@@ -15,7 +15,7 @@ ghost use Rattle.pol_history.specs.Look.{look};
 ghost use Rattle.pol_history.specs.Meet.{HaveMet, has, meetings_of};
 ghost use Rattle.pol_history.specs.SlotTurns.{EachTells};
 ghost use Rattle.pol_board.specs.Counts.{new_passes};
-ghost use Rattle.pol_face.specs.Answers.{IsLookOf};
+ghost use Rattle.pol_board_view.specs.Answers.{IsLookOf};
 ghost use Rattle.pol_node.specs.Desk.{IsCauseOf, IsNotTraced};
 
 use crate::desk::Desk;
@@ -25,8 +25,8 @@ use crate::rows::rows_in;
 use crate::slot::Slot;
 use left_right::Absorb;
 use pol_board::{BoardWriter, LookError, NodeName, Pass, Verdict};
+use pol_board_view::{Face, FaceOp};
 use pol_data::{Memory, Steps};
-use pol_face::{Face, FaceOp};
 use pol_history::SlotTurn;
 use pol_model::{CommitError, Committed, Query, Request};
 use pol_repo::Repo;

@@ -2,9 +2,9 @@
 ghost use Rattle.std.specs.Prelude.{◌≡◌, ◌≤◌, [], IfOk, IfSome, IsErrOf, IsTrue, None, OnErr, OnOk, Some, length};
 ghost use Rattle.std.specs.Arc.{arc_value};
 ghost use mathlib.Core.List.{IsPrefix};
-ghost use Rattle.pol_edits.specs.Changes.{changed, table_of};
-ghost use Rattle.pol_follow.specs.declared.follow.Followed.{Followed as OneFollowed};
-ghost use Rattle.pol_follow.specs.Followed.{Follows, id_in, table_then};
+ghost use Rattle.pol_change_list.specs.Changes.{changed, table_of};
+ghost use Rattle.pol_slot_map.specs.declared.follow.Followed.{Followed as OneFollowed};
+ghost use Rattle.pol_slot_map.specs.Followed.{Follows, id_in, table_then};
 ghost use Rattle.pol_history.specs.Commits.{revision_of, state_now};
 ghost use Rattle.pol_history.specs.Grows.{PassGrows, PassGrowsWhole};
 ghost use Rattle.pol_history.specs.Machine.{endpoint_id, endpoint_in};
@@ -16,11 +16,11 @@ ghost use Rattle.pol_node.specs.Slot.{IsMade, IsTakenAt, TellsAnyTurn, TellsMove
 use crate::desk::Desk;
 use crate::report::{Finished, Regen};
 use pol_board::{NodeName, Pass, Seen};
+use pol_change_list::ChangeList;
 use pol_data::Memory;
-use pol_edits::ChangeList;
-use pol_follow::Followed;
 use pol_history::SlotTurn;
 use pol_model::FullSlot;
+use pol_slot_map::Followed;
 use pol_taken::{TakeError, Taken};
 use std::alloc::Global;
 use std::marker::Model;
@@ -37,7 +37,7 @@ pub struct Slot<N: NodeName> {
 
 impl<N: NodeName> Model for Slot<N> {
     ghost use Rattle.std.specs.Prelude.{IfSome};
-    ghost use Rattle.pol_follow.specs.Followed.{Follows};
+    ghost use Rattle.pol_slot_map.specs.Followed.{Follows};
     ghost use Rattle.pol_node.specs.Slot.{SlotState};
 
     ghost Value = { SlotState };

@@ -5,9 +5,9 @@ use Rattle.std.specs.Option.{option_map_or}
 use Rattle.std.proofs.lemmas.Bool.{both_ways, cond-false, cond-true, eqb-true, eq-eqb, false_from_ne_true, ltb-false, or_parts}
 use Rattle.std.proofs.lemmas.List.Sums.{sum_by-cons}
 use Rattle.pol_data.proofs.Members.{every-in}
-use Rattle.pol_facts.proofs.Keyed.{one_of_number}
-use Rattle.pol_facts.proofs.Membership.{find-In, find-none, list_any-In}
-use Rattle.pol_facts.proofs.PrefixHolders.{same_tests}
+use Rattle.pol_model_laws.proofs.Keyed.{one_of_number}
+use Rattle.pol_model_laws.proofs.Membership.{find-In, find-none, list_any-In}
+use Rattle.pol_model_laws.proofs.PrefixHolders.{same_tests}
 use Rattle.pol_rule.specs.contracts.policy.PeerPartialEq.TheImpl as peers
 use Rattle.pol_rule.specs.declared.policy.Peer.{Peer}
 use Rattle.pol_rule.proofs.Equality.{peer_eq-Decides}

@@ -5,7 +5,7 @@ use Rattle.std.specs.Option.{option_or}
 use Rattle.std.proofs.lemmas.Bool.{cond-false, cond-true}
 use Rattle.std.proofs.lemmas.List.Folds.{find-append}
 use Rattle.pol_data.proofs.Members.{every-in}
-use Rattle.pol_facts.proofs.Membership.{find-In}
+use Rattle.pol_model_laws.proofs.Membership.{find-In}
 use Rattle.pol_rule.specs.contracts.policy.PeerPartialEq.TheImpl as peers
 use Rattle.pol_rule.specs.declared.policy.Peer.{Peer}
 use Rattle.pol_model.specs.declared.row.IdentityRow.{IdentityRow}

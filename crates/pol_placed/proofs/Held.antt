@@ -23,7 +23,7 @@ use Rattle.pol_history.specs.Commits.{Lives, commits_in, revision_of, state_afte
 use Rattle.pol_history.specs.Legal.{IsLegal}
 use Rattle.pol_history.proofs.Cuts.{revision-take, state-now}
 use Rattle.pol_history.proofs.LegalEvents.{report_of_take}
-use Rattle.pol_facts.proofs.Lives.{added-within}
+use Rattle.pol_model_laws.proofs.Lives.{added-within}
 use Rattle.pol_history.proofs.Same.{live-parts, live-whole}
 use Rattle.pol_placed.specs.HistoryOfRun.{HasBlocked, HasPublished, HasReport}
 use Rattle.pol_placed.specs.LawOfRuns.{HistoriesHoldTheRun}

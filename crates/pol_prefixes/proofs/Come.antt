@@ -8,9 +8,9 @@ use Rattle.pol_model.specs.declared.row.IdentityRow.{IdentityRow}
 use Rattle.pol_model.specs.Identities.{free_number, held_or_new}
 use Rattle.pol_model.specs.Prefixes.{number_of_prefix, prefix_held, prefix_row, prefixes_held}
 use Rattle.pol_model.proofs.AscendingStates.{RowsAscend, held_ascend}
-use Rattle.pol_facts.specs.Holding.{has_row}
-use Rattle.pol_facts.proofs.Parts.{free_row, part-number, part-prefixes_held}
-use Rattle.pol_facts.proofs.Rows.{recounted-any}
+use Rattle.pol_model_laws.specs.Holding.{has_row}
+use Rattle.pol_model_laws.proofs.Parts.{free_row, part-number, part-prefixes_held}
+use Rattle.pol_model_laws.proofs.Rows.{recounted-any}
 use Rattle.pol_prefixes.specs.Beyond.{AreBeyond}
 use Rattle.pol_prefixes.specs.Coming.{all_coming, coming, unless_there}
 use Rattle.pol_prefixes.proofs.Finding.{any-insert}

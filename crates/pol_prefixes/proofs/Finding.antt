@@ -4,7 +4,7 @@ use Rattle.std.specs.List.{insert, list_any}
 use Rattle.std.proofs.lemmas.Bool.{cond-false, cond-true, or_parts}
 use Rattle.pol_model.specs.declared.row.IdentityRow.{IdentityRow}
 use Rattle.pol_model.specs.Identities.{number_where, recounted}
-use Rattle.pol_facts.proofs.Rows.{recounted-is, with_count}
+use Rattle.pol_model_laws.proofs.Rows.{recounted-is, with_count}
 
 module _ {X : Type 0} (p : X → Bool) (x : X) where
   -- an element that doesn't pass changes nothing

@@ -5,22 +5,22 @@ use Rattle.std.specs.Option.{option_and_then, option_map_or}
 use Rattle.std.proofs.lemmas.Bool.{and_from, and_parts, and_right, both_ways, cases_Bool, cases_lt, cond-true, eqb-true, eq-eqb, le-leb, leb-true, lt-leb, not-true, not_from_false}
 use Rattle.pol_addr.specs.declared.network.Prefix.{Prefix}
 use Rattle.pol_addr.specs.Prefix.{same_prefix}
-use Rattle.pol_changes.specs.Ids.{has}
+use Rattle.pol_change_log.specs.Ids.{has}
 use Rattle.pol_data.proofs.Members.{In, Contains-from_In, In-from_Contains}
 use Rattle.pol_model.specs.declared.limits.TheConstants.{LOCAL_FIRST, RESERVED_LAST}
 use Rattle.pol_model.specs.declared.row.IdentityRow.{IdentityRow}
 use Rattle.pol_model.specs.Identities.{is_local, is_reserved}
 use Rattle.pol_model.specs.Prefixes.{has_prefix, number_of_prefix, prefixes_released}
-use Rattle.pol_facts.specs.Holding.{has_row, row_of}
-use Rattle.pol_facts.specs.Keeps.{IsClusterRow, IsLocalRow, KeepsRows}
-use Rattle.pol_facts.proofs.Distinct.{counted_once}
-use Rattle.pol_facts.proofs.FoundRows.{found-number, found-prefix, found_with, holders-some, reserved-there, row-kinds}
-use Rattle.pol_facts.proofs.Ledger.{has_prefix-is, taken_unreserved}
-use Rattle.pol_facts.proofs.Membership.{In-list_any, list_any-In}
-use Rattle.pol_facts.proofs.PolicyHolders.{same_prefix-Decides}
-use Rattle.pol_facts.proofs.PrefixHolders.{same_tests, times, times-cons}
-use Rattle.pol_facts.proofs.RowCounts.{released-count, released-goes}
-use Rattle.pol_facts.proofs.RowLaws.{keep_prefixes_released}
+use Rattle.pol_model_laws.specs.Holding.{has_row, row_of}
+use Rattle.pol_model_laws.specs.Keeps.{IsClusterRow, IsLocalRow, KeepsRows}
+use Rattle.pol_model_laws.proofs.Distinct.{counted_once}
+use Rattle.pol_model_laws.proofs.FoundRows.{found-number, found-prefix, found_with, holders-some, reserved-there, row-kinds}
+use Rattle.pol_model_laws.proofs.Ledger.{has_prefix-is, taken_unreserved}
+use Rattle.pol_model_laws.proofs.Membership.{In-list_any, list_any-In}
+use Rattle.pol_model_laws.proofs.PolicyHolders.{same_prefix-Decides}
+use Rattle.pol_model_laws.proofs.PrefixHolders.{same_tests, times, times-cons}
+use Rattle.pol_model_laws.proofs.RowCounts.{released-count, released-goes}
+use Rattle.pol_model_laws.proofs.RowLaws.{keep_prefixes_released}
 use Rattle.pol_prefixes.specs.Going.{going, has_last}
 use Rattle.pol_prefixes.proofs.Has.{has-filter_map, is-some_of, is_some_of, some_of-is}
 use Rattle.pol_prefixes.proofs.Numbers.{own_row}

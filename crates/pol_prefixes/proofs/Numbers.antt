@@ -9,17 +9,17 @@ use Rattle.pol_model.specs.declared.limits.TheConstants.{CLUSTER_FIRST, LOCAL_FI
 use Rattle.pol_model.specs.declared.row.IdentityRow.{IdentityRow}
 use Rattle.pol_model.specs.Identities.{free_number, held_or_new, is_local, labels_held, number_of_labels, or_free, released}
 use Rattle.pol_model.specs.Prefixes.{has_prefix, number_of_prefix, prefix_held, prefix_row}
-use Rattle.pol_facts.specs.Holding.{has_row, IsPartOf}
-use Rattle.pol_facts.specs.Keeps.{KeepsRows}
-use Rattle.pol_facts.proofs.ComeAndGo.{in_whole}
-use Rattle.pol_facts.proofs.FoundRows.{alone-released, found-prefix, found_with, holders-some, reserved-there, row-kinds}
-use Rattle.pol_facts.proofs.Holders.{labels_row, number_where-none}
-use Rattle.pol_facts.proofs.Keyed.{one_of_number}
-use Rattle.pol_facts.proofs.Ledger.{has_prefix-is, same_prefix-is}
-use Rattle.pol_facts.proofs.Membership.{list_any-In}
-use Rattle.pol_facts.proofs.Parts.{part-released, part-row}
-use Rattle.pol_facts.proofs.PrefixHolders.{same_prefix-itself}
-use Rattle.pol_facts.proofs.RowLaws.{keep_released}
+use Rattle.pol_model_laws.specs.Holding.{has_row, IsPartOf}
+use Rattle.pol_model_laws.specs.Keeps.{KeepsRows}
+use Rattle.pol_model_laws.proofs.ComeAndGo.{in_whole}
+use Rattle.pol_model_laws.proofs.FoundRows.{alone-released, found-prefix, found_with, holders-some, reserved-there, row-kinds}
+use Rattle.pol_model_laws.proofs.Holders.{labels_row, number_where-none}
+use Rattle.pol_model_laws.proofs.Keyed.{one_of_number}
+use Rattle.pol_model_laws.proofs.Ledger.{has_prefix-is, same_prefix-is}
+use Rattle.pol_model_laws.proofs.Membership.{list_any-In}
+use Rattle.pol_model_laws.proofs.Parts.{part-released, part-row}
+use Rattle.pol_model_laws.proofs.PrefixHolders.{same_prefix-itself}
+use Rattle.pol_model_laws.proofs.RowLaws.{keep_released}
 use Rattle.pol_ident.specs.Look.{number_for_prefix}
 use Rattle.pol_prefixes.proofs.Finding.{insert-other, insert-own, recounted-where}
 

@@ -14,10 +14,10 @@ use Rattle.pol_model.specs.declared.row.IdentityRow.{IdentityRow}
 use Rattle.pol_model.specs.Identities.{free_number, or_free, released, reserved_identities, reserved_row}
 use Rattle.pol_model.specs.Prefixes.{has_prefix, number_of_prefix, prefix_held}
 use Rattle.pol_model.specs.Remote.{longest_at, numbered_prefixes}
-use Rattle.pol_facts.specs.Holding.{has_row}
-use Rattle.pol_facts.specs.Keeps.{KeepsRows}
-use Rattle.pol_facts.proofs.Ledger.{same_prefix-is}
-use Rattle.pol_facts.proofs.PrefixHolders.{same_prefix-itself, same_tests}
+use Rattle.pol_model_laws.specs.Holding.{has_row}
+use Rattle.pol_model_laws.specs.Keeps.{KeepsRows}
+use Rattle.pol_model_laws.proofs.Ledger.{same_prefix-is}
+use Rattle.pol_model_laws.proofs.PrefixHolders.{same_prefix-itself, same_tests}
 use Rattle.pol_ident.specs.Look.{number_for_prefix}
 use Rattle.pol_lpm.specs.Table.{PrefixMap, look_up}
 use Rattle.pol_lpm.proofs.Scan.{look_up-from_entries}

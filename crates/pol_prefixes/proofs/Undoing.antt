@@ -11,12 +11,12 @@ use Rattle.pol_model.specs.declared.row.IdentityRow.{IdentityRow}
 use Rattle.pol_model.specs.Fault.{locals_held, locals_wanted}
 use Rattle.pol_model.specs.Identities.{free_number, number_released, released}
 use Rattle.pol_model.specs.Prefixes.{has_prefix, number_of_prefix, prefix_held, prefix_row, prefixes_held, prefixes_released}
-use Rattle.pol_facts.specs.Holding.{has_row}
-use Rattle.pol_facts.specs.Keeps.{KeepsRows}
-use Rattle.pol_facts.proofs.FoundRows.{locals-few}
-use Rattle.pol_facts.proofs.HoldingLaws.{held_has}
-use Rattle.pol_facts.proofs.PrefixHolders.{HasRoom, same_prefix-itself}
-use Rattle.pol_facts.proofs.RowLaws.{prefixes_undone}
+use Rattle.pol_model_laws.specs.Holding.{has_row}
+use Rattle.pol_model_laws.specs.Keeps.{KeepsRows}
+use Rattle.pol_model_laws.proofs.FoundRows.{locals-few}
+use Rattle.pol_model_laws.proofs.HoldingLaws.{held_has}
+use Rattle.pol_model_laws.proofs.PrefixHolders.{HasRoom, same_prefix-itself}
+use Rattle.pol_model_laws.proofs.RowLaws.{prefixes_undone}
 use Rattle.pol_ident.specs.Look.{number_for_prefix}
 use Rattle.pol_prefixes.proofs.Numbers.{number_of_held}
 

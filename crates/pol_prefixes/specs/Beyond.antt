@@ -1,8 +1,8 @@
 -- Numbers that come with some rows, or go with them.
 use Rattle.std.specs.Prelude.{ℕ, ◌≡◌, ◌&&◌, not, List}
-use Rattle.pol_changes.specs.Ids.{has}
+use Rattle.pol_change_log.specs.Ids.{has}
 use Rattle.pol_model.specs.declared.row.IdentityRow.{IdentityRow}
-use Rattle.pol_facts.specs.Holding.{has_row}
+use Rattle.pol_model_laws.specs.Holding.{has_row}
 
 -- these are the numbers that have a row among `more` and none among `rows`
 abbrev pub AreBeyond : List IdentityRow → List IdentityRow → List ℕ → Type 0

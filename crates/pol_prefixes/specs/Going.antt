@@ -5,7 +5,7 @@ use Rattle.pol_addr.specs.declared.network.Prefix.{Prefix}
 use Rattle.pol_model.specs.declared.row.IdentityRow.{IdentityRow}
 use Rattle.pol_model.specs.Identities.{is_local}
 use Rattle.pol_model.specs.Prefixes.{number_of_prefix}
-use Rattle.pol_facts.specs.Holding.{row_of}
+use Rattle.pol_model_laws.specs.Holding.{row_of}
 
 -- the number isn't a reserved one, and has one holder
 abbrev pub has_last : ℕ → List IdentityRow → Bool

@@ -5,7 +5,7 @@ ghost use Rattle.pol_addr.specs.Cidr.{IsPrefix};
 ghost use Rattle.pol_model.specs.declared.limits.TheConstants.{LOCAL_IDENTITIES as MOST};
 ghost use Rattle.pol_model.specs.Fault.{locals_held, locals_wanted};
 ghost use Rattle.pol_model.specs.Prefixes.{prefix_held, prefixes_held};
-ghost use Rattle.pol_facts.specs.Keeps.{KeepsRows};
+ghost use Rattle.pol_model_laws.specs.Keeps.{KeepsRows};
 ghost use Rattle.pol_prefixes.specs.Beyond.{AreBeyond};
 ghost use Rattle.pol_prefixes.specs.Coming.{all_coming, coming};
 ghost use Rattle.pol_prefixes.specs.Tables.{IsTableOf};

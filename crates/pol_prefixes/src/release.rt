@@ -1,7 +1,7 @@
 //! Prefixes given back.
 ghost use Rattle.std.specs.Prelude.{◌≡◌};
 ghost use Rattle.pol_model.specs.Prefixes.{prefix_released, prefixes_released};
-ghost use Rattle.pol_facts.specs.Keeps.{KeepsRows};
+ghost use Rattle.pol_model_laws.specs.Keeps.{KeepsRows};
 ghost use Rattle.pol_prefixes.specs.Tables.{IsTableOf};
 
 use pol_addr::Prefix;

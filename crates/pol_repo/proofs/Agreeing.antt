@@ -24,8 +24,8 @@ use Rattle.pol_model.specs.declared.options.Options.{Options}
 use Rattle.pol_model.specs.declared.row.Endpoint.{Endpoint}
 use Rattle.pol_model.specs.declared.row.Stamped.{Stamped}
 use Rattle.pol_data.proofs.Members.{In}
-use Rattle.pol_facts.proofs.Ledger.{same_prefix-is}
-use Rattle.pol_facts.proofs.Membership.{In-left, In-right, filter-In}
+use Rattle.pol_model_laws.proofs.Ledger.{same_prefix-is}
+use Rattle.pol_model_laws.proofs.Membership.{In-left, In-right, filter-In}
 
 -- ---- lists
 

@@ -8,8 +8,8 @@ use Rattle.std.proofs.lemmas.Map.Made.{length-from_keys}
 use Rattle.std.proofs.lemmas.Map.Views.{any-filter_same}
 use Rattle.pol_data.proofs.Counts.{count_by-none, count_by-some}
 use Rattle.pol_data.proofs.Members.{every-in}
-use Rattle.pol_facts.proofs.Distinct.{differ_filtered}
-use Rattle.pol_facts.proofs.Membership.{find-In, find-none, list_any-In, list_any-map}
+use Rattle.pol_model_laws.proofs.Distinct.{differ_filtered}
+use Rattle.pol_model_laws.proofs.Membership.{find-In, find-none, list_any-In, list_any-map}
 use Rattle.pol_rule.proofs.Equality.{peer_eq-Decides}
 use Rattle.pol_rule.specs.contracts.policy.PeerPartialEq.TheImpl as peers
 use Rattle.pol_rule.specs.declared.policy.Peer.{Peer}

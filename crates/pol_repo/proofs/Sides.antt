@@ -29,14 +29,14 @@ use Rattle.pol_model.specs.Selects.{Known, cluster_label, entity_selects, is_all
 use Rattle.pol_model.specs.State.{State}
 use Rattle.pol_model.specs.Verdict.{numbered_side, verdict_of, verdict_on}
 use Rattle.pol_model.specs.Worlds.{ipv4, reserved_label, world_labels}
-use Rattle.pol_facts.specs.Holding.{is_held}
-use Rattle.pol_facts.specs.Keeps.{IsInForceIn, IsLiveIn, IsLocalRow, Keeps, KeepsRows}
-use Rattle.pol_facts.proofs.FoundRows.{reserved-there}
-use Rattle.pol_facts.proofs.Keyed.{one_of_number}
-use Rattle.pol_facts.proofs.Ledger.{has_prefix-is}
-use Rattle.pol_facts.proofs.Membership.{In-list_any, find-In, list_any-In}
-use Rattle.pol_facts.proofs.PrefixHolders.{same_tests}
-use Rattle.pol_facts.proofs.RowLedger.{kind_of, row_cases}
+use Rattle.pol_model_laws.specs.Holding.{is_held}
+use Rattle.pol_model_laws.specs.Keeps.{IsInForceIn, IsLiveIn, IsLocalRow, Keeps, KeepsRows}
+use Rattle.pol_model_laws.proofs.FoundRows.{reserved-there}
+use Rattle.pol_model_laws.proofs.Keyed.{one_of_number}
+use Rattle.pol_model_laws.proofs.Ledger.{has_prefix-is}
+use Rattle.pol_model_laws.proofs.Membership.{In-list_any, find-In, list_any-In}
+use Rattle.pol_model_laws.proofs.PrefixHolders.{same_tests}
+use Rattle.pol_model_laws.proofs.RowLedger.{kind_of, row_cases}
 use Rattle.pol_repo.proofs.Agreeing.{Agree, verdicts_agree}
 use Rattle.pol_repo.proofs.Longest.{listed_prefix, longest_is, longest_none, prefix_listed}
 

@@ -21,14 +21,14 @@ use Rattle.pol_model.specs.Identities.{free_number, is_local, labels_held, numbe
 use Rattle.pol_model.specs.State.{State}
 use Rattle.pol_model.proofs.AscendingStates.{RowsAscend}
 use Rattle.pol_model.proofs.Histories.{state_of-revision}
-use Rattle.pol_facts.specs.Holding.{rows_taken}
-use Rattle.pol_facts.specs.Keeps.{Keeps}
-use Rattle.pol_facts.specs.WithoutFaults.{MayCommit}
-use Rattle.pol_facts.proofs.HoldingLaws.{held_has, labels_row_is}
-use Rattle.pol_facts.proofs.KeepsAll.{state_keeps}
-use Rattle.pol_facts.proofs.Lives.{after_append}
-use Rattle.pol_facts.proofs.Membership.{found-some}
-use Rattle.pol_facts.proofs.StateLaws.{commits-more}
+use Rattle.pol_model_laws.specs.Holding.{rows_taken}
+use Rattle.pol_model_laws.specs.Keeps.{Keeps}
+use Rattle.pol_model_laws.specs.WithoutFaults.{MayCommit}
+use Rattle.pol_model_laws.proofs.HoldingLaws.{held_has, labels_row_is}
+use Rattle.pol_model_laws.proofs.KeepsAll.{state_keeps}
+use Rattle.pol_model_laws.proofs.Lives.{after_append}
+use Rattle.pol_model_laws.proofs.Membership.{found-some}
+use Rattle.pol_model_laws.proofs.StateLaws.{commits-more}
 use Rattle.pol_requests.specs.declared.readied.Readied.{Readied}
 use Rattle.pol_requests.specs.declared.error.ReadyError.{ReadyError}
 use Rattle.pol_requests.specs.declared.error.ReadyError.TheVariants.{Fault as WithFault}

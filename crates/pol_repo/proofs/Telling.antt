@@ -8,7 +8,7 @@ use Rattle.pol_model.specs.declared.options.Options.{Options}
 use Rattle.pol_model.specs.declared.request.Request.{Request}
 use Rattle.pol_model.specs.After.{after, state_of}
 use Rattle.pol_model.specs.State.{State}
-use Rattle.pol_facts.specs.Keeps.{Keeps}
+use Rattle.pol_model_laws.specs.Keeps.{Keeps}
 use Rattle.pol_selcache.specs.Cache.{IsSound as AreSound, carried}
 use Rattle.pol_selcache.specs.Live.{AreLive, number_of}
 use Rattle.pol_peers.specs.Numbering.{GainsSelectors, LosesSelectors}
@@ -16,10 +16,10 @@ use Rattle.pol_requests.specs.declared.readied.Readied.{Readied}
 use Rattle.pol_requests.specs.declared.error.ReadyError.{ReadyError}
 use Rattle.pol_requests.specs.Readied.{IsReadied, ReadiesOrNot, TakesBack}
 use Rattle.pol_store.specs.Store.{StandsFor, Stored}
-use Rattle.pol_chains.specs.Chained.{IsChained, IsChainedBefore}
-use Rattle.pol_chains.specs.Moves.{TellsMovesSince, moves_by}
-use Rattle.pol_chains.proofs.MoveLaws.{moves_told_since}
-use Rattle.pol_chains.proofs.Chains.{chain_goes_on, chain_stays, gains_undone}
+use Rattle.pol_moves.specs.Chained.{IsChained, IsChainedBefore}
+use Rattle.pol_moves.specs.Moves.{TellsMovesSince, moves_by}
+use Rattle.pol_moves.proofs.MoveLaws.{moves_told_since}
+use Rattle.pol_moves.proofs.Chains.{chain_goes_on, chain_stays, gains_undone}
 use Rattle.pol_repo.specs.Inside.{IsSound, IsTold, seen_as}
 use Rattle.pol_repo.specs.Repository.{Repository, state_in}
 use Rattle.pol_repo.proofs.Standing.{counts, keeps_now, none_readied, readied_now, revision_is, stands_now}

@@ -8,14 +8,14 @@ use Rattle.pol_model.specs.declared.request.Request.TheVariants.{AddEndpoint, Re
 use Rattle.pol_model.specs.declared.row.IdentityRow.{IdentityRow}
 use Rattle.pol_model.specs.After.{state_of}
 use Rattle.pol_model.specs.State.{State}
-use Rattle.pol_facts.specs.Holding.{row_of}
-use Rattle.pol_facts.specs.WithoutFaults.{WithoutFaults}
+use Rattle.pol_model_laws.specs.Holding.{row_of}
+use Rattle.pol_model_laws.specs.WithoutFaults.{WithoutFaults}
 use Rattle.pol_requests.specs.declared.readied.Change.{Change}
 use Rattle.pol_requests.specs.declared.readied.Change.TheVariants as change
 use Rattle.pol_requests.specs.declared.readied.Readied.{Readied}
 use Rattle.pol_requests.specs.Readied.{IsReadied}
 use Rattle.pol_store.specs.Store.{StandsFor, Stored}
-use Rattle.pol_chains.specs.Chained.{IsChained, IsChainedBefore}
+use Rattle.pol_moves.specs.Chained.{IsChained, IsChainedBefore}
 use Rattle.pol_repo.specs.Repository.{Repository}
 
 -- the labels of the number's row, none where it has none

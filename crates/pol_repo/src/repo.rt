@@ -1,6 +1,6 @@
 //! The repository, and what is told at any time.
 ghost use Rattle.std.specs.Prelude.{◌≡◌, [], None, IfOk};
-ghost use Rattle.pol_facts.specs.WithoutFaults.{WithoutFaults};
+ghost use Rattle.pol_model_laws.specs.WithoutFaults.{WithoutFaults};
 ghost use Rattle.pol_repo.specs.Repository.{state_in};
 
 use pol_data::Memory;

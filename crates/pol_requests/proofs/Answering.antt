@@ -14,11 +14,11 @@ use Rattle.pol_model.specs.Ascending.{Ascends}
 use Rattle.pol_model.specs.Committed.{committed_of, identity_given, slots_of}
 use Rattle.pol_model.specs.Endpoints.{free_slot, without_endpoint}
 use Rattle.pol_model.specs.declared.answer.Committed.{Committed}
-use Rattle.pol_facts.specs.Keeps.{IsLiveIn, Keeps}
-use Rattle.pol_facts.specs.WithoutFaults.{MayCommit}
-use Rattle.pol_facts.proofs.Done.{endpoint-added, identity-added}
-use Rattle.pol_facts.proofs.Keyed.{above-In, placed-here}
-use Rattle.pol_facts.proofs.StateLaws.{keeps-after}
+use Rattle.pol_model_laws.specs.Keeps.{IsLiveIn, Keeps}
+use Rattle.pol_model_laws.specs.WithoutFaults.{MayCommit}
+use Rattle.pol_model_laws.proofs.Done.{endpoint-added, identity-added}
+use Rattle.pol_model_laws.proofs.Keyed.{above-In, placed-here}
+use Rattle.pol_model_laws.proofs.StateLaws.{keeps-after}
 use Rattle.pol_requests.specs.declared.readied.Change.{Change}
 use Rattle.pol_requests.specs.declared.readied.Readied.{Readied}
 use Rattle.pol_requests.specs.Answer.{FitsSlots, identity_in, slots_with}

@@ -13,11 +13,11 @@ use Rattle.pol_model.specs.Endpoints.{endpoint_of, free_slot, without_endpoint}
 use Rattle.pol_model.specs.Identities.{is_local, number_released, released}
 use Rattle.pol_model.specs.Numbers.{placed_by}
 use Rattle.pol_model.specs.Remote.{endpoint_at}
-use Rattle.pol_facts.specs.Holding.{has_row}
-use Rattle.pol_facts.specs.Keeps.{IsLiveIn, Keeps}
-use Rattle.pol_facts.proofs.Keyed.{placed-here}
-use Rattle.pol_facts.proofs.StateLaws.{keeps-after}
-use Rattle.pol_changes.specs.Log.{newest}
+use Rattle.pol_model_laws.specs.Holding.{has_row}
+use Rattle.pol_model_laws.specs.Keeps.{IsLiveIn, Keeps}
+use Rattle.pol_model_laws.proofs.Keyed.{placed-here}
+use Rattle.pol_model_laws.proofs.StateLaws.{keeps-after}
+use Rattle.pol_change_log.specs.Log.{newest}
 use Rattle.pol_selcache.specs.Cache.{Cache}
 use Rattle.pol_selcache.specs.Live.{AreExact}
 use Rattle.pol_tables.specs.Tables.{number_named}

@@ -7,8 +7,8 @@ use Rattle.pol_model.specs.declared.row.NamedIdentity.{NamedIdentity}
 use Rattle.pol_model.specs.State.{State}
 use Rattle.pol_model.specs.Endpoints.{named_of, without_named}
 use Rattle.pol_model.specs.Identities.{is_local, number_for, released}
-use Rattle.pol_facts.specs.Holding.{has_row}
-use Rattle.pol_facts.specs.Keeps.{Keeps}
+use Rattle.pol_model_laws.specs.Holding.{has_row}
+use Rattle.pol_model_laws.specs.Keeps.{Keeps}
 use Rattle.pol_tables.specs.Tables.{SameNumbers, number_named}
 use Rattle.pol_tables.proofs.NamedNumbers.{same-push, same-without}
 use Rattle.pol_requests.specs.declared.readied.Change.TheVariants as change

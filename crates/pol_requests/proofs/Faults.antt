@@ -14,7 +14,7 @@ use Rattle.pol_model.specs.State.{State}
 use Rattle.pol_model.specs.Endpoints.{endpoint_of, named_of}
 use Rattle.pol_model.specs.Fault.{fault_if, fault_of, has_reserved, is_exhausted, is_init, is_taken}
 use Rattle.pol_model.specs.Remote.{endpoint_at}
-use Rattle.pol_facts.proofs.Membership.{find-In, list_any-In}
+use Rattle.pol_model_laws.proofs.Membership.{find-In, list_any-In}
 use Rattle.pol_requests.specs.Causes.{endpoint_fault}
 
 pub no_fault_if : (b : Bool) (this : Fault) (others : Option Fault) → fault_if b this others ≡ None → (b ≡ false) × (others ≡ None)

@@ -19,7 +19,7 @@ use Rattle.pol_selcache.specs.Cache.{Cache}
 use Rattle.pol_selcache.specs.Live.{AreExact, Live}
 use Rattle.pol_selcache.specs.Plan.{Plan}
 use Rattle.pol_tables.specs.Tables.{number_named}
-use Rattle.pol_numbers.specs.Held.{HoldsLabels, Readies}
+use Rattle.pol_allocator.specs.Held.{HoldsLabels, Readies}
 use Rattle.pol_peers.specs.References.{RefsOf}
 use Rattle.pol_requests.specs.declared.readied.Change.{Change}
 use Rattle.pol_requests.specs.declared.readied.Change.TheVariants as change

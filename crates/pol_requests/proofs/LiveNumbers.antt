@@ -9,9 +9,9 @@ use Rattle.pol_model.specs.declared.row.NamedIdentity.{NamedIdentity}
 use Rattle.pol_model.specs.State.{State}
 use Rattle.pol_model.specs.Endpoints.{endpoint_of, named_of}
 use Rattle.pol_model.specs.Identities.{is_local}
-use Rattle.pol_facts.specs.Holding.{has_row}
-use Rattle.pol_facts.specs.Keeps.{IsLiveIn, IsNamedIn, Keeps}
-use Rattle.pol_facts.proofs.Membership.{find-In, list_any-In}
+use Rattle.pol_model_laws.specs.Holding.{has_row}
+use Rattle.pol_model_laws.specs.Keeps.{IsLiveIn, IsNamedIn, Keeps}
+use Rattle.pol_model_laws.proofs.Membership.{find-In, list_any-In}
 use Rattle.pol_tables.specs.Tables.{number_named}
 use Rattle.pol_store.specs.Store.{StandsForSome, Stored}
 

@@ -14,10 +14,10 @@ use Rattle.pol_model.specs.Fault.{fault_of}
 use Rattle.pol_model.specs.Policies.{applied, policy_at, prefixes_of, removed}
 use Rattle.pol_model.specs.Prefixes.{prefixes_released}
 use Rattle.pol_model.specs.Sizes.{IsShortPolicy}
-use Rattle.pol_facts.specs.Keeps.{Keeps}
-use Rattle.pol_facts.proofs.NoFault.{apply, remove}
-use Rattle.pol_facts.proofs.RowLaws.{prefixes_undone}
-use Rattle.pol_changes.specs.Log.{newest}
+use Rattle.pol_model_laws.specs.Keeps.{Keeps}
+use Rattle.pol_model_laws.proofs.NoFault.{apply, remove}
+use Rattle.pol_model_laws.proofs.RowLaws.{prefixes_undone}
+use Rattle.pol_change_log.specs.Log.{newest}
 use Rattle.pol_selcache.specs.Cache.{Cache}
 use Rattle.pol_selcache.specs.Live.{AreExact, Live}
 use Rattle.pol_tables.specs.Tables.{number_named}

@@ -7,8 +7,8 @@ use Rattle.pol_rule.specs.declared.policy.PolicyKey.{PolicyKey}
 use Rattle.pol_rule.specs.Keys.{same_key}
 use Rattle.pol_model.specs.declared.row.Stamped.{Stamped}
 use Rattle.pol_model.specs.Policies.{applied, policy_at, removed}
-use Rattle.pol_facts.proofs.Distinct.{removed_sum}
-use Rattle.pol_facts.proofs.PolicyHolders.{applied_sum, same_key-Decides, sum_at}
+use Rattle.pol_model_laws.proofs.Distinct.{removed_sum}
+use Rattle.pol_model_laws.proofs.PolicyHolders.{applied_sum, same_key-Decides, sum_at}
 use Rattle.pol_selcache.specs.Live.{Live}
 use Rattle.pol_peers.specs.Listed.{listed_peers}
 use Rattle.pol_peers.specs.References.{RefsOf, references_of, times_in}

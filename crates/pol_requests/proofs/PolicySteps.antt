@@ -22,21 +22,21 @@ use Rattle.pol_model.specs.Fault.{fault_if, fault_of, locals_held, locals_wanted
 use Rattle.pol_model.specs.Policies.{is_of_key, policy_at, prefixes_of}
 use Rattle.pol_model.specs.Prefixes.{prefixes_held, prefixes_released}
 use Rattle.pol_model.specs.Sizes.{IsShortPolicy}
-use Rattle.pol_facts.specs.Holding.{is_held}
-use Rattle.pol_facts.specs.Keeps.{IsInForceIn, Keeps}
-use Rattle.pol_facts.proofs.Membership.{find-In}
-use Rattle.pol_facts.proofs.PolicyHolders.{policy_differ}
+use Rattle.pol_model_laws.specs.Holding.{is_held}
+use Rattle.pol_model_laws.specs.Keeps.{IsInForceIn, Keeps}
+use Rattle.pol_model_laws.proofs.Membership.{find-In}
+use Rattle.pol_model_laws.proofs.PolicyHolders.{policy_differ}
 use Rattle.pol_ident.specs.declared.error.IdentError.{IdentError}
 use Rattle.pol_ident.specs.declared.error.IdentError.TheVariants as ident
-use Rattle.pol_changes.specs.Log.{newest}
+use Rattle.pol_change_log.specs.Log.{newest}
 use Rattle.pol_selcache.specs.Cache.{Cache, with_room}
 use Rattle.pol_selcache.specs.Live.{AreExact}
 use Rattle.pol_selcache.specs.Plan.{Plan}
 use Rattle.pol_peers.specs.Listed.{listed_peers}
 use Rattle.pol_peers.specs.References.{HasRefs, IsMoreBy, RefsOf}
 use Rattle.pol_peers.proofs.Counts.{has_more, refs_held, undone}
-use Rattle.pol_numbers.specs.Held.{AreApart, Readies, RefersTo}
-use Rattle.pol_numbers.proofs.Apart.{apart_where_held}
+use Rattle.pol_allocator.specs.Held.{AreApart, Readies, RefersTo}
+use Rattle.pol_allocator.proofs.Apart.{apart_where_held}
 use Rattle.pol_requests.specs.declared.readied.Change.TheVariants as change
 use Rattle.pol_requests.specs.declared.error.ReadyError.TheVariants.{Fault, Memory}
 use Rattle.pol_store.specs.PolicyParts.{with_cache, with_rows}

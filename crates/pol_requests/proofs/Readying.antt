@@ -10,12 +10,12 @@ use Rattle.pol_model.specs.State.{State}
 use Rattle.pol_model.specs.After.{after}
 use Rattle.pol_model.specs.Fault.{fault_of}
 use Rattle.pol_model.specs.Sizes.{IsShort}
-use Rattle.pol_facts.specs.Holding.{rows_taken}
-use Rattle.pol_facts.specs.Valid.{IsValid}
-use Rattle.pol_changes.specs.Log.{newest}
+use Rattle.pol_model_laws.specs.Holding.{rows_taken}
+use Rattle.pol_model_laws.specs.Valid.{IsValid}
+use Rattle.pol_change_log.specs.Log.{newest}
 use Rattle.pol_selcache.specs.Live.{AreExact}
 use Rattle.pol_tables.specs.Tables.{number_named}
-use Rattle.pol_numbers.specs.Held.{Readies}
+use Rattle.pol_allocator.specs.Held.{Readies}
 use Rattle.pol_peers.specs.Listed.{listed_peers}
 use Rattle.pol_peers.specs.References.{RefsOf}
 use Rattle.pol_requests.specs.declared.readied.Readied.{Readied}

@@ -12,8 +12,8 @@ use Rattle.pol_model.specs.State.{State}
 use Rattle.pol_model.specs.After.{new_endpoint}
 use Rattle.pol_model.specs.Fault.{has_reserved, is_init}
 use Rattle.pol_model.specs.Identities.{is_local, number_for, released}
-use Rattle.pol_facts.specs.Holding.{has_row}
-use Rattle.pol_facts.specs.Keeps.{Keeps}
+use Rattle.pol_model_laws.specs.Holding.{has_row}
+use Rattle.pol_model_laws.specs.Keeps.{Keeps}
 use Rattle.pol_peers.specs.Listed.{listed_peers}
 use Rattle.pol_peers.specs.References.{HasRefs, references_of, times_in}
 use Rattle.pol_peers.proofs.Counts.{times_append}

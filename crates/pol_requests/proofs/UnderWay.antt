@@ -11,16 +11,16 @@ use Rattle.pol_model.specs.State.{State}
 use Rattle.pol_model.specs.After.{after}
 use Rattle.pol_model.specs.Fault.{has_reserved, is_exhausted, is_init}
 use Rattle.pol_model.specs.Identities.{is_local, labels_held, number_for, released}
-use Rattle.pol_facts.specs.Holding.{has_row}
-use Rattle.pol_facts.specs.Keeps.{Keeps}
-use Rattle.pol_facts.proofs.HoldingLaws.{held_has}
-use Rattle.pol_facts.proofs.RowLaws.{labels_undone}
-use Rattle.pol_changes.specs.Log.{newest}
+use Rattle.pol_model_laws.specs.Holding.{has_row}
+use Rattle.pol_model_laws.specs.Keeps.{Keeps}
+use Rattle.pol_model_laws.proofs.HoldingLaws.{held_has}
+use Rattle.pol_model_laws.proofs.RowLaws.{labels_undone}
+use Rattle.pol_change_log.specs.Log.{newest}
 use Rattle.pol_selcache.specs.Cache.{Cache}
 use Rattle.pol_selcache.specs.Live.{AreExact, Live}
 use Rattle.pol_selcache.specs.Plan.{Planned, after_changes, changed}
 use Rattle.pol_tables.specs.Tables.{number_named}
-use Rattle.pol_numbers.proofs.Coming.{number_not_local}
+use Rattle.pol_allocator.proofs.Coming.{number_not_local}
 use Rattle.pol_peers.specs.References.{RefsOf, references_of}
 use Rattle.pol_requests.specs.declared.readied.Readied.{Readied}
 use Rattle.pol_store.specs.Parts.{begun, numbers_of, with_numbers}

@@ -12,12 +12,12 @@ use Rattle.pol_model.specs.Sizes.{IsShort}
 use Rattle.pol_model.specs.Endpoints.{endpoint_of, named_of}
 use Rattle.pol_model.specs.Identities.{number_for}
 use Rattle.pol_model.specs.Policies.{policy_at, prefixes_of}
-use Rattle.pol_facts.specs.Holding.{rows_taken}
-use Rattle.pol_facts.specs.Keeps.{Keeps}
-use Rattle.pol_facts.specs.WithoutFaults.{MayCommit}
-use Rattle.pol_changes.specs.Log.{newest}
+use Rattle.pol_model_laws.specs.Holding.{rows_taken}
+use Rattle.pol_model_laws.specs.Keeps.{Keeps}
+use Rattle.pol_model_laws.specs.WithoutFaults.{MayCommit}
+use Rattle.pol_change_log.specs.Log.{newest}
 use Rattle.pol_selcache.specs.Live.{AreExact}
-use Rattle.pol_numbers.specs.Held.{Readies}
+use Rattle.pol_allocator.specs.Held.{Readies}
 use Rattle.pol_peers.specs.Listed.{listed_peers}
 use Rattle.pol_peers.specs.References.{RefsOf}
 use Rattle.pol_requests.specs.declared.readied.Change.{Change}

@@ -3,7 +3,7 @@ ghost use Rattle.std.specs.Prelude.{◌≡◌, ◌<◌, ◌-◌, ◌^◌};
 ghost use Rattle.pol_model.specs.declared.request.Request.{Request as OneRequest};
 ghost use Rattle.pol_model.specs.After.{after};
 ghost use Rattle.pol_model.specs.State.{State};
-ghost use Rattle.pol_facts.specs.Keeps.{Keeps};
+ghost use Rattle.pol_model_laws.specs.Keeps.{Keeps};
 ghost use Rattle.pol_peers.specs.Numbering.{LosesSelectors};
 ghost use Rattle.pol_selcache.specs.Cache.{carried};
 ghost use Rattle.pol_requests.specs.Readied.{CanBeDone, Changes, IsReadied, MayChange, TakesBack};

@@ -8,7 +8,7 @@ ghost use Rattle.pol_model.specs.Ascending.{Ascends};
 ghost use Rattle.pol_model.specs.Committed.{committed_of, slots_of};
 ghost use Rattle.pol_model.specs.Endpoints.{without_endpoint};
 ghost use Rattle.pol_model.specs.State.{State};
-ghost use Rattle.pol_facts.specs.Keeps.{Keeps};
+ghost use Rattle.pol_model_laws.specs.Keeps.{Keeps};
 ghost use Rattle.pol_requests.specs.Answer.{FitsSlots, identity_in, slots_with};
 ghost use Rattle.pol_requests.specs.Readied.{IsReadied};
 

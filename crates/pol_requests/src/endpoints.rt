@@ -10,11 +10,11 @@ ghost use Rattle.pol_store.specs.Store.{StandsForSome};
 use crate::error::ReadyError;
 use crate::readied::{Change, Readied};
 use pol_addr::Addr;
+use pol_allocator::LabelsHeld;
 use pol_data::{Steps, Text};
 use pol_ident::IdentError;
 use pol_labels::LabelSet;
 use pol_model::{ENDPOINTS_MAX, Endpoint, Fault, has_reserved, is_init};
-use pol_numbers::LabelsHeld;
 use pol_store::Store;
 use std::sync::ledger::Ledger;
 

@@ -8,11 +8,11 @@ ghost use Rattle.pol_store.specs.Store.{StandsForSome};
 
 use crate::error::ReadyError;
 use crate::readied::{Change, Readied};
+use pol_allocator::LabelsHeld;
 use pol_data::{Steps, Text};
 use pol_ident::IdentError;
 use pol_labels::LabelSet;
 use pol_model::{Fault, has_reserved};
-use pol_numbers::LabelsHeld;
 use pol_store::Store;
 use std::sync::ledger::Ledger;
 

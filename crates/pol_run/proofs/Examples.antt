@@ -11,7 +11,7 @@ use Rattle.pol_model.specs.declared.options.Options.{Options}
 use Rattle.pol_model.specs.declared.request.Query.{Query}
 use Rattle.pol_model.specs.declared.row.Endpoint.{Endpoint}
 use Rattle.pol_model.specs.FullRows.{fits_limit}
-use Rattle.pol_facts.proofs.Lives.{found_back}
+use Rattle.pol_model_laws.proofs.Lives.{found_back}
 use Rattle.pol_script.specs.declared.line_fault.LineFault.TheVariants as line
 use Rattle.pol_run.specs.Spots.{Spot, stands_before}
 use Rattle.pol_run.specs.History.{history_of, state_at}

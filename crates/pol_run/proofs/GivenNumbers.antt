@@ -2,9 +2,9 @@
 use Rattle.std.proofs.Common.{◌≡◌, ℕ, zero, suc, ◌^◌, ◌<◌, ◌≤◌, Bool, true, false, not, ◌&&◌, nat_lt, List, [], ◌∷◌, ◌++◌, take, find, insert, count_by, slice_get, Option, None, Some, option_map, is_none, bytes_eq, inl, inr, refl, sym, ap, ◌∙◌, subst, arith, leb-false, ltb-false, lt-ltb, true≢false}
 use Rattle.pol_answer.specs.Shown.{is_read_identity, is_u64}
 use Rattle.pol_data.proofs.Members.{In}
-use Rattle.pol_facts.proofs.Lives.{after_append}
-use Rattle.pol_facts.proofs.Membership.{In-append, In-insert, find-In, none-In}
-use Rattle.pol_facts.proofs.NoFault.{add_endpoint, add_identity}
+use Rattle.pol_model_laws.proofs.Lives.{after_append}
+use Rattle.pol_model_laws.proofs.Membership.{In-append, In-insert, find-In, none-In}
+use Rattle.pol_model_laws.proofs.NoFault.{add_endpoint, add_identity}
 use Rattle.pol_labels.specs.Same.{same_labels}
 use Rattle.pol_labels.specs.declared.label.Label.{Label}
 use Rattle.pol_model.specs.After.{after, new_endpoint, start, state_of}

@@ -10,7 +10,7 @@ use Rattle.pol_model.specs.declared.options.Options.{Options}
 use Rattle.pol_model.specs.declared.request.Query.{Query}
 use Rattle.pol_model.specs.declared.request.Request.{Request}
 use Rattle.pol_model.specs.FullRows.{fits_limit}
-use Rattle.pol_facts.proofs.Lives.{found_back}
+use Rattle.pol_model_laws.proofs.Lives.{found_back}
 use Rattle.pol_answer.specs.declared.answer.Answer.{Answer}
 use Rattle.pol_answer.specs.declared.answer.Answer.TheVariants as answer
 use Rattle.pol_script.specs.declared.command.Command.TheVariants as command

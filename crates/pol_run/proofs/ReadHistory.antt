@@ -4,7 +4,7 @@ use Rattle.std.specs.List.{AllByRecursion, cons_option}
 use Rattle.pol_answer.specs.Shown.{is_applied_key}
 use Rattle.pol_answer.specs.declared.answer.Answer.{Answer}
 use Rattle.pol_answer.specs.declared.answer.Answer.TheVariants as answer
-use Rattle.pol_facts.proofs.Remembered.{added-by, applied-by}
+use Rattle.pol_model_laws.proofs.Remembered.{added-by, applied-by}
 use Rattle.pol_json.specs.Texts.{is_name}
 use Rattle.pol_model.specs.After.{state_of}
 use Rattle.pol_model.specs.declared.options.Options.{Options}

@@ -11,7 +11,7 @@ use Rattle.pol_answer.specs.Text.{has_plain_key, has_plain_name}
 use Rattle.pol_answer.specs.declared.answer.Answer.{Answer}
 use Rattle.pol_answer.specs.declared.answer.Answer.TheVariants as answer
 use Rattle.pol_data.proofs.Members.{Contains-from_In, every-from_in}
-use Rattle.pol_facts.proofs.Membership.{find-In}
+use Rattle.pol_model_laws.proofs.Membership.{find-In}
 use Rattle.pol_json.specs.Texts.{is_name}
 use Rattle.pol_model.specs.After.{state_of}
 use Rattle.pol_model.specs.Committed.{identity_given}

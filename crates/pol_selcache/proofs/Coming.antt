@@ -2,17 +2,17 @@
 use Rattle.std.proofs.Common.{◌≡◌, ℕ, ◌==◌, ◌<◌, ◌≤◌, ◌||◌, Bool, true, false, not, List, [], ◌∷◌, fold, None, Result, Ok, Err, OnOk, OnErr, refl, sym, ap, subst, ◌∙◌, inl, inr, arith}
 use Rattle.std.proofs.lemmas.Bool.{both_ways, eq-eqb, ne_eqb}
 use Rattle.pol_labels.specs.declared.label.Label.{Label}
-use Rattle.pol_facts.specs.Holding.{has_row}
-use Rattle.pol_facts.specs.Keeps.{KeepsRows}
-use Rattle.pol_facts.proofs.FoundRows.{alone-released, holders-some}
-use Rattle.pol_facts.proofs.HoldingLaws.{held_adds, held_has}
-use Rattle.pol_facts.proofs.Parts.{free_row, part-labels_held, part-released}
+use Rattle.pol_model_laws.specs.Holding.{has_row}
+use Rattle.pol_model_laws.specs.Keeps.{KeepsRows}
+use Rattle.pol_model_laws.proofs.FoundRows.{alone-released, holders-some}
+use Rattle.pol_model_laws.proofs.HoldingLaws.{held_adds, held_has}
+use Rattle.pol_model_laws.proofs.Parts.{free_row, part-labels_held, part-released}
 use Rattle.pol_model.specs.declared.limits.TheConstants.{CLUSTER_FIRST}
 use Rattle.pol_model.specs.declared.row.IdentityRow.{IdentityRow}
 use Rattle.pol_model.specs.Identities.{free_number, labels_held, number_for, number_of_labels, or_free, released}
 use Rattle.pol_model.proofs.AscendingStates.{RowsAscend, labels_ascend}
-use Rattle.pol_changes.specs.Ids.{has}
-use Rattle.pol_changes.specs.Log.{Log, newest, recorded}
+use Rattle.pol_change_log.specs.Ids.{has}
+use Rattle.pol_change_log.specs.Log.{Log, newest, recorded}
 use Rattle.pol_selcache.specs.Cache.{Cache, MayPlan, carried, change_at, with_room}
 use Rattle.pol_selcache.specs.Live.{Live, AreExact, is_live, rows_without}
 use Rattle.pol_selcache.specs.Plan.{Plan, Planned, changed, plan_for}

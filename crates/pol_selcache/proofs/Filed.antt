@@ -5,12 +5,12 @@ use Rattle.std.specs.Ordering.{nat_cmp}
 use Rattle.std.proofs.lemmas.Bool.{eq-eqb, eqb-true, false_from_ne_true, or_cases, or_left, or_right}
 use Rattle.std.proofs.lemmas.List.Folds.{list_any_more}
 use Rattle.std.proofs.lemmas.List.Kept.{IsStrictlySortedBy-filter}
-use Rattle.pol_changes.specs.Ids.{has}
-use Rattle.pol_filing.specs.declared.heading.Heading.{Heading}
-use Rattle.pol_filing.specs.Filed.{Drawers, is_filed}
-use Rattle.pol_filing.specs.Heading.{heading_of, same_heading}
-use Rattle.pol_filing.specs.Tried.{is_among}
-use Rattle.pol_filing.proofs.Equality.{same_heading-Decides}
+use Rattle.pol_change_log.specs.Ids.{has}
+use Rattle.pol_headings.specs.declared.heading.Heading.{Heading}
+use Rattle.pol_headings.specs.Filed.{Drawers, is_filed}
+use Rattle.pol_headings.specs.Heading.{heading_of, same_heading}
+use Rattle.pol_headings.specs.Tried.{is_among}
+use Rattle.pol_headings.proofs.Equality.{same_heading-Decides}
 use Rattle.pol_ident.specs.Look.{selects_held}
 use Rattle.pol_model.specs.declared.row.IdentityRow.{IdentityRow}
 use Rattle.pol_model.specs.Selects.{set_at}

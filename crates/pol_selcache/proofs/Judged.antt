@@ -6,8 +6,8 @@ use Rattle.pol_labels.specs.declared.label.Label.{Label}
 use Rattle.pol_labels.specs.declared.requirement.Requirement.{Requirement}
 use Rattle.pol_labels.specs.Match.{matches}
 use Rattle.std.proofs.Math.Nat.{mul-le-mul_left}
-use Rattle.pol_filing.specs.Stands.{stands_under}
-use Rattle.pol_facts.specs.Holding.{row_of}
+use Rattle.pol_headings.specs.Stands.{stands_under}
+use Rattle.pol_model_laws.specs.Holding.{row_of}
 use Rattle.pol_model.specs.declared.row.IdentityRow.{IdentityRow}
 use Rattle.pol_model.specs.Selects.{selects_row}
 use Rattle.pol_rule.specs.declared.policy.Peer.{Peer}

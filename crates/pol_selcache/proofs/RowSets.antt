@@ -6,20 +6,20 @@ use Rattle.std.specs.Option.{option_map_or}
 use Rattle.std.specs.Ordering.{nat_cmp}
 use Rattle.std.proofs.lemmas.Bool.{and_parts, cases_Bool, eqb-true, and_right, ne_eqb}
 use Rattle.std.proofs.lemmas.Map.Views.{any-filter_same}
-use Rattle.pol_facts.proofs.Membership.{In-filter, In-map, filter-In, list_any-map, map-In}
-use Rattle.pol_facts.proofs.SelectedPeerSets.{set_ascends}
-use Rattle.pol_facts.specs.Holding.{row_of}
+use Rattle.pol_model_laws.proofs.Membership.{In-filter, In-map, filter-In, list_any-map, map-In}
+use Rattle.pol_model_laws.proofs.SelectedPeerSets.{set_ascends}
+use Rattle.pol_model_laws.specs.Holding.{row_of}
 use Rattle.pol_model.specs.declared.row.IdentityRow.{IdentityRow}
 use Rattle.pol_addr.specs.Prefix.{covers}
-use Rattle.pol_filing.specs.Stands.{stands_under}
-use Rattle.pol_filing.proofs.Selected.{selected_stands}
+use Rattle.pol_headings.specs.Stands.{stands_under}
+use Rattle.pol_headings.proofs.Selected.{selected_stands}
 use Rattle.pol_model.specs.Selects.{selects_row, set_at}
 use Rattle.pol_model.proofs.AscendingStates.{RowsAscend}
 use Rattle.pol_model.proofs.Ascents.{filter_ascends}
 use Rattle.pol_rule.specs.declared.policy.Peer.{Peer}
 use Rattle.pol_rule.specs.declared.policy.Peer.TheVariants as peer
 use Rattle.pol_ident.specs.Look.{selects_held}
-use Rattle.pol_changes.specs.Ids.{has}
+use Rattle.pol_change_log.specs.Ids.{has}
 use Rattle.pol_selcache.specs.Held.{judged_under, rows_judged}
 use Rattle.pol_selcache.specs.Live.{rows_without}
 use Rattle.std.proofs.lemmas.List.Kept.{IsStrictlySortedBy-filter}

@@ -5,15 +5,15 @@ use Rattle.std.specs.Ordering.{nat_cmp}
 use Rattle.std.proofs.lemmas.List.Kept.{IsStrictlySortedBy-filter}
 use Rattle.pol_data.proofs.Every.{every-weaker}
 use Rattle.pol_data.proofs.Members.{In-from_Contains, every-in}
-use Rattle.pol_facts.specs.Holding.{has_row, IsPartOf}
-use Rattle.pol_facts.proofs.HoldingLaws.{part_set}
-use Rattle.pol_facts.proofs.Membership.{In-filter, In-map, list_any-In}
+use Rattle.pol_model_laws.specs.Holding.{has_row, IsPartOf}
+use Rattle.pol_model_laws.proofs.HoldingLaws.{part_set}
+use Rattle.pol_model_laws.proofs.Membership.{In-filter, In-map, list_any-In}
 use Rattle.std.proofs.lemmas.Bool.{eq-eqb}
 use Rattle.pol_model.specs.declared.row.IdentityRow.{IdentityRow}
 use Rattle.pol_model.specs.Selects.{selects_row, set_at}
 use Rattle.pol_model.proofs.AscendingStates.{RowsAscend}
 use Rattle.pol_rule.specs.declared.policy.Peer.{Peer}
-use Rattle.pol_changes.specs.Ids.{has}
+use Rattle.pol_change_log.specs.Ids.{has}
 use Rattle.pol_selcache.specs.Live.{Live, AreExact, rows_without}
 use Rattle.pol_selcache.proofs.Numbers.{In-has, has-filter, same_numbers}
 use Rattle.pol_selcache.proofs.RowSets.{has-set_without, rows_without_ascend, set_sorted}

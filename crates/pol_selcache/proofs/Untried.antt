@@ -11,13 +11,13 @@ use Rattle.std.specs.Prelude.{slice_index}
 use Rattle.std.proofs.Math.Nat.{mul-le-mul_left}
 use Rattle.pol_data.proofs.Every.{every-weaker}
 use Rattle.pol_data.proofs.Filters.{filter-none}
-use Rattle.pol_filing.specs.declared.heading.Heading.{Heading}
-use Rattle.pol_filing.specs.Heading.{heading_of}
-use Rattle.pol_filing.specs.Tried.{AreKept, is_among}
+use Rattle.pol_headings.specs.declared.heading.Heading.{Heading}
+use Rattle.pol_headings.specs.Heading.{heading_of}
+use Rattle.pol_headings.specs.Tried.{AreKept, is_among}
 use Rattle.pol_model.specs.Ascending.{Ascends}
 use Rattle.pol_model.specs.declared.row.IdentityRow.{IdentityRow}
 use Rattle.pol_model.specs.Selects.{set_at}
-use Rattle.pol_changes.specs.Ids.{has}
+use Rattle.pol_change_log.specs.Ids.{has}
 use Rattle.pol_selcache.specs.Tried.{HasAllAt}
 use Rattle.pol_ident.specs.Look.{selects_held}
 use Rattle.pol_selcache.specs.Held.{steps_of}

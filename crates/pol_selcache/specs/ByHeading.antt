@@ -2,10 +2,10 @@
 use Rattle.std.specs.Prelude.{ℕ, ◌≡◌, ◌==◌, ◌<◌, ◌^◌, ◌||◌, true, List, length}
 use Rattle.std.specs.List.Sorted.{IsStrictlySortedBy}
 use Rattle.std.specs.Ordering.{nat_cmp}
-use Rattle.pol_changes.specs.Ids.{has}
-use Rattle.pol_filing.specs.declared.heading.Heading.{Heading}
-use Rattle.pol_filing.specs.Filed.{Drawers, is_filed}
-use Rattle.pol_filing.specs.Heading.{heading_of}
+use Rattle.pol_change_log.specs.Ids.{has}
+use Rattle.pol_headings.specs.declared.heading.Heading.{Heading}
+use Rattle.pol_headings.specs.Filed.{Drawers, is_filed}
+use Rattle.pol_headings.specs.Heading.{heading_of}
 use Rattle.pol_ident.specs.Look.{selects_held}
 use Rattle.pol_model.specs.declared.row.IdentityRow.{IdentityRow}
 use Rattle.pol_rule.specs.declared.policy.Peer.{Peer}

@@ -1,11 +1,11 @@
 -- What it takes to judge a held number.
 use Rattle.std.specs.Prelude.{ℕ, if◌then◌else◌, List, filter}
 use Rattle.std.specs.Option.{option_map_or}
-use Rattle.pol_facts.specs.Holding.{row_of}
-use Rattle.pol_filing.specs.declared.heading.Heading.{Heading}
-use Rattle.pol_filing.specs.declared.heading.Heading.TheVariants as heading
-use Rattle.pol_filing.specs.Heading.{heading_of}
-use Rattle.pol_filing.specs.Stands.{stands_under}
+use Rattle.pol_model_laws.specs.Holding.{row_of}
+use Rattle.pol_headings.specs.declared.heading.Heading.{Heading}
+use Rattle.pol_headings.specs.declared.heading.Heading.TheVariants as heading
+use Rattle.pol_headings.specs.Heading.{heading_of}
+use Rattle.pol_headings.specs.Stands.{stands_under}
 use Rattle.pol_model.specs.declared.row.IdentityRow.{IdentityRow}
 use Rattle.pol_rule.specs.declared.policy.Peer.{Peer}
 use Rattle.pol_rule.specs.declared.policy.Peer.TheVariants as peer

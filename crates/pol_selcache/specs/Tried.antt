@@ -1,9 +1,9 @@
 -- The selectors that are tried. No public clause cites this module.
 use Rattle.std.specs.Prelude.{ℕ, ◌≡◌, true, List, filter}
-use Rattle.pol_changes.specs.Ids.{has}
-use Rattle.pol_filing.specs.declared.heading.Heading.{Heading}
-use Rattle.pol_filing.specs.Heading.{heading_of}
-use Rattle.pol_filing.specs.Tried.{is_among}
+use Rattle.pol_change_log.specs.Ids.{has}
+use Rattle.pol_headings.specs.declared.heading.Heading.{Heading}
+use Rattle.pol_headings.specs.Heading.{heading_of}
+use Rattle.pol_headings.specs.Tried.{is_among}
 use Rattle.pol_ident.specs.Look.{selects_held}
 use Rattle.pol_model.specs.declared.row.IdentityRow.{IdentityRow}
 use Rattle.pol_rule.specs.declared.policy.Peer.{Peer}

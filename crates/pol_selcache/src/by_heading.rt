@@ -2,17 +2,17 @@
 ghost use Rattle.std.specs.Prelude.{◌≡◌, ℕ, ◌^◌, ◌<◌, ◌≤◌, ◌==◌, ◌&&◌, ◌||◌, All, IfOk, OnOk, List, length};
 ghost use Rattle.std.specs.List.Sorted.{IsStrictlySortedBy};
 ghost use Rattle.std.specs.Ordering.{nat_cmp};
-ghost use Rattle.pol_changes.specs.Ids.{has};
-ghost use Rattle.pol_filing.specs.declared.heading.Heading.{Heading as OneHeading};
-ghost use Rattle.pol_filing.specs.Filed.{is_filed};
-ghost use Rattle.pol_filing.specs.Heading.{heading_of};
-ghost use Rattle.pol_filing.specs.Tried.{is_among};
+ghost use Rattle.pol_change_log.specs.Ids.{has};
+ghost use Rattle.pol_headings.specs.declared.heading.Heading.{Heading as OneHeading};
+ghost use Rattle.pol_headings.specs.Filed.{is_filed};
+ghost use Rattle.pol_headings.specs.Heading.{heading_of};
+ghost use Rattle.pol_headings.specs.Tried.{is_among};
 ghost use Rattle.pol_model.specs.declared.row.IdentityRow.{IdentityRow as OneRow};
 ghost use Rattle.pol_selcache.specs.ByHeading.{AreFiled, AreSmall, AreThoseFor, IsByHeading, IsFiledToo};
 
 use crate::tried::add_number;
 use pol_data::Memory;
-use pol_filing::{Filing, Heading, HeadingRef, Headings};
+use pol_headings::{Filing, Heading, HeadingRef, Headings};
 use pol_ident::Identities;
 use pol_rule::Peer;
 use pol_sets::IdSet;

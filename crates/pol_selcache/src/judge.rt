@@ -1,15 +1,15 @@
 //! Which held numbers a peer selects.
 ghost use Rattle.std.specs.Prelude.{◌≡◌, ◌+◌, ◌≤◌, ◌*◌, IfOk, filter, length};
-ghost use Rattle.pol_facts.specs.Keeps.{KeepsRows};
+ghost use Rattle.pol_model_laws.specs.Keeps.{KeepsRows};
 ghost use Rattle.pol_model.specs.Selects.{set_at};
 ghost use Rattle.pol_ident.specs.Look.{selects_held};
 ghost use Rattle.pol_rule.specs.declared.policy.Peer.TheVariants.{Labels as LabelPeer};
-ghost use Rattle.pol_filing.specs.Heading.{heading_by};
+ghost use Rattle.pol_headings.specs.Heading.{heading_by};
 ghost use Rattle.pol_selcache.specs.Held.{judged_under, rows_judged, steps_at, steps_of};
 
 use crate::ids::one_if;
 use pol_data::{Memory, Steps};
-use pol_filing::HeadingRef;
+use pol_headings::HeadingRef;
 use pol_ident::Identities;
 use pol_labels::Selector;
 use pol_rule::Peer;

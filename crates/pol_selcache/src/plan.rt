@@ -2,7 +2,7 @@
 ghost use Rattle.std.specs.Prelude.{◌≡◌, ℕ, ◌+◌, ◌≤◌, ◌*◌, ◌&&◌, ◌++◌, [], true, IfOk, OnOk, OnErr, length, max, option_map};
 ghost use Rattle.std.specs.Arc.{arc_value};
 ghost use Rattle.std.specs.List.{AllByRecursion, cons_option};
-ghost use Rattle.pol_changes.specs.Log.{newest};
+ghost use Rattle.pol_change_log.specs.Log.{newest};
 ghost use Rattle.pol_model.specs.Ascending.{Ascends};
 ghost use Rattle.pol_model.specs.Selects.{set_at};
 ghost use Rattle.pol_selcache.specs.Live.{AreExact, is_live, label_selectors, rows_without};
@@ -21,7 +21,7 @@ use crate::ids::{in_both, set_of_slice};
 use crate::judge::selected_of;
 use crate::made::{Made, shared};
 use crate::tried::{headings_of, tried};
-use pol_changes::Change;
+use pol_change_log::Change;
 use pol_data::{Memory, Steps};
 use pol_ident::Identities;
 use pol_selectors::{Row, Selectors};

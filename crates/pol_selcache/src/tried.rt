@@ -1,15 +1,15 @@
 //! Which selectors are tried for numbers that come and go.
 ghost use Rattle.std.specs.Prelude.{◌≡◌, ℕ, true, IfOk, OnOk};
 ghost use Rattle.std.specs.List.{AllByRecursion};
-ghost use Rattle.pol_changes.specs.Ids.{has};
-ghost use Rattle.pol_filing.specs.Heading.{heading_of};
-ghost use Rattle.pol_filing.specs.Tried.{AreKept, is_among};
+ghost use Rattle.pol_change_log.specs.Ids.{has};
+ghost use Rattle.pol_headings.specs.Heading.{heading_of};
+ghost use Rattle.pol_headings.specs.Tried.{AreKept, is_among};
 ghost use Rattle.pol_model.specs.Ascending.{Ascends};
 ghost use Rattle.pol_selcache.specs.Tried.{HasAllAt};
 ghost use Rattle.pol_selcache.specs.Live.{is_live};
 
 use pol_data::Memory;
-use pol_filing::Headings;
+use pol_headings::Headings;
 use pol_ident::Identities;
 use pol_selectors::Selectors;
 use pol_sets::IdSet;

@@ -6,11 +6,11 @@ use Rattle.std.proofs.lemmas.Bool.{and_parts, and_from, eq-eqb}
 use Rattle.std.proofs.lemmas.List.Folds.{list_any-append}
 use Rattle.pol_data.proofs.Every.{every-append}
 use Rattle.pol_data.proofs.Members.{In}
-use Rattle.pol_facts.proofs.Membership.{In-list_any, list_any-In}
-use Rattle.pol_filing.specs.declared.heading.Heading.{Heading}
-use Rattle.pol_filing.specs.Filed.{Drawers}
-use Rattle.pol_filing.specs.Heading.{heading_of, same_heading}
-use Rattle.pol_filing.specs.Tried.{is_among}
+use Rattle.pol_model_laws.proofs.Membership.{In-list_any, list_any-In}
+use Rattle.pol_headings.specs.declared.heading.Heading.{Heading}
+use Rattle.pol_headings.specs.Filed.{Drawers}
+use Rattle.pol_headings.specs.Heading.{heading_of, same_heading}
+use Rattle.pol_headings.specs.Tried.{is_among}
 use Rattle.pol_model.specs.Ascending.{Ascends}
 use Rattle.pol_rule.specs.contracts.policy.PeerPartialEq.TheImpl as peers
 use Rattle.pol_rule.specs.declared.policy.Peer.{Peer}

@@ -5,7 +5,7 @@ use Rattle.std.proofs.lemmas.Bool.{cond-true, cond-false, eq-eqb, ne_eqb, lt-ltb
 use Rattle.pol_data.proofs.Members.{In}
 use Rattle.pol_model.specs.Ascending.{Ascends}
 use Rattle.pol_model.proofs.Ascents.{filter_ascends}
-use Rattle.pol_facts.proofs.Keyed.{found_by_number}
+use Rattle.pol_model_laws.proofs.Keyed.{found_by_number}
 use Rattle.pol_rule.specs.contracts.policy.PeerPartialEq.TheImpl as peers
 use Rattle.pol_selectors.specs.Live.{Live, AreLive, is_live, selector_of, where_number, with_reference, with_set, without_reference}
 

@@ -5,7 +5,7 @@ use Rattle.std.specs.List.Sorted.{IsNonDecreasingBy}
 use Rattle.std.proofs.lemmas.Bool.{cond-true, cond-false, eq-eqb, ne_eqb, ltb-true, ltb-false, cases_lt}
 use Rattle.std.proofs.lemmas.Option.{same_Some}
 use Rattle.pol_data.proofs.Every.{every-weaker}
-use Rattle.pol_facts.proofs.Membership.{found-some}
+use Rattle.pol_model_laws.proofs.Membership.{found-some}
 use Rattle.pol_model.specs.Ascending.{Ascends}
 use Rattle.pol_selectors.specs.declared.spots.Row.{Row}
 use Rattle.pol_selectors.specs.declared.spots.Spot.{Spot}

@@ -2,7 +2,7 @@
 ghost use Rattle.std.specs.Prelude.{◌≡◌, ℕ, ◌<◌, ◌++◌, [], ◌∷◌, Some, None, true, IfOk, OnOk, OnErr};
 ghost use Rattle.std.specs.Arc.{arc_value};
 ghost use Rattle.std.specs.List.{AllByRecursion};
-ghost use Rattle.pol_filing.specs.Filed.{has};
+ghost use Rattle.pol_headings.specs.Filed.{has};
 ghost use Rattle.pol_selectors.specs.Filed.{stands_in};
 ghost use Rattle.pol_selectors.specs.Inside.{live_of};
 ghost use Rattle.pol_selectors.specs.Live.{AreLive, is_live, number_of, selector_of, with_reference, with_set, without_reference};
@@ -11,7 +11,7 @@ use crate::known::{add_row, new_row, take_out};
 use crate::spots::{Row, Spot, place_near, put_references, put_set, row_at};
 use indexmap::IndexMap;
 use pol_data::Memory;
-use pol_filing::{Filing, Headings};
+use pol_headings::{Filing, Headings};
 use pol_rule::Peer;
 use pol_sets::IdSet;
 use std::alloc::{AllocError, Global};

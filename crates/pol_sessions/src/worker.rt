@@ -6,8 +6,8 @@ ghost use Rattle.pol_placed.specs.Seats.{ArePhases};
 
 use crate::phase::{PlayedPhases, play_phases};
 use left_right::Absorb;
+use pol_board_view::{Face, FaceOp};
 use pol_data::{Items, Memory};
-use pol_face::{Face, FaceOp};
 use pol_node::{Node, NodeName, Pass};
 use pol_phases::Commands;
 use pol_pool::{Calls, Gate, HintPass, Hints, Job, Over, work};

@@ -9,7 +9,7 @@ ghost use Rattle.pol_sets.specs.Blocks.{numbers_in};
 ghost use Rattle.pol_sets.specs.Ids.{union, without};
 ghost use Rattle.pol_sets.specs.IdSet.{IsIdSet};
 
-use crate::Numbers;
+use crate::SetIter;
 use crate::block::{Block, MOST};
 use crate::blocks::{count_in, has_in, moved_blocks, push_all, push_numbers};
 use crate::stretches::moved_numbers;
@@ -103,12 +103,12 @@ impl IdSet {
     }
 
     /// The numbers, which ascend, each once.
-    pub fn iter(&self) -> Numbers<'_>
+    pub fn iter(&self) -> SetIter<'_>
         ensures ids { result ≡ self.now }
         ensures set { IsIdSet self.now }
     {
         let (part, later) = self.parts();
-        Numbers { part, later }
+        SetIter { part, later }
     }
 
     /// Puts the numbers behind those of the list. The one error is want of memory.

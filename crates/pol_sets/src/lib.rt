@@ -7,10 +7,10 @@
 mod block;
 mod blocks;
 mod id_set;
-mod numbers;
+mod iter;
 mod sets;
 mod stretches;
 
 pub use id_set::IdSet;
-pub use numbers::Numbers;
+pub use iter::SetIter;
 pub use sets::{Move, Moves, SetRow, Sets};

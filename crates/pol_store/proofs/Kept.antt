@@ -27,11 +27,11 @@ use Rattle.pol_model.specs.Sizes.{IsShortPolicy}
 use Rattle.pol_ident.specs.declared.error.IdentError.{IdentError}
 use Rattle.pol_prefixes.proofs.Numbers.{number_of_labelled}
 use Rattle.pol_addresses.specs.AddressTable.{AddressTable}
-use Rattle.pol_kept.specs.declared.kept.Kept.{Kept}
-use Rattle.pol_kept.specs.Kept.{AreKeptOf, AreListedIn, IsListedIn, KeysDiffer, selects, without_old, without_selected}
-use Rattle.pol_kept.proofs.Unselected.{left_with, left_without}
-use Rattle.pol_numbers.specs.declared.hold.LabelsHeld.{LabelsHeld}
-use Rattle.pol_numbers.specs.Held.{Held, HoldsLabels}
+use Rattle.pol_kept_filters.specs.declared.kept.Kept.{Kept}
+use Rattle.pol_kept_filters.specs.Kept.{AreKeptOf, AreListedIn, IsListedIn, KeysDiffer, selects, without_old, without_selected}
+use Rattle.pol_kept_filters.proofs.Unselected.{left_with, left_without}
+use Rattle.pol_allocator.specs.declared.hold.LabelsHeld.{LabelsHeld}
+use Rattle.pol_allocator.specs.Held.{Held, HoldsLabels}
 use Rattle.pol_store.specs.Inside.{Told, TellsAddresses}
 
 -- ---- filters

@@ -2,11 +2,11 @@
 use Rattle.std.proofs.Common.{◌≡◌, ◌≤◌, [], refl, sym, ap, subst, ◌∙◌, arith}
 use Rattle.pol_model.specs.declared.options.Options.{Options}
 use Rattle.pol_model.specs.After.{start}
-use Rattle.pol_changes.specs.Log.{newest}
+use Rattle.pol_change_log.specs.Log.{newest}
 use Rattle.pol_selcache.specs.Cache.{Cache}
 use Rattle.pol_selcache.specs.Live.{AreExact}
 use Rattle.pol_tables.specs.Tables.{number_named}
-use Rattle.pol_numbers.specs.Held.{Held, nothing_held}
+use Rattle.pol_allocator.specs.Held.{Held, nothing_held}
 use Rattle.pol_peers.specs.References.{RefsOf}
 use Rattle.pol_store.specs.Store.{StandsFor, Stored}
 

@@ -5,7 +5,7 @@ use Rattle.pol_addr.specs.Address.{same_addr}
 use Rattle.pol_model.specs.declared.row.Endpoint.{Endpoint}
 use Rattle.pol_model.specs.Fault.{is_taken}
 use Rattle.pol_model.specs.Remote.{endpoint_at}
-use Rattle.pol_facts.proofs.Membership.{find-In, find-none, list_any-In}
+use Rattle.pol_model_laws.proofs.Membership.{find-In, find-none, list_any-In}
 
 -- an address is taken where an endpoint is found there
 pub taken_there : (address : Addr) (endpoints : List Endpoint) (endpoint : Endpoint) → Some endpoint ≡ endpoint_at address endpoints → true ≡ is_taken endpoints address

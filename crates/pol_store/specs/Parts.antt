@@ -2,7 +2,7 @@
 use Rattle.std.specs.Prelude.{◌+◌}
 use Rattle.pol_selcache.specs.Cache.{carried}
 use Rattle.pol_selcache.specs.Plan.{Plan}
-use Rattle.pol_numbers.specs.Held.{Held}
+use Rattle.pol_allocator.specs.Held.{Held}
 use Rattle.pol_store.specs.Store.{Stored}
 
 -- the numbers that are held, and the selectors

@@ -5,12 +5,12 @@ use Rattle.pol_rule.specs.declared.policy.Peer.{Peer}
 use Rattle.pol_model.specs.declared.row.Stamped.{Stamped}
 use Rattle.pol_model.specs.State.{State}
 use Rattle.pol_tables.specs.Tables.{SameNumbers}
-use Rattle.pol_changes.specs.Log.{newest}
+use Rattle.pol_change_log.specs.Log.{newest}
 use Rattle.pol_selcache.specs.Cache.{Cache}
 use Rattle.pol_selcache.specs.Live.{AreExact}
 use Rattle.pol_peers.specs.Listed.{listed_peers}
 use Rattle.pol_peers.specs.References.{RefsOf}
-use Rattle.pol_facts.specs.Keeps.{Keeps}
+use Rattle.pol_model_laws.specs.Keeps.{Keeps}
 
 -- for how many rows more each table has room
 pub record Rooms : Type 0 where

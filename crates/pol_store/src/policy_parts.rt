@@ -14,7 +14,7 @@ ghost use Rattle.pol_selcache.specs.Live.{AreExact};
 ghost use Rattle.pol_peers.specs.Listed.{listed_peers};
 ghost use Rattle.pol_peers.specs.Numbering.{TakesFreshNumbers};
 ghost use Rattle.pol_peers.specs.References.{HasRefs, IsMoreBy, KeepsNumbers};
-ghost use Rattle.pol_numbers.specs.Held.{AreApart, IsSettled, Readies, RefersTo};
+ghost use Rattle.pol_allocator.specs.Held.{AreApart, IsSettled, Readies, RefersTo};
 ghost use Rattle.pol_store.specs.Parts.{numbers_of};
 ghost use Rattle.pol_store.specs.PolicyParts.{listed_of, with_cache, with_policies, with_rows};
 ghost use Rattle.pol_store.specs.Store.{with_rooms};

@@ -6,14 +6,14 @@ ghost use Rattle.pol_model.specs.After.{start};
 ghost use Rattle.pol_selcache.specs.Cache.{IsSound};
 ghost use Rattle.pol_selcache.specs.Live.{AreLive};
 ghost use Rattle.pol_model.specs.Sizes.{IsShortPolicy};
-ghost use Rattle.pol_numbers.specs.Held.{nothing_held};
+ghost use Rattle.pol_allocator.specs.Held.{nothing_held};
 ghost use Rattle.pol_store.specs.Store.{StandsFor};
 
+use pol_allocator::Numbers;
 use pol_data::Memory;
 use pol_ident::Identities;
-use pol_kept::KeptFilters;
+use pol_kept_filters::KeptFilters;
 use pol_model::{Endpoint, Mode, Stamped};
-use pol_numbers::Numbers;
 use pol_selcache::SelectorCache;
 use pol_tables::{Endpoints, Named, Policies};
 use pol_taken::Addresses;
@@ -45,7 +45,7 @@ impl Model for Store {
 
     ghost use Rattle.std.specs.List.{AllByRecursion};
     ghost use Rattle.pol_model.specs.Sizes.{IsShortPolicy};
-    ghost use Rattle.pol_kept.specs.Kept.{AreKeptOf, AreListedIn, KeysDiffer};
+    ghost use Rattle.pol_kept_filters.specs.Kept.{AreKeptOf, AreListedIn, KeysDiffer};
     ghost use Rattle.pol_store.specs.Inside.{Told};
 
     ghost view = { λ store. record {

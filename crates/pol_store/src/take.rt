@@ -7,7 +7,7 @@ ghost use Rattle.pol_model.specs.State.{State};
 ghost use Rattle.pol_selcache.specs.Live.{number_of};
 ghost use Rattle.pol_peers.specs.References.{RefsOf};
 ghost use Rattle.pol_l4.specs.Resolved.{filters_for};
-ghost use Rattle.pol_kept.specs.Kept.{IsListedIn};
+ghost use Rattle.pol_kept_filters.specs.Kept.{IsListedIn};
 ghost use Rattle.pol_tables.specs.Tables.{endpoint_in};
 ghost use Rattle.pol_taken.specs.OfState.{IsTakenOf};
 ghost use Rattle.pol_taken.specs.PeerRows.{AreSetsFor, filter_peers};
@@ -17,7 +17,7 @@ ghost use Rattle.pol_store.specs.Store.{StandsFor, peers_of};
 
 use crate::store::Store;
 use pol_data::Memory;
-use pol_kept::Kept;
+use pol_kept_filters::Kept;
 use pol_l4::Filters;
 use pol_model::Endpoint;
 use pol_selcache::SelectorCache;

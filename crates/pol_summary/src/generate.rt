@@ -6,13 +6,13 @@ ghost use Rattle.pol_history.specs.Legal.{IsLegal};
 ghost use Rattle.pol_summary.specs.Summary.{summary};
 
 use crate::summary::summary_text;
-use pol_blocks::read_lines;
-use pol_book::SeenHistory;
 use pol_data::Memory;
 use pol_gen::generated;
-use pol_lines::play_lines;
+use pol_history_log::SeenHistory;
 use pol_model::Options;
+use pol_parallel_lines::read_lines;
 use pol_placed::phases::lines_are_seated;
+use pol_play_lines::play_lines;
 use pol_pool::Gate;
 use std::alloc::Global;
 use std::sync::Wait;

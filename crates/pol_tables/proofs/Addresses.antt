@@ -10,9 +10,9 @@ use Rattle.pol_addr.proofs.Equality.{addr_eq-Decides}
 use Rattle.pol_data.proofs.Members.{every-from_in}
 use Rattle.pol_model.specs.declared.row.Endpoint.{Endpoint}
 use Rattle.pol_model.specs.Remote.{endpoint_at}
-use Rattle.pol_facts.proofs.Distinct.{one_of_key}
-use Rattle.pol_facts.proofs.Membership.{In-filter, find-In}
-use Rattle.pol_facts.proofs.PolicyHolders.{same_addr-Decides}
+use Rattle.pol_model_laws.proofs.Distinct.{one_of_key}
+use Rattle.pol_model_laws.proofs.Membership.{In-filter, find-In}
+use Rattle.pol_model_laws.proofs.PolicyHolders.{same_addr-Decides}
 use Rattle.pol_tables.proofs.Deciding.{same_tests}
 use Rattle.pol_tables.specs.Numbered.{PassOnce}
 use Rattle.pol_tables.proofs.Entries.{find-inserted, find-kept, find-no, one_passes}

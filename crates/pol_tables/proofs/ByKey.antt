@@ -12,7 +12,7 @@ use Rattle.pol_model.specs.declared.row.Stamped.{Stamped}
 use Rattle.pol_model.specs.Policies.{applied, is_of_key}
 use Rattle.pol_tables.specs.Numbered.{number_of, place_of}
 use Rattle.pol_tables.specs.Tied.{ArePolicies}
-use Rattle.pol_facts.proofs.PolicyHolders.{same_key-Decides}
+use Rattle.pol_model_laws.proofs.PolicyHolders.{same_key-Decides}
 use Rattle.pol_tables.proofs.Deciding.{same_tests}
 use Rattle.pol_tables.proofs.Places.{ascends-push, ascends-remove, later_of, length-gone, length-push, less_push, less_remove, nobody, number_gone, number_push, number_set, number_stays, once-push, once-remove, once-set, zero_of}
 

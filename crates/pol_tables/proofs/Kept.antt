@@ -19,11 +19,11 @@ use Rattle.pol_model.specs.Numbers.{placed_by}
 use Rattle.pol_model.specs.Remote.{endpoint_at}
 use Rattle.pol_model.proofs.Ascents.{filter_ascends, placed_ascends}
 use Rattle.pol_model.proofs.LeastFree.{least_free-free}
-use Rattle.pol_facts.proofs.Distinct.{differ_filtered, differ_inserted}
-use Rattle.pol_facts.proofs.Keyed.{found_by_number}
-use Rattle.pol_facts.proofs.Membership.{find-In, find-none}
-use Rattle.pol_facts.proofs.PolicyHolders.{same_addr-Decides}
-use Rattle.pol_facts.proofs.PrefixHolders.{least_free-within}
+use Rattle.pol_model_laws.proofs.Distinct.{differ_filtered, differ_inserted}
+use Rattle.pol_model_laws.proofs.Keyed.{found_by_number}
+use Rattle.pol_model_laws.proofs.Membership.{find-In, find-none}
+use Rattle.pol_model_laws.proofs.PolicyHolders.{same_addr-Decides}
+use Rattle.pol_model_laws.proofs.PrefixHolders.{least_free-within}
 use Rattle.pol_tables.specs.Tables.{endpoint_in}
 use Rattle.pol_tables.specs.Tied.{IsEndpoints, IsKeyed}
 use Rattle.pol_tables.proofs.Addresses.{tells_placed, tells_removed}

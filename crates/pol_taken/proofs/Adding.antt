@@ -14,9 +14,9 @@ use Rattle.pol_rule.specs.declared.policy.Peers.TheVariants.{Every, Listed}
 use Rattle.pol_rule.proofs.Equality.{peer_eq-Decides}
 use Rattle.pol_model.specs.declared.row.IdentityRow.{IdentityRow}
 use Rattle.pol_model.specs.Selects.{set_at}
-use Rattle.pol_facts.proofs.Distinct.{differ_pushed}
-use Rattle.pol_facts.proofs.Keyed.{found_by_number, one_of_number}
-use Rattle.pol_facts.proofs.Membership.{In-left, In-list_any, In-right, find-In, list_any-In}
+use Rattle.pol_model_laws.proofs.Distinct.{differ_pushed}
+use Rattle.pol_model_laws.proofs.Keyed.{found_by_number, one_of_number}
+use Rattle.pol_model_laws.proofs.Membership.{In-left, In-list_any, In-right, find-In, list_any-In}
 use Rattle.pol_sets.specs.declared.sets.SetRow.{SetRow}
 use Rattle.pol_sets.specs.Sets.{has_set, is_row_of}
 use Rattle.pol_l4.specs.declared.filter.Filter.{Filter}

@@ -18,11 +18,11 @@ use Rattle.pol_model.specs.declared.row.IdentityRow.{IdentityRow}
 use Rattle.pol_model.specs.After.{state_of}
 use Rattle.pol_model.specs.PolicyMap.{policy_map}
 use Rattle.pol_model.specs.Selects.{set_at}
-use Rattle.pol_facts.specs.MapFacts.{AgreeOnEntries, AgreeOnParts, AgreeOnPeers}
-use Rattle.pol_facts.specs.WithoutFaults.{WithoutFaults}
-use Rattle.pol_facts.proofs.KeepsAll.{state_keeps}
-use Rattle.pol_facts.proofs.Membership.{find-In, found-some}
-use Rattle.pol_facts.proofs.StateLaws.{found-init}
+use Rattle.pol_model_laws.specs.MapFacts.{AgreeOnEntries, AgreeOnParts, AgreeOnPeers}
+use Rattle.pol_model_laws.specs.WithoutFaults.{WithoutFaults}
+use Rattle.pol_model_laws.proofs.KeepsAll.{state_keeps}
+use Rattle.pol_model_laws.proofs.Membership.{find-In, found-some}
+use Rattle.pol_model_laws.proofs.StateLaws.{found-init}
 use Rattle.pol_sets.specs.declared.sets.SetRow.{SetRow}
 use Rattle.pol_sets.specs.Sets.{has_set, is_row_of, set_given}
 use Rattle.pol_l4.specs.declared.filter.Filter.{Filter}

@@ -19,7 +19,7 @@ use Rattle.pol_rule.specs.declared.policy.Section.TheVariants as section
 use Rattle.pol_model.specs.declared.options.Mode.{Mode}
 use Rattle.pol_model.specs.declared.row.Stamped.{Stamped}
 use Rattle.pol_model.specs.Enforced.{allow_section, deny_section}
-use Rattle.pol_facts.proofs.Membership.{list_any-In}
+use Rattle.pol_model_laws.proofs.Membership.{list_any-In}
 use Rattle.pol_l4.specs.declared.filter.Filter.{Filter}
 use Rattle.pol_l4.specs.Resolved.{entry_filters, filter_at, filters_for, filters_in, policy_filters, rule_filters}
 use Rattle.pol_selcache.specs.Live.{Live, number_of}

@@ -14,7 +14,7 @@ use Rattle.pol_model.specs.declared.row.Endpoint.{Endpoint}
 use Rattle.pol_model.specs.declared.row.IdentityRow.{IdentityRow}
 use Rattle.pol_model.specs.After.{new_endpoint, start, state_of}
 use Rattle.pol_model.specs.Selects.{set_at}
-use Rattle.pol_facts.specs.WorkedMaps.{app_peer, namespace_label, ordinary, x_denied}
+use Rattle.pol_model_laws.specs.WorkedMaps.{app_peer, namespace_label, ordinary, x_denied}
 use Rattle.pol_sets.specs.declared.sets.SetRow.{SetRow}
 use Rattle.pol_sets.specs.Sets.{has_set}
 use Rattle.pol_distill.specs.Distilled.{filters_at}

@@ -3,12 +3,12 @@ use Rattle.std.proofs.Common.{◌≡◌, ℕ, ◌==◌, ◌<◌, ◌&&◌, ◌||
 use Rattle.std.specs.List.{AllByRecursion, list_any}
 use Rattle.std.specs.Option.{option_map_or}
 use Rattle.std.proofs.lemmas.Bool.{cases_Bool, eqb-true, ne_eqb}
-use Rattle.pol_facts.specs.Holding.{row_of}
+use Rattle.pol_model_laws.specs.Holding.{row_of}
 use Rattle.pol_model.specs.declared.row.IdentityRow.{IdentityRow}
 use Rattle.pol_model.proofs.AscendingStates.{RowsAscend}
 use Rattle.pol_model.specs.Selects.{is_all, selects_number, selects_row}
 use Rattle.pol_rule.specs.declared.policy.Peer.{Peer}
-use Rattle.pol_facts.specs.Keeps.{KeepsRows}
+use Rattle.pol_model_laws.specs.Keeps.{KeepsRows}
 use Rattle.pol_ident.specs.Look.{selects_held}
 
 or_false : (b : Bool) → (b || false) ≡ b

@@ -146,4 +146,3 @@ same_rows [] [] all = refl
 same_rows [] (f ∷ fs) all = absurd all
 same_rows (e ∷ es) [] all = absurd all
 same_rows (e ∷ es) (f ∷ fs) all = λ i. (all.0.0 i, all.0.1 i) ∷ same_rows es fs all.1 i
-

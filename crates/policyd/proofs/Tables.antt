@@ -6,7 +6,7 @@ use Rattle.pol_base.specs.Bytes.{AppendsPart}
 use Rattle.pol_data.proofs.Counts.{count_by-cons}
 use Rattle.pol_compare.specs.Finding.{is_same}
 use Rattle.pol_compare.specs.Parts.{IsFew}
-use Rattle.pol_maps.specs.AtEnd.{is_live, map_text}
+use Rattle.pol_map_dump.specs.AtEnd.{is_live, map_text}
 use Rattle.pol_model.specs.declared.options.Options.{Options}
 use Rattle.pol_script.specs.Lines.{lines_from, lines_of}
 use Rattle.policyd.specs.Headline.{TellsFinding, WritesFinding, WritesMap, WritesPartOfFinding}

@@ -11,7 +11,7 @@ use Rattle.pol_compare.specs.Text.{finding_text}
 use Rattle.pol_history.specs.declared.event.HistoryEvent.{HistoryEvent}
 use Rattle.pol_generated.specs.HistoryOfRounds.{IsHistoryOfRounds}
 use Rattle.pol_history.specs.Legal.{IsLegal}
-use Rattle.pol_maps.specs.AtEnd.{is_live, map_text}
+use Rattle.pol_map_dump.specs.AtEnd.{is_live, map_text}
 use Rattle.pol_model.specs.declared.options.Options.{Options}
 use Rattle.pol_placed.specs.HistoryOfRun.{IsHistoryOf}
 use Rattle.pol_script.specs.Lines.{lines_of}

@@ -2,9 +2,9 @@
 use Rattle.std.specs.Prelude.{ℕ, ◌||◌, Bool, true, false, is_some, List, Option, None, Some, option_and_then}
 use Rattle.std.specs.Option.{option_map_or}
 use Rattle.pol_model.specs.declared.options.Options.{Options}
-use Rattle.pol_words.specs.declared.task.Task.{Task}
-use Rattle.pol_words.specs.declared.task.Task.TheVariants.{Play, Generate, Map, Audit}
-use Rattle.pol_words.specs.Given.{words_given}
+use Rattle.pol_command_line.specs.declared.task.Task.{Task}
+use Rattle.pol_command_line.specs.declared.task.Task.TheVariants.{Play, Generate, Map, Audit}
+use Rattle.pol_command_line.specs.Given.{words_given}
 
 -- ---- a script that is played
 

@@ -2,7 +2,7 @@
 //! standard output.
 //!
 //! `play` does all of it over any source and sink: `source` reads a script and answers it, `generate` writes the summary of
-//! one that is made, `map` the map that a script leaves an endpoint with, and `audit` how two tables differ. The lines are played by `pol_lines`. What `play` promises is stated in its contract,
+//! one that is made, `map` the map that a script leaves an endpoint with, and `audit` how two tables differ. The lines are played by `pol_play_lines`. What `play` promises is stated in its contract,
 //! over the definitions of `pol_run`.
 #![tactic(auto)]
 

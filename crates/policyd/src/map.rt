@@ -3,7 +3,7 @@ ghost use Rattle.std.specs.Prelude.{◌≡◌, ◌⊎◌, None, IfSome, IsSomeAn
 ghost use Rattle.std.specs.Io.KnownBytes.{IsAtEnd, Keeps};
 ghost use Rattle.pol_base.specs.Faults.{Rose, DidNotRise};
 ghost use Rattle.pol_base.specs.Bytes.{AppendsPart, ConsumesSome};
-ghost use Rattle.pol_maps.specs.AtEnd.{map_text};
+ghost use Rattle.pol_map_dump.specs.AtEnd.{map_text};
 ghost use Rattle.policyd.specs.Script.{is_too_long, fits_limits};
 ghost use Rattle.policyd.specs.Headline.{WritesMap};
 ghost use Rattle.policyd.specs.Ends.{is_answered, has_read_all, is_silent, status_number};
@@ -13,7 +13,7 @@ use crate::status::Status;
 use crate::text::write_text;
 use pol_base::{Sink, Source};
 use pol_data::Memory;
-use pol_maps::map_at_end;
+use pol_map_dump::map_at_end;
 use pol_model::Options;
 use std::alloc::Global;
 

@@ -2,7 +2,7 @@
 ghost use Rattle.std.specs.Prelude.{◌≡◌, None};
 
 use crate::status::Status;
-use pol_book::SeenHistory;
+use pol_history_log::SeenHistory;
 
 /// How a run ended, and what was seen of its history.
 #[derive(Drop)]

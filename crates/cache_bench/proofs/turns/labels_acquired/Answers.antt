@@ -1,7 +1,7 @@
 use Rattle.std.proofs.Common.{◌∷◌, [], List, sym, subst, ◌∙◌, ap}
 use Rattle.pol_model.specs.declared.row.IdentityRow.{IdentityRow}
 use Rattle.pol_selcache.specs.Cache.{MayPlan}
-use Rattle.pol_facts.specs.Holding.{has_row}
+use Rattle.pol_model_laws.specs.Holding.{has_row}
 use Rattle.pol_selcache.proofs.Coming.{it_is_held, new_may_come}
 use Rattle.cache_bench.proofs.turns.labels_acquired.Goals as goal
 

@@ -1,5 +1,5 @@
 use Rattle.std.proofs.Common.{◌∷◌, [], List, sym, subst, ◌∙◌, ap}
-use Rattle.pol_facts.specs.Holding.{has_row}
+use Rattle.pol_model_laws.specs.Holding.{has_row}
 use Rattle.pol_model.specs.declared.row.IdentityRow.{IdentityRow}
 use Rattle.pol_selcache.specs.Cache.{MayCome}
 use Rattle.cache_bench.proofs.PrefixComes.{prefix_is_held, prefix_may_come}

@@ -1,5 +1,5 @@
 use Rattle.std.proofs.Common.{◌≤◌, ◌+◌, ◌*◌}
-use Rattle.pol_changes.specs.Log.{newest}
+use Rattle.pol_change_log.specs.Log.{newest}
 use Rattle.pol_selcache.specs.Live.{AreExact}
 use Rattle.cache_bench.proofs.turns.round.Given as goal
 

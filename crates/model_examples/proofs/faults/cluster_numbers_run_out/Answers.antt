@@ -1,6 +1,6 @@
 use Rattle.std.proofs.Common.{ap, codes, None, refl}
-use Rattle.pol_facts.specs.Examples.{app}
-use Rattle.pol_facts.proofs.FoundRows.{exhausted-exactly}
+use Rattle.pol_model_laws.specs.Examples.{app}
+use Rattle.pol_model_laws.proofs.FoundRows.{exhausted-exactly}
 use Rattle.pol_model.specs.Fault.{fault_if}
 use Rattle.pol_model.specs.declared.answer.Fault.TheVariants as fault
 use Rattle.model_examples.proofs.Numbers.{not_exhausted}

@@ -1,8 +1,8 @@
 -- The map is shown with what was pending, and what is kept goes on from it.
 use Rattle.std.proofs.Common.{◌≡◌, Option, Some, None, ap, subst, sym, ◌∙◌}
 use Rattle.std.proofs.lemmas.Option.{same_Some}
-use Rattle.pol_follow.specs.declared.follow.Followed.{Followed}
-use Rattle.pol_follow.specs.Follow.{IsShown}
+use Rattle.pol_slot_map.specs.declared.follow.Followed.{Followed}
+use Rattle.pol_slot_map.specs.Follow.{IsShown}
 use Rattle.pol_core.specs.declared.row.MachineRow.{MachineRow}
 use Rattle.pol_core.specs.declared.row.MachineMap.{MachineMap}
 use Rattle.pol_core.specs.Parts.{IsShownOf}

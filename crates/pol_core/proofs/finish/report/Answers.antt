@@ -1,6 +1,6 @@
 use Rattle.std.proofs.Common.{◌≡◌, Option, IfSome, length, refl, subst, arith}
 use Rattle.pol_delta.specs.Work.{map_of}
-use Rattle.pol_follow.specs.declared.follow.Followed.{Followed}
+use Rattle.pol_slot_map.specs.declared.follow.Followed.{Followed}
 use Rattle.pol_core.proofs.finish.report.Goals as goal
 
 pub returns-then-count-limit : goal.returns-then-count-limit

@@ -1,6 +1,6 @@
 -- The changes are made in the map that is published, or in an empty one.
 use Rattle.std.proofs.Common.{ap, refl, sym, ◌∙◌}
-use Rattle.pol_edits.specs.Changes.{changed}
+use Rattle.pol_change_list.specs.Changes.{changed}
 use Rattle.pol_core.specs.Rows.{trie_of}
 use Rattle.pol_core.proofs.Counting.{few_changes}
 use Rattle.pol_core.proofs.finish.show.Goals as goal

@@ -4,8 +4,8 @@ use Rattle.pol_model.specs.PolicyMap.{raw_entries}
 use Rattle.pol_sets.specs.Sets.{set_given}
 use Rattle.pol_l4.specs.FilterParts.{filter_parts}
 use Rattle.pol_distill.proofs.OnePass.{canonical_is_table}
-use Rattle.pol_edits.specs.Changes.{changed, table_of}
-use Rattle.pol_edits.proofs.Differences.{differences_lead, tables_have_their_entries}
+use Rattle.pol_change_list.specs.Changes.{changed, table_of}
+use Rattle.pol_change_list.proofs.Differences.{differences_lead, tables_have_their_entries}
 use Rattle.pol_delta.specs.Work.{map_of}
 use Rattle.pol_delta.proofs.laws.lists_lead_from_map_to_map.Goals as goal
 

@@ -1,4 +1,4 @@
-use Rattle.pol_given.specs.Given.{raw_of}
+use Rattle.pol_raw_entries.specs.Given.{raw_of}
 use Rattle.pol_delta.proofs.Standing.{led_by, there, turned_kept, turned_list}
 use Rattle.pol_delta.proofs.turned.turned.Goals as goal
 

@@ -1,9 +1,9 @@
 use Rattle.std.proofs.Common.{◌∙◌, ap}
 use Rattle.pol_mapkey.specs.Entries.{read_map}
 use Rattle.pol_model.specs.After.{state_of}
-use Rattle.pol_facts.proofs.KeepsAll.{state_keeps}
-use Rattle.pol_facts.proofs.Positive.{rows_positive}
-use Rattle.pol_facts.proofs.StateLaws.{found-init}
+use Rattle.pol_model_laws.proofs.KeepsAll.{state_keeps}
+use Rattle.pol_model_laws.proofs.Positive.{rows_positive}
+use Rattle.pol_model_laws.proofs.StateLaws.{found-init}
 use Rattle.pol_distill.proofs.FilterLaw.{distilled_is}
 use Rattle.pol_distill.proofs.MapLaw.{read_is_verdict}
 use Rattle.pol_distill.proofs.laws.filters_give_the_policy_map.Goals as goal

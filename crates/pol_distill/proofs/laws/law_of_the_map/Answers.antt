@@ -1,4 +1,4 @@
-use Rattle.pol_facts.proofs.Positive.{rows_positive}
+use Rattle.pol_model_laws.proofs.Positive.{rows_positive}
 use Rattle.pol_model.specs.After.{state_of}
 use Rattle.pol_distill.proofs.MapLaw.{read_is_verdict}
 use Rattle.pol_distill.proofs.laws.law_of_the_map.Goals as goal

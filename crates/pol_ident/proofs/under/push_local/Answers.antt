@@ -1,6 +1,6 @@
 use Rattle.std.proofs.Common.{◌≡◌, ◌++◌, OnOk, sym, ap, subst, ◌∙◌}
 use Rattle.std.proofs.lemmas.List.{append-nil}
-use Rattle.pol_filing.specs.declared.heading.Heading.TheVariants.{Label as ByLabel}
+use Rattle.pol_headings.specs.declared.heading.Heading.TheVariants.{Label as ByLabel}
 use Rattle.pol_label_sets.specs.Carried.{carries_heading}
 use Rattle.pol_model.specs.declared.limits.TheConstants.{LOCAL_FIRST}
 use Rattle.pol_ident.proofs.StandUnder.{all-where, all_so-where, none_so-where}

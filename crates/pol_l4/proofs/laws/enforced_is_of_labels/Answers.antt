@@ -1,4 +1,4 @@
-use Rattle.pol_facts.proofs.StateLaws.{found-init}
+use Rattle.pol_model_laws.proofs.StateLaws.{found-init}
 use Rattle.pol_l4.proofs.EnforcedBy.{enforced_by_labels}
 use Rattle.pol_l4.proofs.laws.enforced_is_of_labels.Goals as goal
 

@@ -1,6 +1,6 @@
 use Rattle.std.proofs.Common.{◌||◌, ◌&&◌, ◌==◌, ◌∙◌}
-use Rattle.pol_filing.specs.Filed.{is_filed}
-use Rattle.pol_filing.specs.Heading.{same_heading}
+use Rattle.pol_headings.specs.Filed.{is_filed}
+use Rattle.pol_headings.specs.Heading.{same_heading}
 use Rattle.pol_label_sets.proofs.Front.{front-apart, more-filed}
 use Rattle.pol_label_sets.proofs.filed.file_each.Goals as goal
 

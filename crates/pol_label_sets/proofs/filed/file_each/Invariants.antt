@@ -1,6 +1,6 @@
 use Rattle.std.proofs.Common.{◌≡◌, ◌||◌, ℕ, take}
-use Rattle.pol_filing.specs.declared.heading.Heading.{Heading}
-use Rattle.pol_filing.specs.Filed.{is_filed}
+use Rattle.pol_headings.specs.declared.heading.Heading.{Heading}
+use Rattle.pol_headings.specs.Filed.{is_filed}
 use Rattle.pol_label_sets.specs.Filed.{is_of}
 use Rattle.pol_label_sets.proofs.filed.file_each.Given as goal
 

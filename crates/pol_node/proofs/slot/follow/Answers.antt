@@ -1,8 +1,8 @@
 -- What was taken may be applied where its endpoint is followed, and is followed afterwards.
 use Rattle.std.proofs.Common.{Option, Some, IfSome, subst}
-use Rattle.pol_follow.specs.declared.follow.Followed.{Followed}
-use Rattle.pol_follow.specs.Followed.{Follows}
-use Rattle.pol_follow.proofs.Keeping.{follows-start}
+use Rattle.pol_slot_map.specs.declared.follow.Followed.{Followed}
+use Rattle.pol_slot_map.specs.Followed.{Follows}
+use Rattle.pol_slot_map.proofs.Keeping.{follows-start}
 use Rattle.pol_node.specs.Slot.{TellsMovesFrom, kept_of}
 use Rattle.pol_node.proofs.Following.{applies, went_on}
 use Rattle.pol_node.proofs.slot.follow.Goals as goal

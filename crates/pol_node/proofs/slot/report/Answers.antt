@@ -1,9 +1,9 @@
 -- What is told is of the map that was made, which is the endpoint's.
 use Rattle.std.proofs.Common.{ℕ, length, sym, ap, ◌∙◌, subst}
 use Rattle.pol_history.specs.declared.turn.SlotTurn.{SlotTurn}
-use Rattle.pol_follow.specs.declared.follow.Followed.{Followed}
-use Rattle.pol_follow.specs.Followed.{Follows}
-use Rattle.pol_follow.proofs.Keeping.{follows-later, follows-shown}
+use Rattle.pol_slot_map.specs.declared.follow.Followed.{Followed}
+use Rattle.pol_slot_map.specs.Followed.{Follows}
+use Rattle.pol_slot_map.proofs.Keeping.{follows-later, follows-shown}
 use Rattle.pol_node.specs.declared.report.Regen.{Regen}
 use Rattle.pol_node.specs.Finish.{Regenerates}
 use Rattle.pol_node.specs.Slot.{TellsAnyTurn, regen_of, turn_of}

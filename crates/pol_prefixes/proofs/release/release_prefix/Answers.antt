@@ -1,5 +1,5 @@
 use Rattle.std.proofs.Common.{sym, ap, ◌∙◌}
-use Rattle.pol_facts.specs.Holding.{has_row}
+use Rattle.pol_model_laws.specs.Holding.{has_row}
 use Rattle.pol_prefixes.proofs.Numbers.{number_has}
 use Rattle.pol_prefixes.proofs.Tables.{table_stays, table_without}
 use Rattle.pol_prefixes.proofs.release.release_prefix.Goals as goal

@@ -5,7 +5,7 @@ use Rattle.pol_model.specs.Explain.{explain_for}
 use Rattle.pol_model.specs.Remote.{remote_number}
 use Rattle.pol_model.specs.Verdict.{verdict_of}
 use Rattle.pol_model.specs.After.{state_of}
-use Rattle.pol_facts.proofs.KeepsAll.{state_keeps}
+use Rattle.pol_model_laws.proofs.KeepsAll.{state_keeps}
 use Rattle.pol_repo.proofs.Sides.{address_is_number}
 use Rattle.pol_repo.proofs.laws.law_of_addresses.Goals as goal
 

@@ -3,8 +3,8 @@ use Rattle.std.specs.Arc.{arc_value}
 use Rattle.pol_mapkey.specs.Entries.{read_map}
 use Rattle.pol_model.specs.After.{state_of}
 use Rattle.pol_model.specs.Verdict.{verdict_of}
-use Rattle.pol_facts.proofs.KeepsAll.{state_keeps}
-use Rattle.pol_facts.proofs.Positive.{rows_positive}
+use Rattle.pol_model_laws.proofs.KeepsAll.{state_keeps}
+use Rattle.pol_model_laws.proofs.Positive.{rows_positive}
 use Rattle.pol_distill.proofs.MapLaw.{read_is_verdict}
 use Rattle.pol_addresses.specs.AddressTable.{number_in}
 use Rattle.pol_taken.proofs.Agreed.{taken_map}

@@ -1,6 +1,6 @@
 use Rattle.std.proofs.Common.{◌≡◌, List, ℕ, ap, subst, ◌∙◌}
 use Rattle.pol_model.specs.Endpoints.{without_endpoint}
-use Rattle.pol_facts.specs.Holding.{has_row}
+use Rattle.pol_model_laws.specs.Holding.{has_row}
 use Rattle.pol_store.specs.Store.{Stored}
 use Rattle.pol_requests.proofs.Doing.{endpoint_gone, endpoint_may_go}
 use Rattle.pol_requests.proofs.endpoints.take_out_endpoint.Goals as goal

@@ -1,6 +1,6 @@
 use Rattle.std.proofs.Common.{List, ℕ, ap, subst, ◌∙◌}
 use Rattle.pol_model.specs.Endpoints.{without_named}
-use Rattle.pol_facts.specs.Holding.{has_row}
+use Rattle.pol_model_laws.specs.Holding.{has_row}
 use Rattle.pol_tables.specs.Tables.{SameNumbers}
 use Rattle.pol_store.specs.Store.{Stored}
 use Rattle.pol_requests.proofs.DoingNames.{name_gone, name_may_go}

@@ -1,7 +1,7 @@
 use Rattle.std.proofs.Common.{◌≡◌, ◌||◌, ◌&&◌, ◌==◌, ℕ, take}
-use Rattle.pol_filing.specs.declared.heading.Heading.{Heading}
-use Rattle.pol_filing.specs.Filed.{is_filed}
-use Rattle.pol_filing.specs.Tried.{is_among}
+use Rattle.pol_headings.specs.declared.heading.Heading.{Heading}
+use Rattle.pol_headings.specs.Filed.{is_filed}
+use Rattle.pol_headings.specs.Tried.{is_among}
 use Rattle.pol_selcache.proofs.by_heading.file_under.Given as goal
 
 abbrev pub invariant-loop-heading : goal.invariant-loop-heading

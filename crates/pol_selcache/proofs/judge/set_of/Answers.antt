@@ -2,8 +2,8 @@ use Rattle.std.proofs.Common.{◌≡◌, ◌*◌, filter, length, map, sym, subs
 use Rattle.std.proofs.lemmas.List.{length-map}
 use Rattle.std.specs.List.Sorted.{IsStrictlySortedBy}
 use Rattle.std.specs.Ordering.{nat_cmp}
-use Rattle.pol_filing.specs.declared.heading.Heading.{Heading}
-use Rattle.pol_filing.specs.Stands.{stands_under}
+use Rattle.pol_headings.specs.declared.heading.Heading.{Heading}
+use Rattle.pol_headings.specs.Stands.{stands_under}
 use Rattle.pol_ident.specs.Look.{selects_held}
 use Rattle.pol_model.specs.declared.row.IdentityRow.{IdentityRow}
 use Rattle.pol_model.specs.Selects.{set_at}

@@ -1,6 +1,6 @@
 use Rattle.std.proofs.Common.{take}
 use Rattle.std.specs.List.{AllByRecursion}
-use Rattle.pol_filing.specs.Tried.{AreKept}
+use Rattle.pol_headings.specs.Tried.{AreKept}
 use Rattle.pol_selcache.specs.Tried.{HasAllAt}
 use Rattle.pol_selcache.proofs.tried.add_numbers.Given as goal
 

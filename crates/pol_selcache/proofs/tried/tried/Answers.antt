@@ -1,8 +1,8 @@
 use Rattle.std.proofs.Common.{◌≡◌, true, sym, ◌∙◌}
-use Rattle.pol_changes.specs.Ids.{has}
+use Rattle.pol_change_log.specs.Ids.{has}
 use Rattle.pol_data.proofs.Members.{every-from_in}
-use Rattle.pol_filing.specs.Heading.{heading_of}
-use Rattle.pol_filing.specs.Tried.{is_among}
+use Rattle.pol_headings.specs.Heading.{heading_of}
+use Rattle.pol_headings.specs.Tried.{is_among}
 use Rattle.pol_selcache.specs.Live.{Live, is_live}
 use Rattle.pol_selectors.proofs.Kept.{In_stands, stands_lives}
 use Rattle.pol_selcache.proofs.Numbers.{has-In}

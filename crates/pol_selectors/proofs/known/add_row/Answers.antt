@@ -1,7 +1,7 @@
 use Rattle.std.proofs.Common.{◌==◌, ◌&&◌, ◌||◌, cond, ◌++◌, ◌∷◌, [], Some, ◌∙◌}
 use Rattle.std.specs.Map.{lookup}
-use Rattle.pol_filing.specs.Filed.{is_filed}
-use Rattle.pol_filing.specs.Heading.{same_heading}
+use Rattle.pol_headings.specs.Filed.{is_filed}
+use Rattle.pol_headings.specs.Heading.{same_heading}
 use Rattle.pol_rule.specs.contracts.policy.PeerPartialEq.TheImpl as peers
 use Rattle.pol_selectors.specs.Inside.{live_in, live_of}
 use Rattle.pol_selectors.proofs.Kept.{table_pushed}

@@ -1,6 +1,6 @@
 use Rattle.std.proofs.Common.{◌≡◌, cond, List, Some, None, slice_get, sym, subst, ◌∙◌}
 use Rattle.std.specs.Map.{lookup}
-use Rattle.pol_filing.specs.Heading.{heading_of}
+use Rattle.pol_headings.specs.Heading.{heading_of}
 use Rattle.pol_model.specs.Ascending.{Ascends}
 use Rattle.pol_rule.specs.contracts.policy.PeerPartialEq.TheImpl as peers
 use Rattle.pol_rule.specs.declared.policy.Peer.{Peer}

@@ -1,7 +1,7 @@
 use Rattle.std.proofs.Common.{◌≡◌, ℕ, ◌≤◌, Bool, Some, ap, ◌∙◌}
 use Rattle.pol_model.specs.declared.options.Mode.{Mode}
 use Rattle.pol_model.specs.declared.options.Options.{Options}
-use Rattle.pol_face.specs.Room.{IsLimited}
+use Rattle.pol_board_view.specs.Room.{IsLimited}
 use Rattle.pol_board.proofs.Counting.{none_counted, one_pass_more}
 use Rattle.pol_board.proofs.board.Board.with_readers.Goals as goal
 

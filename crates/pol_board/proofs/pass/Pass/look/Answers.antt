@@ -1,5 +1,5 @@
 use Rattle.std.proofs.Common.{◌<◌, ◌^◌, [], List, ap, sym, subst, ◌∙◌, arith}
-use Rattle.pol_facts.proofs.Positive.{rows_positive}
+use Rattle.pol_model_laws.proofs.Positive.{rows_positive}
 use Rattle.pol_model.specs.After.{state_of}
 use Rattle.pol_distill.proofs.MapLaw.{read_is_verdict}
 use Rattle.pol_history.specs.declared.event.HistoryEvent.{HistoryEvent}
@@ -8,7 +8,7 @@ use Rattle.pol_history.specs.Content.{content_of}
 use Rattle.pol_history.specs.Grows.{PassGrows, PassState}
 use Rattle.pol_history.specs.LookIn.{MapsAreRead, look_in}
 use Rattle.pol_history.proofs.LookedIn.{look-told}
-use Rattle.pol_face.specs.Answers.{IsLookOf}
+use Rattle.pol_board_view.specs.Answers.{IsLookOf}
 use Rattle.pol_board.proofs.Showing.{grows_nothing}
 use Rattle.pol_board.proofs.pass.Pass.look.Goals as goal
 

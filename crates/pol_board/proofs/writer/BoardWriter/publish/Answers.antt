@@ -5,7 +5,7 @@ use Rattle.pol_history.specs.Commits.{commits_by}
 use Rattle.pol_history.specs.Content.{numbers_in}
 use Rattle.pol_history.specs.Machine.{endpoint_id}
 use Rattle.pol_history.proofs.Own.{own-publish, state-prefix}
-use Rattle.pol_book.specs.Asked.{table_at}
+use Rattle.pol_history_log.specs.Asked.{table_at}
 use Rattle.pol_board.specs.Counts.{Counted}
 use Rattle.pol_board.proofs.Counting.{counted-publish}
 use Rattle.pol_board.proofs.Showing.{longer_is, longer-is_change, own_shown}

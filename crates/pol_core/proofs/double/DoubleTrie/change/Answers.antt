@@ -1,8 +1,8 @@
 -- No change is in key order.
 use Rattle.std.proofs.Common.{List, [], sym, subst}
 use Rattle.std.specs.List.Sorted.{IsStrictlySortedBy}
-use Rattle.pol_edits.specs.Changes.{IsAscending}
-use Rattle.pol_edits.specs.declared.change.Change.{Change}
+use Rattle.pol_change_list.specs.Changes.{IsAscending}
+use Rattle.pol_change_list.specs.declared.change.Change.{Change}
 use Rattle.pol_core.proofs.double.DoubleTrie.change.Goals as goal
 
 none_ascend : IsAscending []

@@ -3,7 +3,7 @@ use Rattle.std.specs.Arc.{arc_value}
 use Rattle.pol_mapkey.specs.Entries.{Entry}
 use Rattle.pol_l4.specs.declared.filter.Filters.{Filters}
 use Rattle.pol_distill.specs.Distilled.{distilled}
-use Rattle.pol_edits.specs.Changes.{IsDifference, table_of}
+use Rattle.pol_change_list.specs.Changes.{IsDifference, table_of}
 use Rattle.pol_delta.specs.Work.{IsWorkOf, WorkOf, map_of}
 use Rattle.pol_delta.specs.Lists.{told}
 use Rattle.pol_delta.proofs.SameRows.{carried, fresh, same_map}

@@ -2,8 +2,8 @@ use Rattle.std.proofs.Common.{length, ◌∙◌, ap}
 use Rattle.std.specs.Arc.{arc_value}
 use Rattle.pol_l4.specs.declared.filter.Filters.{Filters}
 use Rattle.pol_distill.specs.Distilled.{distilled}
-use Rattle.pol_tally.specs.Times.{times}
-use Rattle.pol_given.specs.Given.{raw_of}
+use Rattle.pol_entry_tally.specs.Times.{times}
+use Rattle.pol_raw_entries.specs.Given.{raw_of}
 use Rattle.pol_delta.proofs.SameRows.{fresh}
 use Rattle.pol_delta.proofs.Standing.{tally_made}
 use Rattle.pol_delta.proofs.work.Work.from_scratch.Goals as goal

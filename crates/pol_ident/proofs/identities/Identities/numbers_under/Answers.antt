@@ -1,8 +1,8 @@
 use Rattle.std.proofs.Common.{◌++◌, None, Some, ap, ◌∙◌}
-use Rattle.pol_filing.specs.Heading.{heading_by}
-use Rattle.pol_filing.specs.Stands.{stands_with}
+use Rattle.pol_headings.specs.Heading.{heading_by}
+use Rattle.pol_headings.specs.Stands.{stands_with}
 use Rattle.pol_model.specs.declared.limits.TheConstants.{CLUSTER_FIRST, LOCAL_FIRST}
-use Rattle.pol_places.specs.Slots.{numbers_where}
+use Rattle.pol_interner.specs.Slots.{numbers_where}
 use Rattle.pol_ident.proofs.HeldPrefixes.{worlds}
 use Rattle.pol_ident.proofs.StandUnder.{under, under-collected}
 use Rattle.pol_ident.proofs.identities.Identities.numbers_under.Goals as goal

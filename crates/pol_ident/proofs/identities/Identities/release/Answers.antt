@@ -1,5 +1,5 @@
 use Rattle.std.proofs.Common.{◌≡◌, true, sym, subst}
-use Rattle.pol_facts.specs.Holding.{has_row}
+use Rattle.pol_model_laws.specs.Holding.{has_row}
 use Rattle.pol_ident.proofs.GivenBack.{cluster-held, cluster-released, local-held, local-released, not-nowhere, reserved-released}
 use Rattle.pol_ident.proofs.identities.Identities.release.Goals as goal
 

@@ -2,7 +2,7 @@ use Rattle.std.proofs.Common.{Some, subst, sym}
 use Rattle.std.specs.BTreeMap.{get}
 use Rattle.pol_addr.specs.Order.{prefix_cmp}
 use Rattle.pol_addr.specs.contracts.network.PrefixPartialEq.TheImpl as prefixes
-use Rattle.pol_places.specs.Slots.{HasNone}
+use Rattle.pol_interner.specs.Slots.{HasNone}
 use Rattle.pol_local_prefixes.specs.Tied.{IsOrderOf}
 use Rattle.pol_local_prefixes.proofs.Kept.{IsOrderWith, came, came_back, with_updates}
 use Rattle.pol_local_prefixes.proofs.prefixes.LocalPrefixes.add.Goals as goal

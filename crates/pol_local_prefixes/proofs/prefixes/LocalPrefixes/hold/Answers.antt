@@ -1,5 +1,5 @@
 use Rattle.std.proofs.Common.{IsSome, subst, sym}
-use Rattle.pol_places.specs.Slots.{slot_at}
+use Rattle.pol_interner.specs.Slots.{slot_at}
 use Rattle.pol_local_prefixes.proofs.Kept.{held}
 use Rattle.pol_local_prefixes.proofs.prefixes.LocalPrefixes.hold.Goals as goal
 

@@ -4,7 +4,7 @@ use Rattle.pol_model.specs.Ascending.{Ascends}
 use Rattle.pol_model.specs.Committed.{slots_of}
 use Rattle.pol_model.specs.declared.row.Endpoint.{Endpoint}
 use Rattle.pol_model.proofs.AscendingStates.{state_slots_ascend}
-use Rattle.pol_facts.proofs.KeepsAll.{state_keeps}
+use Rattle.pol_model_laws.proofs.KeepsAll.{state_keeps}
 use Rattle.pol_repo.specs.Repository.{state_in}
 use Rattle.pol_node.proofs.AtHistory.{at_shown, revision_at}
 use Rattle.pol_node.proofs.FewSlots.{few_slots}

@@ -2,7 +2,7 @@
 use Rattle.std.proofs.Common.{◌≡◌, ◌∙◌, ℕ, arith, subst, sym}
 use Rattle.std.proofs.lemmas.Option.{IfSome_then}
 use Rattle.std.proofs.lemmas.Result.{IfOk-weaker}
-use Rattle.pol_chains.specs.Moves.{TellsMovesSince}
+use Rattle.pol_moves.specs.Moves.{TellsMovesSince}
 use Rattle.pol_history.specs.Commits.{commits_in, revision_of, state_now}
 use Rattle.pol_history.proofs.Own.{revision-prefix}
 use Rattle.pol_repo.specs.Repository.{state_in}

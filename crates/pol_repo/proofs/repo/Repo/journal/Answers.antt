@@ -1,5 +1,5 @@
 use Rattle.std.proofs.Common.{subst}
-use Rattle.pol_facts.specs.WithoutFaults.{WithoutFaults}
+use Rattle.pol_model_laws.specs.WithoutFaults.{WithoutFaults}
 use Rattle.pol_repo.specs.Repository.{Repository}
 use Rattle.pol_repo.proofs.repo.Repo.journal.Goals as goal
 

@@ -2,8 +2,8 @@ use Rattle.std.proofs.Common.{◌≡◌, IsSome, sym, ap, ◌∙◌, subst}
 use Rattle.std.specs.Arc.{arc_value}
 use Rattle.std.specs.List.{AllByRecursion}
 use Rattle.pol_l4.specs.Resolved.{filters_for}
-use Rattle.pol_kept.specs.Kept.{IsListedIn}
-use Rattle.pol_kept.proofs.Rows.{every-among, served}
+use Rattle.pol_kept_filters.specs.Kept.{IsListedIn}
+use Rattle.pol_kept_filters.proofs.Rows.{every-among, served}
 use Rattle.pol_selcache.specs.Cache.{Cache}
 use Rattle.pol_selcache.specs.Live.{number_of}
 use Rattle.pol_taken.specs.PeerRows.{filter_peers}
@@ -16,7 +16,7 @@ parts_of-requires c =
     let kept = c.in-Some.kept.now in
     let labels = c.args.endpoint.now.labels in
     let own = subst (λ (t : Stored). arc_value kept.filters ≡ filters_for t.state.policies labels t.state.mode c.args.localhost) c.self.view_is
-        (served c.self.inside.policies.list c.self.inside.mode c.self.inside.kept kept labels c.args.localhost c.self.invariant.2 c.in-Some.ensures.kept c.in-Some.ensures.serves) in
+    (served c.self.inside.policies.list c.self.inside.mode c.self.inside.kept kept labels c.args.localhost c.self.invariant.2 c.in-Some.ensures.kept c.in-Some.ensures.serves) in
     let cache = c.selectors.ensures.cache ∙ ap (λ (t : Stored). t.cache) c.self.view_is in
     record {
       listed = subst (λ (cache : Cache). IsListedIn cache kept) (sym c.selectors.ensures.cache)
@@ -30,7 +30,7 @@ returns-in-Some c =
     let kept = c.in-Some.kept.now in
     let labels = c.args.endpoint.now.labels in
     let own = subst (λ (t : Stored). arc_value kept.filters ≡ filters_for t.state.policies labels t.state.mode c.args.localhost) c.self.view_is
-        (served c.self.inside.policies.list c.self.inside.mode c.self.inside.kept kept labels c.args.localhost c.self.invariant.2 c.in-Some.ensures.kept c.in-Some.ensures.serves) in
+    (served c.self.inside.policies.list c.self.inside.mode c.self.inside.kept kept labels c.args.localhost c.self.invariant.2 c.in-Some.ensures.kept c.in-Some.ensures.serves) in
     let cache = c.selectors.ensures.cache ∙ ap (λ (t : Stored). t.cache) c.self.view_is in
     record {
       parts = parts_are c.args.self.now c.args.endpoint.now c.args.localhost c.selectors.result.now (arc_value kept.filters) c.parts_of.result cache own c.parts_of.ensures.filters c.parts_of.ensures.sets;

@@ -1,5 +1,5 @@
 use Rattle.std.proofs.Common.{ap}
-use Rattle.pol_numbers.specs.Held.{Held}
+use Rattle.pol_allocator.specs.Held.{Held}
 use Rattle.pol_store.proofs.Kept.{listed_in_room, told_still}
 use Rattle.pol_store.proofs.store.Store.plan_release.Goals as goal
 

@@ -2,8 +2,8 @@ use Rattle.std.proofs.Common.{List, sym, subst}
 use Rattle.std.specs.List.{AllByRecursion}
 use Rattle.pol_model.specs.declared.row.Stamped.{Stamped}
 use Rattle.pol_model.specs.Sizes.{IsShortPolicy}
-use Rattle.pol_facts.proofs.PolicyHolders.{applied_differ}
-use Rattle.pol_kept.specs.Kept.{KeysDiffer}
+use Rattle.pol_model_laws.proofs.PolicyHolders.{applied_differ}
+use Rattle.pol_kept_filters.specs.Kept.{KeysDiffer}
 use Rattle.pol_store.proofs.Kept.{kept_put, listed_old, listed_selected}
 use Rattle.pol_store.proofs.PolicyRows.{every_applied}
 use Rattle.pol_store.proofs.store.Store.put.Goals as goal

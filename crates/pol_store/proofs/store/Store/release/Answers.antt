@@ -1,7 +1,7 @@
 use Rattle.std.proofs.Common.{ap, ◌∙◌}
 use Rattle.pol_model.specs.Prefixes.{number_of_prefix}
 use Rattle.pol_prefixes.proofs.Numbers.{number_of_left}
-use Rattle.pol_numbers.specs.Held.{Held}
+use Rattle.pol_allocator.specs.Held.{Held}
 use Rattle.pol_store.proofs.Kept.{listed_still, told_moved}
 use Rattle.pol_store.proofs.store.Store.release.Goals as goal
 

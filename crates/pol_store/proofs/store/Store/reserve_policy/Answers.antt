@@ -2,7 +2,7 @@ use Rattle.std.proofs.Common.{List, subst, sym}
 use Rattle.std.specs.List.{AllByRecursion}
 use Rattle.pol_model.specs.declared.row.Stamped.{Stamped}
 use Rattle.pol_model.specs.Sizes.{IsShortPolicy}
-use Rattle.pol_kept.specs.Kept.{AreKeptOf, KeysDiffer}
+use Rattle.pol_kept_filters.specs.Kept.{AreKeptOf, KeysDiffer}
 use Rattle.pol_store.proofs.store.Store.reserve_policy.Goals as goal
 
 pub invariant_of-self : goal.invariant_of-self

@@ -1,6 +1,6 @@
 use Rattle.std.proofs.Common.{List, subst, sym}
-use Rattle.pol_kept.specs.declared.kept.Kept.{Kept}
-use Rattle.pol_kept.specs.Kept.{AreKeptOf}
+use Rattle.pol_kept_filters.specs.declared.kept.Kept.{Kept}
+use Rattle.pol_kept_filters.specs.Kept.{AreKeptOf}
 use Rattle.pol_store.proofs.Kept.{none_listed}
 use Rattle.pol_store.proofs.store.Store.set_mode.Goals as goal
 

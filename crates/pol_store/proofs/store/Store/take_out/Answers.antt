@@ -4,9 +4,9 @@ use Rattle.pol_data.proofs.Every.{every-kept}
 use Rattle.pol_model.specs.declared.row.Stamped.{Stamped}
 use Rattle.pol_model.specs.Policies.{is_of_key}
 use Rattle.pol_model.specs.Sizes.{IsShortPolicy}
-use Rattle.pol_facts.proofs.Distinct.{differ_filtered}
-use Rattle.pol_facts.proofs.PolicyHolders.{same_key-Decides}
-use Rattle.pol_kept.specs.Kept.{KeysDiffer}
+use Rattle.pol_model_laws.proofs.Distinct.{differ_filtered}
+use Rattle.pol_model_laws.proofs.PolicyHolders.{same_key-Decides}
+use Rattle.pol_kept_filters.specs.Kept.{KeysDiffer}
 use Rattle.pol_store.proofs.Kept.{kept_taken_out, listed_old}
 use Rattle.pol_store.proofs.store.Store.take_out.Goals as goal
 

@@ -1,0 +1,52 @@
+//! The selectors that the peers of policies refer to.
+ghost use Rattle.std.specs.Prelude.{◌≡◌, ◌+◌, ◌≤◌, List, [], OnOk, OnErr, length};
+ghost use Rattle.pol_model.specs.declared.row.IdentityRow.{IdentityRow as OneRow};
+ghost use Rattle.pol_selcache.specs.Live.{AreExact};
+ghost use Rattle.pol_peers.specs.Numbering.{TakesFreshNumbers};
+ghost use Rattle.pol_peers.specs.Listed.{listed_peers};
+ghost use Rattle.pol_peers.specs.References.{HasRefs, IsMoreBy, KeepsNumbers, steps_to_hold};
+ghost use Rattle.pol_allocator.specs.Held.{RefersTo};
+
+use crate::Numbers;
+use pol_data::{Memory, Steps};
+use pol_peers::{drop_peers, hold_peers};
+use pol_rule::Policy;
+use std::sync::ledger::Ledger;
+
+impl Numbers {
+    /// One reference more for each peer that the policy lists, or for none. A new selector has the held numbers that its
+    /// peer selects; the sets of the others stay as they are. `Memory` is want of memory, or a count at its end.
+    pub fn refer<L: Ledger>(&mut self, policy: &Policy, steps: &mut Steps<L>) -> Result<(), Memory>
+        requires exact { AreExact self.old.rows self.old.cache.live }
+        ensures rows { self.new.rows ≡ self.old.rows }
+        ensures ok { OnOk result (RefersTo (listed_peers policy.now) self.old.rows self.old.cache self.new.cache) }
+        ensures err { OnErr result (RefersTo [] self.old.rows self.old.cache self.new.cache) }
+        ensures kept { KeepsNumbers self.old.cache.live self.new.cache.live }
+        ensures log { self.new.cache.log ≡ self.old.cache.log }
+        ensures fresh { TakesFreshNumbers self.old.cache self.new.cache }
+        ensures cost { steps.new ≤ steps.old + steps_to_hold (listed_peers policy.now) (length self.old.rows) }
+    {
+        hold_peers(
+            self.alloc,
+            &mut self.selectors,
+            policy,
+            &self.identities,
+            steps,
+        )?;
+        Ok(())
+    }
+
+    /// One reference less for each peer that the policy lists; a selector goes with its last one. It takes no memory.
+    pub fn unrefer(&mut self, policy: &Policy)
+        requires referred { HasRefs (listed_peers policy.now) self.old.cache.live }
+        ensures rows { self.new.rows ≡ self.old.rows }
+        ensures peers { IsMoreBy (listed_peers policy.now) self.new.cache.live self.old.cache.live }
+        ensures kept { KeepsNumbers self.new.cache.live self.old.cache.live }
+        ensures exact { (rows : List OneRow) → AreExact rows self.old.cache.live → AreExact rows self.new.cache.live }
+        ensures log { self.new.cache.log ≡ self.old.cache.log }
+        ensures next { self.new.cache.next ≡ self.old.cache.next }
+    {
+        let _ = &self.identities;
+        drop_peers(&mut self.selectors, policy);
+    }
+}

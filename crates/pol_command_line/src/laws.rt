@@ -1,0 +1,55 @@
+//! Laws of the words, over the definitions alone.
+//! Each function does nothing: its contract is the law.
+ghost use Rattle.std.specs.Prelude.{◌≡◌, true, false, [], ◌∷◌, codes, None, Some};
+ghost use Rattle.pol_model.specs.declared.options.Mode.TheVariants.{Default, Always, Never};
+ghost use Rattle.pol_command_line.specs.declared.task.Task.TheVariants.{Play, Generate, Map, Audit};
+ghost use Rattle.pol_command_line.specs.Given.{words_given, words_fit};
+
+/// What some words give ('profile').
+pub fn words_that_fit()
+    ensures none { words_given [] ≡ Some (record { options = record { mode = Default; localhost = true; map_max = Some 16384 }; workers = 2; task = Play }) }
+    ensures all { words_given (codes "--generate" ∷ codes "10000" ∷ codes "--workers=0" ∷ codes "--allow-localhost" ∷ codes "policy" ∷ codes "--enable-policy=never" ∷ [])
+        ≡ Some (record { options = record { mode = Never; localhost = false; map_max = Some 16384 }; workers = 0; task = Generate 10000 }) }
+    ensures greatest { words_given (codes "--workers" ∷ codes "8" ∷ codes "--generate" ∷ codes "1" ∷ codes "--enable-policy" ∷ codes "always" ∷ [])
+        ≡ Some (record { options = record { mode = Always; localhost = true; map_max = Some 16384 }; workers = 8; task = Generate 1 }) }
+    ensures end { words_fit (codes "--" ∷ []) ≡ true }
+{}
+
+/// What is to be done: the name of a map is any text, an empty one too ('profile').
+pub fn words_that_ask_for_maps()
+    ensures map { words_given (codes "--map" ∷ codes "web" ∷ [])
+        ≡ Some (record { options = record { mode = Default; localhost = true; map_max = Some 16384 }; workers = 2; task = Map (codes "web") }) }
+    ensures no_name { words_given (codes "--map=" ∷ []) ≡ words_given (codes "--map" ∷ [] ∷ []) }
+    ensures empty_name { words_given (codes "--map=" ∷ [])
+        ≡ Some (record { options = record { mode = Default; localhost = true; map_max = Some 16384 }; workers = 2; task = Map [] }) }
+    ensures audit { words_given (codes "--audit" ∷ codes "--workers=0" ∷ [])
+        ≡ Some (record { options = record { mode = Default; localhost = true; map_max = Some 16384 }; workers = 0; task = Audit }) }
+{}
+
+/// No two of a generated script, a map and an audit may be asked for, and none of them twice; a name that begins with a dash
+/// stands behind an equals sign ('profile').
+pub fn words_that_ask_for_two()
+    ensures map_and_audit { words_fit (codes "--map=a" ∷ codes "--audit" ∷ []) ≡ false }
+    ensures generate_and_audit { words_fit (codes "--audit" ∷ codes "--generate=1" ∷ []) ≡ false }
+    ensures generate_and_map { words_fit (codes "--generate=1" ∷ codes "--map=a" ∷ []) ≡ false }
+    ensures two_maps { words_fit (codes "--map=a" ∷ codes "--map=b" ∷ []) ≡ false }
+    ensures two_audits { words_fit (codes "--audit" ∷ codes "--audit" ∷ []) ≡ false }
+    ensures value { words_fit (codes "--audit=true" ∷ []) ≡ false }
+    ensures name { words_fit (codes "--map" ∷ []) ≡ false }
+    ensures option { words_fit (codes "--map" ∷ codes "--audit" ∷ []) ≡ false }
+    ensures dash { words_fit (codes "--map=--audit" ∷ []) ≡ true }
+{}
+
+/// Some words that don't fit ('profile').
+pub fn words_that_do_not_fit()
+    ensures word { words_fit (codes "script" ∷ []) ≡ false }
+    ensures help { words_fit (codes "--help" ∷ []) ≡ false }
+    ensures short_help { words_fit (codes "-h" ∷ []) ≡ false }
+    ensures twice { words_fit (codes "--workers=2" ∷ codes "--workers=2" ∷ []) ≡ false }
+    ensures workers { words_fit (codes "--workers=9" ∷ []) ≡ false }
+    ensures generate { words_fit (codes "--generate=0" ∷ []) ≡ false }
+    ensures generate_more { words_fit (codes "--generate=10001" ∷ []) ≡ false }
+    ensures mode { words_fit (codes "--enable-policy=Default" ∷ []) ≡ false }
+    ensures localhost { words_fit (codes "--allow-localhost=never" ∷ []) ≡ false }
+    ensures value { words_fit (codes "--workers" ∷ []) ≡ false }
+{}

@@ -1,0 +1,135 @@
+//! Keys as numbers: two numbers are compared in one step, where keys are compared field by field.
+ghost use Rattle.std.specs.Prelude.{◌≡◌, ◌≤◌, ◌<◌, ◌^◌, true};
+ghost use Rattle.pol_mapkey.specs.KeyProto.{proto_place};
+ghost use Rattle.pol_entry_tally.specs.Numbers.{dir_at, dir_place, fits, key_at, key_of, number_of, port_at, proto_at, width};
+
+use crate::keys::{every_key, port_count, port_key, prefix_at};
+use pol_mapkey::{KeyProto, MapKey};
+use pol_ports::{Direction, PortPrefix, Proto};
+
+/// The lowest bit of the direction in a number, of the identity, of the protocol, and of the first port. The length stands below.
+const DIRECTION: u64 = 1 << 55;
+
+const IDENTITY: u64 = 1 << 23;
+
+const PROTOCOL: u64 = 1 << 21;
+
+const PORT: u64 = 1 << 5;
+
+fn dir_place(dir: Direction) -> u64
+    ensures value { result ≡ dir_place dir }
+    ensures small { result ≤ 1 }
+{
+    match dir {
+        Direction::Ingress => 0,
+        Direction::Egress => 1,
+    }
+}
+
+fn proto_place(proto: KeyProto) -> u64
+    ensures value { result ≡ proto_place proto }
+    ensures small { result ≤ 3 }
+{
+    match proto {
+        KeyProto::Every => 0,
+        KeyProto::Tcp => 1,
+        KeyProto::Udp => 2,
+        KeyProto::Sctp => 3,
+    }
+}
+
+fn identity(key: &MapKey) -> u64
+    ensures value { result ≡ key.now.id }
+    ensures small { key.now.id < 2 ^ 32 }
+{
+    u64::from(key.id)
+}
+
+fn first_port(key: &MapKey) -> u64
+    ensures value { result ≡ key.now.port.bits }
+    ensures small { key.now.port.bits < 2 ^ 16 }
+{
+    u64::from(key.port.bits)
+}
+
+/// The number of a key.
+pub(crate) fn number_of(key: &MapKey) -> u64
+    ensures value { result ≡ number_of key.now }
+    ensures fits { fits key.now ≡ true }
+    ensures small { result < 2 ^ 56 }
+{
+    let dir = dir_place(key.dir) * DIRECTION;
+    let id = identity(key) * IDENTITY;
+    let proto = proto_place(key.proto) * PROTOCOL;
+    let port = first_port(key) * PORT;
+    dir + id + proto + port + u64::from(key.port.len)
+}
+
+fn dir_at(place: u64) -> Direction
+    ensures { result ≡ dir_at place }
+{
+    if place == 0 {
+        Direction::Ingress
+    } else {
+        Direction::Egress
+    }
+}
+
+fn proto_at(place: u64) -> Option<Proto>
+    ensures { result ≡ proto_at place }
+{
+    if place == 1 {
+        Some(Proto::Tcp)
+    } else if place == 2 {
+        Some(Proto::Udp)
+    } else if place == 3 {
+        Some(Proto::Sctp)
+    } else {
+        None
+    }
+}
+
+fn port_at(bits: u16, len: u64) -> PortPrefix
+    ensures { result ≡ port_at bits len }
+{
+    prefix_at(bits, len.min(16) as u8)
+}
+
+fn key_at(dir: Direction, id: u32, proto: Option<Proto>, port: PortPrefix) -> MapKey
+    ensures { result ≡ key_at dir id proto port }
+{
+    match proto {
+        None => every_key(dir, id),
+        Some(proto) => port_key(dir, id, proto, port),
+    }
+}
+
+/// The key of a number. Of a number that no key has it is some key.
+pub(crate) fn key_of(number: u64) -> MapKey
+    ensures { result ≡ key_of number }
+{
+    let id = (number / IDENTITY % (1 << 32)) as u32;
+    let bits = (number / PORT % (1 << 16)) as u16;
+    key_at(
+        dir_at(number / DIRECTION),
+        id,
+        proto_at(number / PROTOCOL % 4),
+        port_at(bits, number % PORT),
+    )
+}
+
+/// How many numbers from that of the key on are those of keys that it covers.
+pub(crate) fn width(key: &MapKey) -> u64
+    ensures value { result ≡ width key.now }
+    ensures some { 0 < result }
+    ensures small { result < 2 ^ 56 }
+{
+    let len = key.port.len;
+    let ports = PORT * u64::from(port_count(len)) - u64::from(len);
+    match key.proto {
+        KeyProto::Every => IDENTITY,
+        KeyProto::Tcp => ports,
+        KeyProto::Udp => ports,
+        KeyProto::Sctp => ports,
+    }
+}

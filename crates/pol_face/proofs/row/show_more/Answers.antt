@@ -1,5 +1,0 @@
-use Rattle.std.proofs.Common.{◌+◌, ◌≤◌}
-use Rattle.pol_face.proofs.row.show_more.Goals as goal
-
-pub apply_to-requires : goal.apply_to-requires
-apply_to-requires c = record { few = c.requires.room c.if-not-shown.false c.as_slice.ensures.ascending }

@@ -1,5 +1,0 @@
-use Rattle.pol_facts.proofs.Canonical.{canonical_under_none}
-use Rattle.pol_facts.proofs.map_laws.nothing_lies_under_a_deny.Goals as goal
-
-pub returns : goal.returns
-returns c = canonical_under_none

@@ -1,5 +1,0 @@
-use Rattle.pol_facts.proofs.Canonical.{canonical_keys}
-use Rattle.pol_facts.proofs.map_laws.which_keys_a_map_has.Goals as goal
-
-pub returns : goal.returns
-returns c = canonical_keys

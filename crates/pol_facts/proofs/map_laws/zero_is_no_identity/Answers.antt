@@ -1,5 +1,0 @@
-use Rattle.pol_facts.proofs.Positive.{rows_positive}
-use Rattle.pol_facts.proofs.map_laws.zero_is_no_identity.Goals as goal
-
-pub returns : goal.returns
-returns c = rows_positive

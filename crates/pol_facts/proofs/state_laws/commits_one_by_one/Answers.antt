@@ -1,9 +1,0 @@
-use Rattle.pol_facts.proofs.StateLaws.{commits-each, commits-first, commits-more}
-use Rattle.pol_facts.proofs.state_laws.commits_one_by_one.Goals as goal
-
-pub returns : goal.returns
-returns c = record {
-  more = commits-more;
-  first_ones = commits-first;
-  each = commits-each;
-}

@@ -1,9 +1,0 @@
-use Rattle.pol_facts.proofs.StateLaws.{labels-stay, prefix-stays, row-stays}
-use Rattle.pol_facts.proofs.state_laws.numbers_stay.Goals as goal
-
-pub returns : goal.returns
-returns c = record {
-  row = row-stays;
-  labels = labels-stay;
-  prefix = prefix-stays;
-}

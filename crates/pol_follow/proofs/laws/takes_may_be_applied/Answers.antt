@@ -1,6 +1,0 @@
-use Rattle.pol_follow.proofs.Applying.{may_apply}
-use Rattle.pol_follow.proofs.laws.takes_may_be_applied.Goals as goal
-
-pub returns : goal.returns
-returns c options journal since within work row slot taken filters sets is told =
-    may_apply options journal since within work row slot taken filters sets is told

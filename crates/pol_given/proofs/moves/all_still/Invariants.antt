@@ -1,7 +1,0 @@
-use Rattle.std.proofs.Common.{take}
-use Rattle.std.specs.List.{AllByRecursion}
-use Rattle.pol_given.specs.PeerRow.{IsStill}
-use Rattle.pol_given.proofs.moves.all_still.Given as goal
-
-abbrev pub invariant-loop-one : goal.invariant-loop-one
-invariant-loop-one l = AllByRecursion IsStill (take l.one-index l.moves)

@@ -1,5 +1,0 @@
-use Rattle.pol_numbers.proofs.Apart.{apart_where_held}
-use Rattle.pol_numbers.proofs.laws.held_prefixes_are_apart.Goals as goal
-
-pub returns : goal.returns
-returns c = apart_where_held

@@ -1,0 +1,212 @@
+//! What a slot keeps of the endpoint that it follows.
+ghost use Rattle.std.specs.Prelude.{◌≡◌, ◌≢◌, ◌⊎◌, IfOk, None, OnErr, OnOk, Some, map};
+ghost use Rattle.std.specs.Arc.{arc_value};
+ghost use Rattle.pol_delta.specs.Lists.{told};
+ghost use Rattle.pol_delta.specs.Work.{IsWorkOf, map_of};
+ghost use Rattle.pol_distill.specs.Distilled.{distilled};
+ghost use Rattle.pol_distill.specs.Sorted.{HaveSets};
+ghost use Rattle.pol_slot_map.specs.Follow.{GoesOn, IsShown, IsStartOf, MayApply, Stays};
+
+use pol_change_list::ChangeList;
+use pol_data::{Memory, Text};
+use pol_delta::{Changes, Work};
+use pol_sets::{SetRow, Sets};
+use pol_taken::{Taken, TakenRow};
+use std::alloc::Global;
+use std::sync::Arc;
+
+/// An endpoint, with the map that was made of it last, and the changes that lead to that map from the one that was
+/// published last.
+#[derive(Drop)]
+pub struct Followed {
+    /// The endpoint's name.
+    pub name: Text,
+    /// The revision that added it.
+    pub added: u64,
+    /// The revision of the map that was made last.
+    pub kept: u64,
+    /// The revision of the map that was published last, if there is one.
+    pub shown: Option<u64>,
+    /// The map that was made last, with what it is made of.
+    pub work: Work,
+    /// The changes since the map that was published last.
+    pub pending: ChangeList,
+    /// The changes after these, where want of memory came before they were joined.
+    pub behind: Option<ChangeList>,
+}
+
+/// The same row with a peer of its own, which shares its set.
+fn row_copy(alloc: Global, row: &TakenRow) -> Result<SetRow, Memory>
+    ensures { IfOk result (λ copy. told copy ≡ told row.now) }
+{
+    Ok(SetRow {
+        peer: row.peer().copy(alloc)?,
+        selector: row.selector(),
+        set: Arc::try_clone(row.set())?,
+    })
+}
+
+/// The same rows, which share their sets.
+fn rows_copy(alloc: Global, rows: &[TakenRow]) -> Result<Sets, Memory>
+    ensures { IfOk result (λ copies. map told copies ≡ map told rows.now) }
+{
+    let mut copies = Vec::with_capacity(alloc, rows.len())?;
+    for row in rows {
+        copies.push(row_copy(alloc, row)?)?;
+    }
+    Ok(Sets::from_vec(copies))
+}
+
+/// The work of what was taken.
+fn work_of(alloc: Global, taken: &Taken) -> Result<Work, Memory>
+    requires sets { HaveSets taken.now.sets (arc_value taken.now.filters) }
+    ensures work { IfOk result (IsWorkOf (arc_value taken.now.filters) taken.now.sets) }
+    ensures map { IfOk result (λ work. map_of work ≡ distilled (arc_value taken.now.filters) taken.now.sets) }
+{
+    let sets = rows_copy(alloc, taken.sets.as_slice())?;
+    let filters = Arc::try_clone(&taken.filters)?;
+    Work::from_scratch(alloc, filters, sets)
+}
+
+impl Followed {
+    /// What is kept of an endpoint that was taken, where nothing was kept of it: its map, and `Set` of each entry. The one
+    /// error is want of memory.
+    pub fn start(alloc: Global, taken: &Taken) -> Result<Followed, Memory>
+        requires sets { HaveSets taken.now.sets (arc_value taken.now.filters) }
+        ensures started { IfOk result (IsStartOf taken.now) }
+    {
+        let name = taken.endpoint.name.copy(alloc)?;
+        let work = work_of(alloc, taken)?;
+        let pending = work.whole(alloc)?;
+        Ok(Followed {
+            name,
+            added: taken.endpoint.added,
+            kept: taken.revision,
+            shown: None,
+            work,
+            pending,
+            behind: None,
+        })
+    }
+
+    /// Joins the changes behind to the others. The one error is want of memory, and then nothing is changed.
+    fn join(&mut self, alloc: Global) -> Result<(), Memory>
+        ensures joined { OnOk result (self.new.behind ≡ None) }
+        ensures stays { Stays self.old self.new }
+    {
+        if let Some(behind) = &self.behind {
+            self.pending = self.pending.then(alloc, behind)?;
+            self.behind = None;
+        }
+        Ok(())
+    }
+
+    /// Takes the work on, and keeps the changes behind the others. The one error is want of memory, and then nothing is
+    /// changed.
+    fn take_on(&mut self, changes: &Changes, revision: u64) -> Result<(), Memory>
+        requires joined { self.old.behind ≡ None }
+        requires may { MayApply self.old.work (arc_value changes.now.filters) changes.now.sets changes.now.moves }
+        ensures went { OnOk result (GoesOn (arc_value changes.now.filters) changes.now.sets revision self.old self.new) }
+        ensures err { OnErr result (self.new ≡ self.old) }
+    {
+        let list = self.work.apply(changes)?;
+        self.kept = revision;
+        self.behind = Some(list);
+        Ok(())
+    }
+
+    /// Goes on by these changes. Room is taken for the changes that are kept before the work is taken on, and where there is
+    /// none for joining the new ones to them, they stay behind.
+    fn go_by(&mut self, alloc: Global, changes: &Changes, revision: u64) -> Result<(), Memory>
+        requires may { MayApply self.old.work (arc_value changes.now.filters) changes.now.sets changes.now.moves }
+        ensures joined { OnOk result (self.new.behind ≡ None) }
+        ensures went { OnOk result (GoesOn (arc_value changes.now.filters) changes.now.sets revision self.old self.new) }
+        ensures leads { OnErr result (Stays self.old self.new ⊎ GoesOn (arc_value changes.now.filters) changes.now.sets revision self.old self.new) }
+    {
+        self.join(alloc)?;
+        self.take_on(changes, revision)?;
+        self.join(alloc)
+    }
+
+    /// Goes on to what was taken of the same endpoint later, by rows that say the same, and gives what was taken back, also
+    /// after the one error, which is want of memory.
+    fn go_by_rows(&mut self, alloc: Global, taken: Taken, rows: Sets) -> (Taken, Result<(), Memory>)
+        requires rows { map told rows ≡ map told taken.sets }
+        requires may { MayApply self.old.work (arc_value taken.filters) taken.sets taken.moves }
+        ensures same { result.0 ≡ taken }
+        ensures kept { OnOk result.1 (self.new.kept ≡ taken.revision) }
+        ensures joined { OnOk result.1 (self.new.behind ≡ None) }
+        ensures leads { Stays self.old self.new ⊎ GoesOn (arc_value taken.filters) taken.sets taken.revision self.old self.new }
+    {
+        let Taken {
+            revision,
+            endpoint,
+            filters,
+            sets,
+            moves,
+            addresses,
+        } = taken;
+        let changes = Changes {
+            filters,
+            sets: rows,
+            moves,
+        };
+        let went = self.go_by(alloc, &changes, revision);
+        let Changes { filters, moves, .. } = changes;
+        let taken = Taken {
+            revision,
+            endpoint,
+            filters,
+            sets,
+            moves,
+            addresses,
+        };
+        (taken, went)
+    }
+
+    /// Goes on to what was taken of the same endpoint later, and gives that back, also after the one error, which is want of
+    /// memory. Where it is of the revision that is kept, nothing is made. After the error the work is as before, or has gone
+    /// on, and what is kept leads to its map all the same.
+    pub fn try_go_on(&mut self, alloc: Global, taken: Taken) -> (Taken, Result<(), Memory>)
+        requires may { self.old.kept ≢ taken.revision → MayApply self.old.work (arc_value taken.filters) taken.sets taken.moves }
+        ensures same { result.0 ≡ taken }
+        ensures kept { OnOk result.1 (self.new.kept ≡ taken.revision) }
+        ensures joined { OnOk result.1 (self.new.behind ≡ None) }
+        ensures leads { Stays self.old self.new ⊎ GoesOn (arc_value taken.filters) taken.sets taken.revision self.old self.new }
+    {
+        if self.kept == taken.revision {
+            let joined = self.join(alloc);
+            return (taken, joined);
+        }
+        let copied = rows_copy(alloc, taken.sets.as_slice());
+        match copied {
+            Ok(rows) => self.go_by_rows(alloc, taken, rows),
+            Err(error) => (taken, Err(error)),
+        }
+    }
+
+    /// Goes on to what was taken of the same endpoint later, and gives that back. The one error is want of memory: then the
+    /// work is as before, or has gone on, and what is kept leads to its map all the same.
+    pub fn go_on(&mut self, alloc: Global, taken: Taken) -> Result<Taken, Memory>
+        requires may { MayApply self.old.work (arc_value taken.filters) taken.sets taken.moves }
+        ensures same { IfOk result (λ again. again ≡ taken) }
+        ensures kept { OnOk result (self.new.kept ≡ taken.revision) }
+        ensures joined { OnOk result (self.new.behind ≡ None) }
+        ensures leads { Stays self.old self.new ⊎ GoesOn (arc_value taken.filters) taken.sets taken.revision self.old self.new }
+    {
+        let (taken, went) = self.try_go_on(alloc, taken);
+        match went {
+            Ok(()) => Ok(taken),
+            Err(_) => Err(Memory),
+        }
+    }
+
+    /// The map was published: no change leads on from it. It takes no memory.
+    pub fn published(&mut self, alloc: Global)
+        ensures shown { IsShown self.old self.new }
+    {
+        self.shown = Some(self.kept);
+        self.pending = ChangeList::from_vec(Vec::new(alloc));
+        self.behind = None;
+    }
+}

@@ -1,5 +1,0 @@
-use Rattle.pol_tally.proofs.NoDenies.{none_in}
-use Rattle.pol_tally.proofs.reading.denies_nothing.Goals as goal
-
-pub returns : goal.returns
-returns c = λ is q. none_in c.args.tally.now.denies (c.is_empty.ensures.0 is) q

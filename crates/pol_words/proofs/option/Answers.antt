@@ -1,6 +1,0 @@
-use Rattle.std.proofs.Common.{◌∙◌, ap, Some}
-use Rattle.clap.specs.Words.{Rule, rule_of}
-use Rattle.pol_words.proofs.option.Goals as goal
-
-pub returns-clause-rule : goal.returns-clause-rule
-returns-clause-rule c = ap rule_of c.long.ensures ∙ ap (λ (rule : Rule). record rule { long = Some c.args.name.now }) c.new.ensures.rule
