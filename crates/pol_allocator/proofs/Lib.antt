@@ -2,5 +2,5 @@ pub mod Apart
 pub mod Coming
 pub mod Going
 pub mod Moving
-pub mod Readying
+pub mod Preparing
 pub mod Sharing

@@ -1,4 +1,4 @@
--- What a contract sees of `Numbers`, and what its calls ready and do.
+-- What a contract sees of `Numbers`, and what its calls prepare and do.
 use Rattle.std.specs.Prelude.{ℕ, ◌≡◌, ◌<◌, ◌⊎◌, true, List, []}
 use Rattle.pol_rule.specs.declared.policy.Peer.{Peer}
 use Rattle.pol_peers.specs.References.{IsMoreBy}
@@ -32,7 +32,7 @@ abbrev pub with_log_room : ℕ → Held → Held
 with_log_room spare held = record held { cache = with_room spare held.cache }
 
 -- The plan is of this revision, there is room for it, and once it is carried out the sets are exact over these rows.
-pub record Readies (revision : ℕ) (rows : List IdentityRow) (cache : Cache) (plan : Plan) : Type 0 where
+pub record Prepares (revision : ℕ) (rows : List IdentityRow) (cache : Cache) (plan : Plan) : Type 0 where
   pub revision_is : plan.revision ≡ revision
   pub fits : IsPlanFor plan cache
   pub exact : AreExact rows (changed plan.changes cache.live)
@@ -42,7 +42,7 @@ pub record HoldsLabels (revision : ℕ) (labels : List Label) (old new : Held) (
   pub number_is : number ≡ number_for labels old.rows
   pub rows : new.rows ≡ labels_held labels old.rows
   pub sets : new.cache ≡ with_room new.cache.log.spare old.cache
-  pub plan_is : Readies revision new.rows new.cache plan
+  pub plan_is : Prepares revision new.rows new.cache plan
 
 -- no number comes with the one kind of prefixes that goes with the other
 abbrev pub AreApart : List Prefix → List Prefix → List IdentityRow → Type 0

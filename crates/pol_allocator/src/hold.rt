@@ -3,7 +3,7 @@ ghost use Rattle.std.specs.Prelude.{◌≡◌, ◌+◌, ◌≤◌, ◌&&◌, ◌
 ghost use Rattle.pol_model.specs.Fault.{has_reserved, is_exhausted, is_init};
 ghost use Rattle.pol_selcache.specs.Cache.{MayPlan};
 ghost use Rattle.pol_selcache.specs.Live.{label_selectors};
-ghost use Rattle.pol_allocator.specs.Held.{HoldsLabels, IsSettled, Readies, with_log_room};
+ghost use Rattle.pol_allocator.specs.Held.{HoldsLabels, IsSettled, Prepares, with_log_room};
 
 use crate::Numbers;
 use pol_data::{Memory, Steps};
@@ -31,7 +31,7 @@ impl Numbers {
         steps: &mut Steps<L>,
     ) -> Result<Plan, Memory>
         requires may { MayPlan revision (if is_new then number ∷ [] else []) [] self.old.rows self.old.cache }
-        ensures plan { IfOk result (λ plan. Readies revision self.old.rows self.new.cache plan) }
+        ensures plan { IfOk result (λ plan. Prepares revision self.old.rows self.new.cache plan) }
         ensures same { self.new ≡ with_log_room self.new.cache.log.spare self.old }
         ensures err { OnErr result (self.new ≡ self.old) }
         ensures cost { steps.new ≤ steps.old + label_selectors self.old.cache.live }

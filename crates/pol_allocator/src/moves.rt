@@ -11,7 +11,7 @@ ghost use Rattle.pol_model_laws.specs.Keeps.{KeepsRows};
 ghost use Rattle.pol_change_log.specs.Log.{newest};
 ghost use Rattle.pol_selcache.specs.Live.{AreExact, rows_without};
 ghost use Rattle.pol_prefixes.specs.Beyond.{AreBeyond};
-ghost use Rattle.pol_allocator.specs.Held.{Readies, with_log_room};
+ghost use Rattle.pol_allocator.specs.Held.{Prepares, with_log_room};
 
 use crate::Numbers;
 use crate::shared::{once_held, once_planned, once_released};
@@ -68,7 +68,7 @@ impl Numbers {
 
     /// Makes the table that is handed out anew where it isn't there, or where a release would lose it. Without memory there
     /// is none.
-    fn ready_shared(&mut self, numbers_go: bool)
+    fn prepare_shared(&mut self, numbers_go: bool)
         ensures same { self.new ≡ self.old }
     {
         let shared = self.shared.take();
@@ -88,13 +88,13 @@ impl Numbers {
         requires held { AllByRecursion (λ number. has_row number self.old.rows ≡ true) come.now }
         requires stay { AllByRecursion (λ number. has_row number (prefixes_released given_up.now self.old.rows) ≡ true) come.now }
         requires exact { AreExact (rows_without come.now self.old.rows) self.old.cache.live }
-        ensures plan { IfOk result (λ plan. Readies revision (prefixes_released given_up.now self.old.rows) self.new.cache plan) }
+        ensures plan { IfOk result (λ plan. Prepares revision (prefixes_released given_up.now self.old.rows) self.new.cache plan) }
         ensures same { self.new ≡ with_log_room self.new.cache.log.spare self.old }
         ensures err { OnErr result (self.new ≡ self.old) }
     {
         let gone = self.gone(given_up)?;
         let plan = self.plan(revision, come, gone.as_slice(), steps)?;
-        self.ready_shared(!gone.is_empty());
+        self.prepare_shared(!gone.is_empty());
         Ok(plan)
     }
 }

@@ -2,7 +2,7 @@
 ghost use Rattle.std.specs.Prelude.{◌≡◌, ◌+◌, ◌≤◌, ◌*◌, IfOk, OnErr, length};
 ghost use Rattle.pol_selcache.specs.Cache.{MayPlan};
 ghost use Rattle.pol_selcache.specs.Live.{label_selectors, rows_without};
-ghost use Rattle.pol_allocator.specs.Held.{IsSettled, Readies, with_log_room};
+ghost use Rattle.pol_allocator.specs.Held.{IsSettled, Prepares, with_log_room};
 
 use crate::Numbers;
 use pol_data::{Memory, Steps};
@@ -20,7 +20,7 @@ impl Numbers {
         steps: &mut Steps<L>,
     ) -> Result<Plan, Memory>
         requires may { MayPlan revision come.now gone.now self.old.rows self.old.cache }
-        ensures plan { IfOk result (λ plan. Readies revision (rows_without gone.now self.old.rows) self.new.cache plan) }
+        ensures plan { IfOk result (λ plan. Prepares revision (rows_without gone.now self.old.rows) self.new.cache plan) }
         ensures same { self.new ≡ with_log_room self.new.cache.log.spare self.old }
         ensures err { OnErr result (self.new ≡ self.old) }
         ensures cost { steps.new ≤ steps.old + label_selectors self.old.cache.live * length come.now }
@@ -38,7 +38,7 @@ impl Numbers {
         steps: &mut Steps<L>,
     ) -> Result<Plan, Memory>
         requires settled { IsSettled revision self.old }
-        ensures plan { IfOk result (λ plan. Readies revision self.old.rows self.new.cache plan) }
+        ensures plan { IfOk result (λ plan. Prepares revision self.old.rows self.new.cache plan) }
         ensures same { self.new ≡ with_log_room self.new.cache.log.spare self.old }
         ensures err { OnErr result (self.new ≡ self.old) }
         ensures cost { steps.new ≤ steps.old }

@@ -7,7 +7,7 @@ ghost use Rattle.pol_model.specs.declared.limits.TheConstants.{LOCAL_IDENTITIES 
 ghost use Rattle.pol_model.specs.Fault.{locals_held, locals_wanted};
 ghost use Rattle.pol_model.specs.Prefixes.{prefixes_held, prefixes_released};
 ghost use Rattle.pol_selcache.specs.Cache.{with_room};
-ghost use Rattle.pol_allocator.specs.Held.{AreApart, IsSettled, Readies, with_log_room};
+ghost use Rattle.pol_allocator.specs.Held.{AreApart, IsSettled, Prepares, with_log_room};
 
 use crate::Numbers;
 use pol_addr::Prefix;
@@ -33,7 +33,7 @@ impl Numbers {
         requires once { IsDistinct same_prefix given_up.now }
         requires apart { AreApart taken.now given_up.now self.old.rows }
         ensures rows { OnOk result (self.new.rows ≡ prefixes_held taken.now self.old.rows) }
-        ensures plan { IfOk result (λ plan. Readies revision (prefixes_released given_up.now (prefixes_held taken.now self.old.rows)) self.new.cache plan) }
+        ensures plan { IfOk result (λ plan. Prepares revision (prefixes_released given_up.now (prefixes_held taken.now self.old.rows)) self.new.cache plan) }
         ensures within { OnOk result (AllByRecursion IsPrefix taken.now) }
         ensures sets { self.new.cache ≡ with_room self.new.cache.log.spare self.old.cache }
         ensures err { OnErr result (self.new ≡ self.old) }
@@ -59,7 +59,7 @@ impl Numbers {
     ) -> Result<Plan, Memory>
         requires settled { IsSettled revision self.old }
         requires once { IsDistinct same_prefix given_up.now }
-        ensures plan { IfOk result (λ plan. Readies revision (prefixes_released given_up.now self.old.rows) self.new.cache plan) }
+        ensures plan { IfOk result (λ plan. Prepares revision (prefixes_released given_up.now self.old.rows) self.new.cache plan) }
         ensures same { self.new ≡ with_log_room self.new.cache.log.spare self.old }
         ensures err { OnErr result (self.new ≡ self.old) }
     {

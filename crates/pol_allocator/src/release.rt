@@ -4,7 +4,7 @@ ghost use Rattle.pol_model.specs.declared.limits.TheConstants.{RESERVED_LAST as 
 ghost use Rattle.pol_model.specs.Identities.{is_local, released};
 ghost use Rattle.pol_model_laws.specs.Holding.{has_row};
 ghost use Rattle.pol_model_laws.specs.Keeps.{KeepsRows};
-ghost use Rattle.pol_allocator.specs.Held.{IsSettled, Readies, with_log_room};
+ghost use Rattle.pol_allocator.specs.Held.{IsSettled, Prepares, with_log_room};
 
 use crate::Numbers;
 use pol_data::{Memory, Steps};
@@ -42,7 +42,7 @@ impl Numbers {
     ) -> Result<Plan, Memory>
         requires held { has_row number self.old.rows ≡ true }
         requires settled { IsSettled revision self.old }
-        ensures plan { IfOk result (λ plan. Readies revision (released number self.old.rows) self.new.cache plan) }
+        ensures plan { IfOk result (λ plan. Prepares revision (released number self.old.rows) self.new.cache plan) }
         ensures same { self.new ≡ with_log_room self.new.cache.log.spare self.old }
         ensures err { OnErr result (self.new ≡ self.old) }
         ensures cost { steps.new ≤ steps.old }

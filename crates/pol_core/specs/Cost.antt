@@ -4,7 +4,7 @@ use Rattle.pol_history.specs.declared.machine.Event.{Event}
 use Rattle.pol_history.specs.declared.machine.Event.TheVariants as step
 use Rattle.pol_model.specs.State.{State}
 use Rattle.pol_repo.specs.Cost.{label_peers}
-use Rattle.pol_requests.specs.Readied.{is_of_policy}
+use Rattle.pol_requests.specs.Prepared.{is_of_policy}
 
 -- A commit of no policy costs a match for each distinct label peer of the policies, a look-up 36 nodes, and takes and finishes
 -- cost none. Of a policy's commit nothing is said.

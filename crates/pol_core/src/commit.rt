@@ -4,7 +4,7 @@ ghost use Rattle.pol_model.specs.After.{after};
 ghost use Rattle.pol_model.specs.Committed.{committed_of};
 ghost use Rattle.pol_model.specs.Fault.{fault_of};
 ghost use Rattle.pol_model.specs.Sizes.{IsShort};
-ghost use Rattle.pol_requests.specs.Readied.{is_of_policy};
+ghost use Rattle.pol_requests.specs.Prepared.{is_of_policy};
 ghost use Rattle.pol_repo.specs.Cost.{label_peers};
 ghost use Rattle.pol_repo.specs.Repository.{state_in};
 ghost use Rattle.pol_core.specs.Parts.{Commits};

@@ -6,7 +6,7 @@ ghost use Rattle.pol_history.specs.Machine.{Machine as OneMachine, machine_from,
 ghost use Rattle.pol_model.specs.Sizes.{IsShort};
 ghost use Rattle.pol_repo.specs.Cost.{label_peers};
 ghost use Rattle.pol_repo.specs.Repository.{state_in};
-ghost use Rattle.pol_requests.specs.Readied.{is_of_policy};
+ghost use Rattle.pol_requests.specs.Prepared.{is_of_policy};
 ghost use Rattle.pol_core.specs.Cost.{Costs};
 ghost use Rattle.pol_core.specs.Serial.{LedTo, ListsRows, turn_of, turns_at, turns_in};
 ghost use Rattle.pol_core.specs.Stands.{IsGiven, Stands, StepsTo, options_in};

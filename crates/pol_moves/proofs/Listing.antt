@@ -21,7 +21,7 @@ use Rattle.pol_peers.specs.References.{RefsOf, references_of}
 use Rattle.pol_peers.proofs.Found.{found_of, is_of, refs}
 use Rattle.pol_selcache.specs.Live.{AreExact, AreLive, Live, number_of}
 use Rattle.pol_selcache.specs.Plan.{Planned, after_changes, changed}
-use Rattle.pol_requests.specs.Readied.{peers_with}
+use Rattle.pol_requests.specs.Prepared.{peers_with}
 use Rattle.pol_store.specs.Store.{peers_of}
 
 -- ---- references and selectors
@@ -77,7 +77,7 @@ numbers_stay changes p (s ∷ live) =
       | false ↦ numbers_stay changes p live
     ]
 
--- ---- who has references while a request is readied is listed before or after it
+-- ---- who has references while a request is prepared is listed before or after it
 applied_lists : (new : Stamped) (policies : List Stamped) (x : Peer) → In x (listed_peers new.policy) → In x (peers_of (applied new policies))
 applied_lists new [] x there = In-left x (listed_peers new.policy) [] there
 applied_lists new (old ∷ others) x there =

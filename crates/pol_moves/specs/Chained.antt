@@ -12,8 +12,8 @@ use Rattle.pol_selcache.specs.Cache.{Cache, IsSound, carried}
 use Rattle.pol_selcache.specs.Live.{Live, number_of}
 use Rattle.pol_selcache.specs.Told.{WasAt}
 use Rattle.pol_peers.specs.Numbering.{GainsSelectors, LosesSelectors}
-use Rattle.pol_requests.specs.declared.readied.Readied.{Readied}
-use Rattle.pol_requests.specs.Readied.{IsReadied}
+use Rattle.pol_requests.specs.declared.prepared.Prepared.{Prepared}
+use Rattle.pol_requests.specs.Prepared.{IsPrepared}
 use Rattle.pol_store.specs.Store.{StandsFor, Stored}
 use Rattle.pol_moves.specs.Changes.{IsListedSince, revisions_until, set_in, state_at}
 
@@ -36,14 +36,14 @@ pub record IsChained (options : Options) (journal : List Request) (nexts : List 
   pub kept : KeepsLast cache.log all
   pub revisions : map (λ change. change.revision) all ≡ revisions_until options journal (length journal)
 
--- The request was readied in a store of these selectors, and then done.
+-- The request was prepared in a store of these selectors, and then done.
 pub record LeadsOn (s : State) (request : Request) (old : Cache) (new : Stored) : Type 0 where
   pub mid : Stored
-  pub readied : Readied
+  pub prepared : Prepared
   pub gains : GainsSelectors old mid.cache
   pub sound : IsSound mid.cache
-  pub is_readied : IsReadied s request mid readied
-  pub loses : LosesSelectors (carried readied.plan mid.cache) new.cache
+  pub is_prepared : IsPrepared s request mid prepared
+  pub loses : LosesSelectors (carried prepared.plan mid.cache) new.cache
   pub stands : StandsFor (after s request) new
   pub new_sound : IsSound new.cache
 

@@ -16,7 +16,7 @@ ghost use Rattle.pol_model.specs.Committed.{slots_of};
 ghost use Rattle.pol_model.specs.PolicyMap.{policy_map};
 ghost use Rattle.pol_model.specs.Sizes.{IsShort};
 ghost use Rattle.pol_repo.specs.Cost.{label_peers};
-ghost use Rattle.pol_requests.specs.Readied.{is_of_policy};
+ghost use Rattle.pol_requests.specs.Prepared.{is_of_policy};
 ghost use Rattle.pol_taken.specs.OfState.{IsTakenOf};
 ghost use Rattle.pol_node.specs.Desk.{IsAt, IsCauseOf, IsNotTraced};
 ghost use Rattle.pol_node.specs.Finish.{Finishes, TellsPublished};

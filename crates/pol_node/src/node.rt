@@ -6,7 +6,7 @@ ghost use Rattle.std.specs.List.{AllByRecursion};
 ghost use Rattle.pol_model.specs.Committed.{slots_of};
 ghost use Rattle.pol_model.specs.Sizes.{IsShort};
 ghost use Rattle.pol_repo.specs.Cost.{label_peers};
-ghost use Rattle.pol_requests.specs.Readied.{is_of_policy};
+ghost use Rattle.pol_requests.specs.Prepared.{is_of_policy};
 ghost use Rattle.pol_history.specs.Calls.{IsAccepted, IsSynced, IsTraced};
 ghost use Rattle.pol_history.specs.Commits.{revision_of, state_now};
 ghost use Rattle.pol_history.specs.Grows.{PassGrows, PassGrowsWhole, PassState, nothing_yet};

@@ -29,19 +29,19 @@ use Rattle.pol_model_laws.proofs.KeepsAll.{state_keeps}
 use Rattle.pol_model_laws.proofs.Lives.{after_append}
 use Rattle.pol_model_laws.proofs.Membership.{found-some}
 use Rattle.pol_model_laws.proofs.StateLaws.{commits-more}
-use Rattle.pol_requests.specs.declared.readied.Readied.{Readied}
-use Rattle.pol_requests.specs.declared.error.ReadyError.{ReadyError}
-use Rattle.pol_requests.specs.declared.error.ReadyError.TheVariants.{Fault as WithFault}
-use Rattle.pol_requests.specs.Readied.{CanBeDone, IsCause as ReadyCause, IsReadied, ReadiesOrNot, TakesBack, change_for}
+use Rattle.pol_requests.specs.declared.prepared.Prepared.{Prepared}
+use Rattle.pol_requests.specs.declared.error.PrepareError.{PrepareError}
+use Rattle.pol_requests.specs.declared.error.PrepareError.TheVariants.{Fault as WithFault}
+use Rattle.pol_requests.specs.Prepared.{CanBeDone, IsCause as PrepareCause, IsPrepared, PreparesOrNot, TakesBack, change_for}
 use Rattle.pol_store.specs.Store.{StandsFor, StandsForSome, Stored}
 use Rattle.pol_selcache.specs.Live.{AreLive, label_selectors}
 use Rattle.pol_repo.specs.Causes.{IsCause}
 use Rattle.pol_repo.specs.Cost.{label_peers}
-use Rattle.pol_repo.specs.Inside.{IsPrepared, IsSound, labels_of, request_of, seen_as}
+use Rattle.pol_repo.specs.Inside.{HasPrepared, IsSound, labels_of, request_of, seen_as}
 use Rattle.pol_repo.specs.Repository.{Repository, state_in}
 use Rattle.pol_repo.proofs.LabelPeers.{selectors_are_peers}
 
--- ---- the request that is readied is told by its change and the rows
+-- ---- the request that is prepared is told by its change and the rows
 labels_told : (labels : List Label) (rows : List IdentityRow) → RowsAscend rows → labels_of (number_for labels rows) (labels_held labels rows) ≡ labels
 labels_told labels rows ascend =
     let found = found-some (λ row. row.number == number_for labels rows) (labels_held labels rows) (held_has (λ row. not (is_local row.number) && same_labels row.labels labels) (record { number = free_number CLUSTER_FIRST rows; labels = labels; prefix = None; holders = 1 }) rows) in
@@ -58,28 +58,28 @@ module _ (s : State) (keeps : Keeps s) where
   request_told (Remove key) = refl
   request_told (SetMode mode) = refl
 
-  pub request_is : (request : Request) (stored : Stored) (readied : Readied) → IsReadied s request stored readied → request_of stored.state.identities readied.change ≡ request
-  request_is request stored readied is =
-      ap (λ (rows : List IdentityRow). request_of rows readied.change) is.like.identities
+  pub request_is : (request : Request) (stored : Stored) (prepared : Prepared) → IsPrepared s request stored prepared → request_of stored.state.identities prepared.change ≡ request
+  request_is request stored prepared is =
+      ap (λ (rows : List IdentityRow). request_of rows prepared.change) is.like.identities
       ∙ ap (λ change. request_of (rows_taken s request) change) is.change
       ∙ request_told request
 
 -- ---- what the parts are seen as
-no_readied : {X Y : Type 0} (f : X → Y) (o : Option X) → option_map f o ≡ None → o ≡ None
-no_readied f None none = refl
-no_readied f (Some x) none = absurd cc
+no_prepared : {X Y : Type 0} (f : X → Y) (o : Option X) → option_map f o ≡ None → o ≡ None
+no_prepared f None none = refl
+no_prepared f (Some x) none = absurd cc
 
-some_readied : {X Y : Type 0} (f : X → Y) (o : Option X) (y : Y) → option_map f o ≡ Some y → (x : X) × (o ≡ Some x) × (f x ≡ y)
-some_readied f None y some = absurd cc
-some_readied f (Some x) y some = (x, refl, cc)
+some_prepared : {X Y : Type 0} (f : X → Y) (o : Option X) (y : Y) → option_map f o ≡ Some y → (x : X) × (o ≡ Some x) × (f x ≡ y)
+some_prepared f None y some = absurd cc
+some_prepared f (Some x) y some = (x, refl, cc)
 
 module _ (options : Options) (journal : List Request) (len capacity : ℕ) (stored : Stored) where
-  revision_of : (readied : Option Readied) → IsSound options journal len capacity stored readied → stored.state.revision ≡ (state_of options journal).revision
+  revision_of : (prepared : Option Prepared) → IsSound options journal len capacity stored prepared → stored.state.revision ≡ (state_of options journal).revision
   revision_of None sound = sound.inside.like.revision
-  revision_of (Some readied) sound = sound.inside.is_readied.like.revision
+  revision_of (Some prepared) sound = sound.inside.is_prepared.like.revision
 
-module _ (options : Options) (journal : List Request) (len capacity : ℕ) (stored : Stored) (readied : Option Readied) (self : Repository)
-    (seen : seen_as options journal stored readied ≡ self) (sound : IsSound options journal len capacity stored readied) where
+module _ (options : Options) (journal : List Request) (len capacity : ℕ) (stored : Stored) (prepared : Option Prepared) (self : Repository)
+    (seen : seen_as options journal stored prepared ≡ self) (sound : IsSound options journal len capacity stored prepared) where
   present : state_of options journal ≡ state_in self
   present = ap state_in seen
 
@@ -88,18 +88,18 @@ module _ (options : Options) (journal : List Request) (len capacity : ℕ) (stor
 
   -- the journal has one request for each revision
   pub counts : stored.state.revision ≡ length journal
-  counts = revision_of options journal len capacity stored readied sound ∙ state_of-revision options journal
+  counts = revision_of options journal len capacity stored prepared sound ∙ state_of-revision options journal
 
   pub revision_is : stored.state.revision ≡ (state_in self).revision
-  revision_is = revision_of options journal len capacity stored readied sound ∙ ap (λ (s : State). s.revision) present
+  revision_is = revision_of options journal len capacity stored prepared sound ∙ ap (λ (s : State). s.revision) present
 
-  -- with nothing readied the store stands for the present state
+  -- with nothing prepared the store stands for the present state
   module _ (idle : self.prepared ≡ None) where
-    pub none_readied : readied ≡ None
-    none_readied = no_readied _ readied (ap (λ (r : Repository). r.prepared) seen ∙ idle)
+    pub none_prepared : prepared ≡ None
+    none_prepared = no_prepared _ prepared (ap (λ (r : Repository). r.prepared) seen ∙ idle)
 
     pub stands_now : StandsFor (state_of options journal) stored
-    stands_now = let idly : IsSound options journal len capacity stored None = subst (λ (o : Option Readied). IsSound options journal len capacity stored o) none_readied sound in idly.inside
+    stands_now = let idly : IsSound options journal len capacity stored None = subst (λ (o : Option Prepared). IsSound options journal len capacity stored o) none_prepared sound in idly.inside
 
     pub stands : StandsFor (state_in self) stored
     stands = subst (λ (s : State). StandsFor s stored) present stands_now
@@ -109,52 +109,52 @@ module _ (options : Options) (journal : List Request) (len capacity : ℕ) (stor
 
     -- ---- a request is prepared
     module _ (request : Request) (journal' : List Request) (stored' : Stored) (same : journal' ≡ journal) where
-      pub ready_ok : (readied' : Readied) → ReadiesOrNot request stored stored' (Ok readied') → IsReadied (state_of options journal) request stored' readied'
-      ready_ok readied' readies = (readies (state_of options journal) keeps_now stands_now).0
+      pub ready_ok : (prepared' : Prepared) → PreparesOrNot request stored stored' (Ok prepared') → IsPrepared (state_of options journal) request stored' prepared'
+      ready_ok prepared' prepares = (prepares (state_of options journal) keeps_now stands_now).0
 
-      pub prepared : (readied' : Readied) (len' capacity' : ℕ) → stored.state.revision < 2 ^ 64 - 1 → len' < capacity' → ReadiesOrNot request stored stored' (Ok readied')
-          → IsSound options journal' len' capacity' stored' (Some readied')
-      prepared readied' len' capacity' not_last room readies =
-          subst (λ (requests : List Request). IsSound options requests len' capacity' stored' (Some readied')) (sym same)
-          (record { without_faults = sound.without_faults; inside = record { request = request; is_readied = ready_ok readied' readies; not_last = subst (λ (n : ℕ). n < 2 ^ 64 - 1) (revision_of options journal len capacity stored readied sound) not_last; room = room } })
+      pub prepared_sound : (prepared' : Prepared) (len' capacity' : ℕ) → stored.state.revision < 2 ^ 64 - 1 → len' < capacity' → PreparesOrNot request stored stored' (Ok prepared')
+          → IsSound options journal' len' capacity' stored' (Some prepared')
+      prepared_sound prepared' len' capacity' not_last room prepares =
+          subst (λ (requests : List Request). IsSound options requests len' capacity' stored' (Some prepared')) (sym same)
+          (record { without_faults = sound.without_faults; inside = record { request = request; is_prepared = ready_ok prepared' prepares; not_last = subst (λ (n : ℕ). n < 2 ^ 64 - 1) (revision_of options journal len capacity stored prepared sound) not_last; room = room } })
 
-      pub prepared_seen : (readied' : Readied) → ReadiesOrNot request stored stored' (Ok readied')
-          → seen_as options journal' stored' (Some readied') ≡ record self { prepared = Some request }
-      prepared_seen readied' readies =
-          let is = request_is (state_of options journal) keeps_now request stored' readied' (ready_ok readied' readies) in
+      pub prepared_seen : (prepared' : Prepared) → PreparesOrNot request stored stored' (Ok prepared')
+          → seen_as options journal' stored' (Some prepared') ≡ record self { prepared = Some request }
+      prepared_seen prepared' prepares =
+          let is = request_is (state_of options journal) keeps_now request stored' prepared' (ready_ok prepared' prepares) in
           let with : Repository → Repository = λ r. record r { prepared = Some request } in
           (λ i. record { options = options; journal = same i; prepared = Some (is i) }) ∙ ap with seen
 
-      pub prepared_no_fault : (readied' : Readied) → ReadiesOrNot request stored stored' (Ok readied') → fault_of (state_in self) request ≡ None
-      prepared_no_fault readied' readies = subst (λ (s : State). fault_of s request ≡ None) present (ready_ok readied' readies).may.no_fault
+      pub prepared_no_fault : (prepared' : Prepared) → PreparesOrNot request stored stored' (Ok prepared') → fault_of (state_in self) request ≡ None
+      prepared_no_fault prepared' prepares = subst (λ (s : State). fault_of s request ≡ None) present (ready_ok prepared' prepares).may.no_fault
 
-      pub prepared_done : (readied' : Readied) (done : Committed) → ReadiesOrNot request stored stored' (Ok readied')
-          → ((s : State) (request : Request) → Keeps s → IsReadied s request stored' readied' → done ≡ committed_of (after s request) request)
+      pub prepared_done : (prepared' : Prepared) (done : Committed) → PreparesOrNot request stored stored' (Ok prepared')
+          → ((s : State) (request : Request) → Keeps s → IsPrepared s request stored' prepared' → done ≡ committed_of (after s request) request)
           → done ≡ committed_of (after (state_in self) request) request
-      prepared_done readied' done readies answer =
-          subst (λ (s : State). done ≡ committed_of (after s request) request) present (answer (state_of options journal) request keeps_now (ready_ok readied' readies))
+      prepared_done prepared' done prepares answer =
+          subst (λ (s : State). done ≡ committed_of (after s request) request) present (answer (state_of options journal) request keeps_now (ready_ok prepared' prepares))
 
       -- it isn't, and all is as before
-      pub refused : (error : ReadyError) (len' capacity' : ℕ) → ReadiesOrNot request stored stored' (Err error) → IsSound options journal' len' capacity' stored' readied
-      refused error len' capacity' readies =
-          subst (λ (requests : List Request). IsSound options requests len' capacity' stored' readied) (sym same)
-          (subst (λ (o : Option Readied). IsSound options journal len' capacity' stored' o) (sym none_readied)
-          (record { without_faults = sound.without_faults; inside = (readies (state_of options journal) keeps_now stands_now).1 }))
+      pub refused : (error : PrepareError) (len' capacity' : ℕ) → PreparesOrNot request stored stored' (Err error) → IsSound options journal' len' capacity' stored' prepared
+      refused error len' capacity' prepares =
+          subst (λ (requests : List Request). IsSound options requests len' capacity' stored' prepared) (sym same)
+          (subst (λ (o : Option Prepared). IsSound options journal len' capacity' stored' o) (sym none_prepared)
+          (record { without_faults = sound.without_faults; inside = (prepares (state_of options journal) keeps_now stands_now).1 }))
 
-      pub refused_seen : seen_as options journal' stored' readied ≡ self
-      refused_seen = subst (λ (o : Option Readied). seen_as options journal stored o ≡ self → seen_as options journal' stored' o ≡ self) (sym none_readied)
+      pub refused_seen : seen_as options journal' stored' prepared ≡ self
+      refused_seen = subst (λ (o : Option Prepared). seen_as options journal stored o ≡ self → seen_as options journal' stored' o ≡ self) (sym none_prepared)
           (λ was. (λ i. record { options = options; journal = same i; prepared = None }) ∙ was) seen
 
-      pub prepared_rises : (readied' : Readied) → stored.state.revision < 2 ^ 64 - 1 → ReadiesOrNot request stored stored' (Ok readied') → stored'.state.revision < 2 ^ 64 - 1
-      prepared_rises readied' not_last readies =
-          subst (λ (n : ℕ). n < 2 ^ 64 - 1) (revision_of options journal len capacity stored readied sound ∙ sym (ready_ok readied' readies).like.revision) not_last
+      pub prepared_rises : (prepared' : Prepared) → stored.state.revision < 2 ^ 64 - 1 → PreparesOrNot request stored stored' (Ok prepared') → stored'.state.revision < 2 ^ 64 - 1
+      prepared_rises prepared' not_last prepares =
+          subst (λ (n : ℕ). n < 2 ^ 64 - 1) (revision_of options journal len capacity stored prepared sound ∙ sym (ready_ok prepared' prepares).like.revision) not_last
 
-      pub refused_cause : (error : ReadyError) (fault : Fault) (refusal : CommitError) → error ≡ WithFault fault → refusal ≡ Refused (record { revision = stored'.state.revision; fault = fault })
-          → ReadiesOrNot request stored stored' (Err error) → IsCause (state_in self) request refusal
-      refused_cause error fault refusal is told readies =
-          let given = readies (state_of options journal) keeps_now stands_now in
+      pub refused_cause : (error : PrepareError) (fault : Fault) (refusal : CommitError) → error ≡ WithFault fault → refusal ≡ Refused (record { revision = stored'.state.revision; fault = fault })
+          → PreparesOrNot request stored stored' (Err error) → IsCause (state_in self) request refusal
+      refused_cause error fault refusal is told prepares =
+          let given = prepares (state_of options journal) keeps_now stands_now in
           let at : stored'.state.revision ≡ (state_in self).revision = given.1.like.revision ∙ ap (λ (s : State). s.revision) present in
-          let cause : ReadyCause (state_in self) request (WithFault fault) = subst (λ (e : ReadyError). ReadyCause (state_in self) request e) is (subst (λ (s : State). ReadyCause s request error) present given.2) in
+          let cause : PrepareCause (state_in self) request (WithFault fault) = subst (λ (e : PrepareError). PrepareCause (state_in self) request e) is (subst (λ (s : State). PrepareCause s request error) present given.2) in
           subst (λ (e : CommitError). IsCause (state_in self) request e) (sym told) (record { fault = cause; revision = at })
 
     -- ---- what it takes
@@ -163,60 +163,60 @@ module _ (options : Options) (journal : List Request) (len capacity : ℕ) (stor
 
   -- ---- the request that is prepared is done, or given up
   module _ (request : Request) (is_prepared : self.prepared ≡ Some request) where
-    given : (one : Readied) × (readied ≡ Some one) × (request_of stored.state.identities one.change ≡ request)
-    given = some_readied _ readied request (ap (λ (r : Repository). r.prepared) seen ∙ is_prepared)
+    given : (one : Prepared) × (prepared ≡ Some one) × (request_of stored.state.identities one.change ≡ request)
+    given = some_prepared _ prepared request (ap (λ (r : Repository). r.prepared) seen ∙ is_prepared)
 
-    pub there_is : IsSome readied
-    there_is = subst (λ (o : Option Readied). IsSome o) (sym given.1) refl
+    pub there_is : IsSome prepared
+    there_is = subst (λ (o : Option Prepared). IsSome o) (sym given.1) refl
 
-    module _ (one : Readied) (is : readied ≡ Some one) where
-      prepared_now : IsPrepared (state_of options journal) len capacity stored one
-      prepared_now = let now : IsSound options journal len capacity stored (Some one) = subst (λ (o : Option Readied). IsSound options journal len capacity stored o) is sound in now.inside
+    module _ (one : Prepared) (is : prepared ≡ Some one) where
+      has_prepared : HasPrepared (state_of options journal) len capacity stored one
+      has_prepared = let now : IsSound options journal len capacity stored (Some one) = subst (λ (o : Option Prepared). IsSound options journal len capacity stored o) is sound in now.inside
 
       pub can_be_done : CanBeDone stored one
-      can_be_done = record { state = state_of options journal; keeps = keeps_now; request = prepared_now.request; is_readied = prepared_now.is_readied }
+      can_be_done = record { state = state_of options journal; keeps = keeps_now; request = has_prepared.request; is_prepared = has_prepared.is_prepared }
 
       pub has_room : len < capacity
-      has_room = prepared_now.room
+      has_room = has_prepared.room
 
       pub may_rise : stored.state.revision < 2 ^ 64 - 1
-      may_rise = subst (λ (n : ℕ). n < 2 ^ 64 - 1) (sym prepared_now.is_readied.like.revision) prepared_now.not_last
+      may_rise = subst (λ (n : ℕ). n < 2 ^ 64 - 1) (sym has_prepared.is_prepared.like.revision) has_prepared.not_last
 
-      is_it : prepared_now.request ≡ request
+      is_it : has_prepared.request ≡ request
       is_it =
-          sym (request_is (state_of options journal) keeps_now prepared_now.request stored one prepared_now.is_readied)
-          ∙ some_of (subst (λ (o : Option Readied). option_map (λ r. request_of stored.state.identities r.change) o ≡ Some request) is (ap (λ (r : Repository). r.prepared) seen ∙ is_prepared))
+          sym (request_is (state_of options journal) keeps_now has_prepared.request stored one has_prepared.is_prepared)
+          ∙ some_of (subst (λ (o : Option Prepared). option_map (λ r. request_of stored.state.identities r.change) o ≡ Some request) is (ap (λ (r : Repository). r.prepared) seen ∙ is_prepared))
         where
           some_of : {X : Type 0} {x y : X} → Some x ≡ Some y → x ≡ y
           some_of e = cc
 
-      pub readied_now : IsReadied (state_of options journal) request stored one
-      readied_now = subst (λ (r : Request). IsReadied (state_of options journal) r stored one) is_it prepared_now.is_readied
+      pub prepared_now : IsPrepared (state_of options journal) request stored one
+      prepared_now = subst (λ (r : Request). IsPrepared (state_of options journal) r stored one) is_it has_prepared.is_prepared
 
-      pub accepted : (journal' : List Request) (stored' : Stored) (len' capacity' : ℕ) (left : Option Readied) → journal' ≡ journal ++ request ∷ [] → left ≡ None
-          → ((s : State) (r : Request) → Keeps s → IsReadied s r stored one → StandsFor (after s r) stored')
+      pub accepted : (journal' : List Request) (stored' : Stored) (len' capacity' : ℕ) (left : Option Prepared) → journal' ≡ journal ++ request ∷ [] → left ≡ None
+          → ((s : State) (r : Request) → Keeps s → IsPrepared s r stored one → StandsFor (after s r) stored')
           → IsSound options journal' len' capacity' stored' left
       accepted journal' stored' len' capacity' left longer none done =
-          subst (λ (o : Option Readied). IsSound options journal' len' capacity' stored' o) (sym none)
+          subst (λ (o : Option Prepared). IsSound options journal' len' capacity' stored' o) (sym none)
           (subst (λ (requests : List Request). IsSound options requests len' capacity' stored' None) (sym longer)
           (record {
-            without_faults = (commits-more options journal request).1 (sound.without_faults, readied_now.may);
-            inside = subst (λ (s : State). StandsFor s stored') (sym (after_append (start options) journal (request ∷ []))) (done (state_of options journal) request keeps_now readied_now);
+            without_faults = (commits-more options journal request).1 (sound.without_faults, prepared_now.may);
+            inside = subst (λ (s : State). StandsFor s stored') (sym (after_append (start options) journal (request ∷ []))) (done (state_of options journal) request keeps_now prepared_now);
           }))
 
-      pub accepted_seen : (journal' : List Request) (stored' : Stored) (left : Option Readied) → journal' ≡ journal ++ request ∷ [] → left ≡ None
+      pub accepted_seen : (journal' : List Request) (stored' : Stored) (left : Option Prepared) → journal' ≡ journal ++ request ∷ [] → left ≡ None
           → seen_as options journal' stored' left ≡ record self { journal = self.journal ++ request ∷ []; prepared = None }
       accepted_seen journal' stored' left longer none =
           let with : Repository → Repository = λ r. record r { journal = r.journal ++ request ∷ []; prepared = None } in
           (λ i. seen_as options (longer i) stored' (none i)) ∙ ap with seen
 
-      pub withdrawn : (stored' : Stored) (left : Option Readied) → left ≡ None → TakesBack stored one stored' → IsSound options journal len capacity stored' left
+      pub withdrawn : (stored' : Stored) (left : Option Prepared) → left ≡ None → TakesBack stored one stored' → IsSound options journal len capacity stored' left
       withdrawn stored' left none back =
-          subst (λ (o : Option Readied). IsSound options journal len capacity stored' o) (sym none)
-          (record { without_faults = sound.without_faults; inside = back (state_of options journal) request keeps_now readied_now })
+          subst (λ (o : Option Prepared). IsSound options journal len capacity stored' o) (sym none)
+          (record { without_faults = sound.without_faults; inside = back (state_of options journal) request keeps_now prepared_now })
 
       pub may_commit : MayCommit (state_in self) request
-      may_commit = subst (λ (s : State). MayCommit s request) present readied_now.may
+      may_commit = subst (λ (s : State). MayCommit s request) present prepared_now.may
 
 -- ---- what a commit is, from what it was prepared for
 pub commits : (old new : Repository) (request : Request) (done : Committed) → MayCommit (state_in old) request → done ≡ committed_of (after (state_in old) request) request

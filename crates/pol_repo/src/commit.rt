@@ -4,7 +4,7 @@ ghost use Rattle.pol_model.specs.After.{after};
 ghost use Rattle.pol_model.specs.Commits.{Commits};
 ghost use Rattle.pol_model.specs.Committed.{committed_of};
 ghost use Rattle.pol_model.specs.Sizes.{IsShort};
-ghost use Rattle.pol_requests.specs.Readied.{is_of_policy};
+ghost use Rattle.pol_requests.specs.Prepared.{is_of_policy};
 ghost use Rattle.pol_repo.specs.Causes.{IsCause};
 ghost use Rattle.pol_repo.specs.Cost.{label_peers};
 ghost use Rattle.pol_repo.specs.Repository.{state_in};
@@ -13,7 +13,7 @@ use crate::prepare::Ready;
 use crate::repo::Repo;
 use pol_data::Steps;
 use pol_model::{CommitError, Committed, Request};
-use pol_requests::{carry_out, take_back};
+use pol_requests::{accept, withdraw};
 use std::sync::ledger::Ledger;
 
 impl Repo {
@@ -25,10 +25,10 @@ impl Repo {
         ensures new { self.new ≡ record self.old { journal = self.old.journal ++ ready.request ∷ []; prepared = None } }
     {
         let Ready { request, done } = ready;
-        let readied = self.prepared.take().unwrap();
+        let prepared = self.prepared.take().unwrap();
         // These calls tell that the selectors fit together, before and after.
         let _before = self.store.horizon();
-        carry_out(&mut self.store, readied);
+        accept(&mut self.store, prepared);
         let next = self.store.selectors().next_number();
         self.nexts.push(next).unwrap();
         self.journal.push(request).unwrap();
@@ -40,8 +40,8 @@ impl Repo {
         requires request { self.old.prepared ≡ Some ready.request }
         ensures new { self.new ≡ record self.old { prepared = None } }
     {
-        let readied = self.prepared.take().unwrap();
-        take_back(&mut self.store, readied);
+        let prepared = self.prepared.take().unwrap();
+        withdraw(&mut self.store, prepared);
         // The call tells that the selectors fit together.
         let _known = self.store.horizon();
     }

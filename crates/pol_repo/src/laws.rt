@@ -31,7 +31,7 @@ ghost use Rattle.pol_distill.specs.Distilled.{distilled};
 ghost use Rattle.pol_addresses.specs.AddressTable.{number_in};
 ghost use Rattle.pol_taken.specs.declared.taken.Taken.{Taken as OneTaken};
 ghost use Rattle.pol_taken.specs.OfState.{IsTakenOf};
-ghost use Rattle.pol_requests.specs.Readied.{is_of_policy};
+ghost use Rattle.pol_requests.specs.Prepared.{is_of_policy};
 ghost use Rattle.pol_repo.specs.Cost.{label_peers};
 
 /// The law of addresses: the verdict at an address, judged by the endpoint that has it or else by the address itself, is

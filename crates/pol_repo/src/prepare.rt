@@ -8,7 +8,7 @@ ghost use Rattle.pol_model.specs.Sizes.{IsShort};
 ghost use Rattle.pol_selcache.specs.Cache.{IsSound as AreSound};
 ghost use Rattle.pol_selcache.specs.Live.{label_selectors};
 ghost use Rattle.pol_peers.specs.Numbering.{GainsSelectors};
-ghost use Rattle.pol_requests.specs.Readied.{ReadiesOrNot, is_of_policy};
+ghost use Rattle.pol_requests.specs.Prepared.{PreparesOrNot, is_of_policy};
 ghost use Rattle.pol_store.specs.Store.{StandsForSome};
 ghost use Rattle.pol_repo.specs.Causes.{IsCause};
 ghost use Rattle.pol_repo.specs.Cost.{label_peers};
@@ -17,7 +17,7 @@ ghost use Rattle.pol_repo.specs.Repository.{state_in};
 use crate::repo::Repo;
 use pol_data::Steps;
 use pol_model::{CommitError, Committed, Fault, Refused, Request};
-use pol_requests::{Readied, ReadyError, answer, ready};
+use pol_requests::{PrepareError, Prepared, answer, prepare};
 use pol_store::Store;
 use std::sync::ledger::Ledger;
 
@@ -30,14 +30,14 @@ pub struct Ready {
     pub done: Committed,
 }
 
-// The request is readied, with room in the journal and in the list of next numbers for one more.
-fn ready_in<L: Ledger>(
+// The request is prepared, with room in the journal and in the list of next numbers for one more.
+fn prepare_in<L: Ledger>(
     journal: &mut Vec<Request>,
     nexts: &mut Vec<u64>,
     store: &mut Store,
     request: &Request,
     steps: &mut Steps<L>,
-) -> Result<Readied, ReadyError>
+) -> Result<Prepared, PrepareError>
     requires stands { StandsForSome store.old }
     requires counts { store.old.state.revision ≡ length journal.old.items }
     requires short { IsShort request.now }
@@ -49,7 +49,7 @@ fn ready_in<L: Ledger>(
     ensures before { AreSound store.old.cache }
     ensures sound { AreSound store.new.cache }
     ensures rises { OnOk result (store.old.state.revision < 2 ^ 64 - 1) }
-    ensures readied { ReadiesOrNot request.now store.old store.new result }
+    ensures prepared { PreparesOrNot request.now store.old store.new result }
     ensures cost { is_of_policy request.now ≡ false → steps.new ≤ steps.old + label_selectors store.old.cache.live }
 {
     // The calls of this name tell that the selectors fit together.
@@ -58,9 +58,9 @@ fn ready_in<L: Ledger>(
     nexts.reserve(1)?;
     // The call tells that a capacity is a number of 64 bits, and so the revision is below the last one.
     let _capacity = journal.capacity();
-    let readied = ready(store, request, steps);
+    let prepared = prepare(store, request, steps);
     let _after = store.horizon();
-    readied
+    prepared
 }
 
 // The request has this fault, at the store's revision.
@@ -98,20 +98,20 @@ impl Repo {
     {
         // The call tells that each selector has a reference, and no two are of one peer.
         let _horizon = self.store.horizon();
-        match ready_in(
+        match prepare_in(
             &mut self.journal,
             &mut self.nexts,
             &mut self.store,
             &request,
             steps,
         ) {
-            Ok(readied) => {
-                let done = answer(&self.store, &readied);
-                self.prepared = Some(readied);
+            Ok(prepared) => {
+                let done = answer(&self.store, &prepared);
+                self.prepared = Some(prepared);
                 Ok(Ready { request, done })
             }
-            Err(ReadyError::Fault(fault)) => Err(refused(&self.store, fault)),
-            Err(ReadyError::Memory) => Err(CommitError::Memory),
+            Err(PrepareError::Fault(fault)) => Err(refused(&self.store, fault)),
+            Err(PrepareError::Memory) => Err(CommitError::Memory),
         }
     }
 }

@@ -5,7 +5,7 @@ ghost use Rattle.pol_repo.specs.Repository.{state_in};
 
 use pol_data::Memory;
 use pol_model::{Mode, Options, Request};
-use pol_requests::Readied;
+use pol_requests::Prepared;
 use pol_store::Store;
 use std::alloc::Global;
 use std::marker::Model;
@@ -19,7 +19,7 @@ pub struct Repo {
     // For each revision, from 0 on, the number that the next new selector would have taken.
     pub(crate) nexts: Vec<u64>,
     pub(crate) store: Store,
-    pub(crate) prepared: Option<Readied>,
+    pub(crate) prepared: Option<Prepared>,
 }
 
 impl Model for Repo {

@@ -19,11 +19,11 @@ use Rattle.pol_model_laws.specs.WithoutFaults.{MayCommit}
 use Rattle.pol_model_laws.proofs.Done.{endpoint-added, identity-added}
 use Rattle.pol_model_laws.proofs.Keyed.{above-In, placed-here}
 use Rattle.pol_model_laws.proofs.StateLaws.{keeps-after}
-use Rattle.pol_requests.specs.declared.readied.Change.{Change}
-use Rattle.pol_requests.specs.declared.readied.Readied.{Readied}
+use Rattle.pol_requests.specs.declared.prepared.Change.{Change}
+use Rattle.pol_requests.specs.declared.prepared.Prepared.{Prepared}
 use Rattle.pol_requests.specs.Answer.{FitsSlots, identity_in, slots_with}
 use Rattle.pol_store.specs.Store.{Stored}
-use Rattle.pol_requests.specs.Readied.{IsReadied, change_for}
+use Rattle.pol_requests.specs.Prepared.{IsPrepared, change_for}
 
 -- ---- slots
 -- wherever an endpoint is put in
@@ -81,12 +81,12 @@ slots_fit s (Remove key) keeps may = tt
 slots_fit s (SetMode mode) keeps may = tt
 
 -- what is told before the request is done is so once it is done
-pub answered : (s : State) (request : Request) (old : Stored) (readied : Readied) (revision : ℕ) (identity : Option ℕ) (slots : ℕ) → Keeps s → IsReadied s request old readied
-    → revision ≡ old.state.revision + 1 → identity ≡ identity_in readied.change
-    → ((t : State) → Keeps t → old.state.endpoints ≡ t.endpoints → FitsSlots readied.change → slots ≡ slots_with readied.change t.endpoints)
+pub answered : (s : State) (request : Request) (old : Stored) (prepared : Prepared) (revision : ℕ) (identity : Option ℕ) (slots : ℕ) → Keeps s → IsPrepared s request old prepared
+    → revision ≡ old.state.revision + 1 → identity ≡ identity_in prepared.change
+    → ((t : State) → Keeps t → old.state.endpoints ≡ t.endpoints → FitsSlots prepared.change → slots ≡ slots_with prepared.change t.endpoints)
     → record { revision = revision; identity = identity; slots = slots } ≡ committed_of (after s request) request
-answered s request old readied revision identity slots keeps ready at given count =
-    let fits : FitsSlots readied.change = subst FitsSlots (sym ready.change) (slots_fit s request keeps ready.may) in
+answered s request old prepared revision identity slots keeps ready at given count =
+    let fits : FitsSlots prepared.change = subst FitsSlots (sym ready.change) (slots_fit s request keeps ready.may) in
     let first : revision ≡ s.revision + 1 = at ∙ ap (λ n. n + 1) ready.like.revision in
     let second : identity ≡ identity_given (after s request) request = given ∙ ap identity_in ready.change ∙ identity_after s request keeps ready.may in
     let third : slots ≡ slots_of (after s request).endpoints = count s keeps ready.like.endpoints fits ∙ ap (λ (c : Change). slots_with c s.endpoints) ready.change ∙ slots_after s request in

@@ -5,8 +5,8 @@ use Rattle.pol_addr.specs.declared.network.Prefix.{Prefix}
 use Rattle.pol_model.specs.declared.options.Mode.{Mode}
 use Rattle.pol_model.specs.declared.row.Endpoint.{Endpoint}
 use Rattle.pol_model.specs.declared.row.Stamped.{Stamped}
-use Rattle.pol_requests.specs.declared.readied.Change.{Change}
-use Rattle.pol_requests.specs.declared.readied.Change.TheVariants as change
+use Rattle.pol_requests.specs.declared.prepared.Change.{Change}
+use Rattle.pol_requests.specs.declared.prepared.Change.TheVariants as change
 
 abbrev pub form_of : Change → ℕ
 form_of (change.Endpoint endpoint name) = 0

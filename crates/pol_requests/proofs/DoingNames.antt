@@ -11,10 +11,10 @@ use Rattle.pol_model_laws.specs.Holding.{has_row}
 use Rattle.pol_model_laws.specs.Keeps.{Keeps}
 use Rattle.pol_tables.specs.Tables.{SameNumbers, number_named}
 use Rattle.pol_tables.proofs.NamedNumbers.{same-push, same-without}
-use Rattle.pol_requests.specs.declared.readied.Change.TheVariants as change
+use Rattle.pol_requests.specs.declared.prepared.Change.TheVariants as change
 use Rattle.pol_store.specs.Parts.{numbers_of, with_numbers}
 use Rattle.pol_store.specs.Store.{Stored}
-use Rattle.pol_requests.specs.Readied.{Changes, IsUnderWay, MayChange, change_for, or_none}
+use Rattle.pol_requests.specs.Prepared.{Changes, IsUnderWay, MayChange, change_for, or_none}
 use Rattle.pol_requests.proofs.ChangeParts.{differ, mode_of_change, name_of_change, number_of_change}
 use Rattle.pol_requests.proofs.Faults.{may_be_named, name_there}
 use Rattle.pol_requests.proofs.LiveNumbers.{held_name}

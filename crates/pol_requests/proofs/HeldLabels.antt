@@ -1,4 +1,4 @@
--- A label set is held for an endpoint or a named identity: what is readied so.
+-- A label set is held for an endpoint or a named identity: what is prepared so.
 use Rattle.std.proofs.Common.{◌≡◌, ℕ, ◌+◌, ◌<◌, false, List, Option, None, Some, option_map, is_some, sym, ap, subst, ◌∙◌}
 use Rattle.pol_addr.specs.declared.address.Addr.{Addr}
 use Rattle.pol_addr.specs.Address.{IsAddr}
@@ -19,15 +19,15 @@ use Rattle.pol_selcache.specs.Cache.{Cache}
 use Rattle.pol_selcache.specs.Live.{AreExact, Live}
 use Rattle.pol_selcache.specs.Plan.{Plan}
 use Rattle.pol_tables.specs.Tables.{number_named}
-use Rattle.pol_allocator.specs.Held.{HoldsLabels, Readies}
+use Rattle.pol_allocator.specs.Held.{HoldsLabels, Prepares}
 use Rattle.pol_peers.specs.References.{RefsOf}
-use Rattle.pol_requests.specs.declared.readied.Change.{Change}
-use Rattle.pol_requests.specs.declared.readied.Change.TheVariants as change
+use Rattle.pol_requests.specs.declared.prepared.Change.{Change}
+use Rattle.pol_requests.specs.declared.prepared.Change.TheVariants as change
 use Rattle.pol_store.specs.Parts.{numbers_of, with_numbers}
 use Rattle.pol_requests.specs.Causes.{endpoint_fault}
 use Rattle.pol_store.specs.Store.{Rooms, Stored, peers_of, with_rooms}
 use Rattle.pol_requests.proofs.Faults.{endpoint_last}
-use Rattle.pol_requests.proofs.Readying.{IsReadiedHere}
+use Rattle.pol_requests.proofs.Preparing.{IsPreparedHere}
 
 -- the state with these rows of identities
 abbrev pub with_rows : List IdentityRow → State → State
@@ -58,10 +58,10 @@ module _ (labels : List Label) (rooms : Rooms) (old mid new : Stored) (mid_is : 
   pub held_exact : (rows : List IdentityRow) → AreExact rows old.cache.live → AreExact rows new.cache.live
   held_exact rows exact = subst (λ (live : List Live). AreExact rows live) (sym held_live) exact
 
-  pub held_plan : Readies (old.state.revision + 1) (labels_held labels old.state.identities) new.cache plan
+  pub held_plan : Prepares (old.state.revision + 1) (labels_held labels old.state.identities) new.cache plan
   held_plan =
-      subst (λ (n : ℕ). Readies (n + 1) (labels_held labels old.state.identities) new.cache plan) (ap (λ (s : State). s.revision) state_at)
-      (subst (λ (rows : List IdentityRow). Readies (mid.state.revision + 1) rows new.cache plan) rows_held held.plan_is)
+      subst (λ (n : ℕ). Prepares (n + 1) (labels_held labels old.state.identities) new.cache plan) (ap (λ (s : State). s.revision) state_at)
+      (subst (λ (rows : List IdentityRow). Prepares (mid.state.revision + 1) rows new.cache plan) rows_held held.plan_is)
 
   pub held_number : number ≡ number_for labels old.state.identities
   held_number = held.number_is ∙ ap (λ (s : State). number_for labels s.identities) state_at
@@ -70,11 +70,11 @@ module _ (labels : List Label) (rooms : Rooms) (old mid new : Stored) (mid_is : 
   held_rooms = ap (λ (stored : Stored). stored.rooms) new_is ∙ ap (λ (stored : Stored). stored.rooms) mid_is
 
   -- for a new endpoint
-  pub endpoint_readied : (name : List ℕ) (address : Addr) (asked : Change) → IsLabelSet labels → IsAddr address
+  pub endpoint_prepared : (name : List ℕ) (address : Addr) (asked : Change) → IsLabelSet labels → IsAddr address
       → endpoint_fault old.state name labels address ≡ None → is_exhausted labels old.state.identities ≡ false → 0 < rooms.endpoints
       → asked ≡ change.Endpoint (with_identity number (new_endpoint mid.state name labels address)) name
-      → IsReadiedHere (AddEndpoint name labels address) old new (record { plan = plan; change = asked })
-  endpoint_readied name address asked set within none room place its = record {
+      → IsPreparedHere (AddEndpoint name labels address) old new (record { plan = plan; change = asked })
+  endpoint_prepared name address asked set within none room place its = record {
     valid = (set, within);
     no_fault = endpoint_last old.state name labels address none ∙ ap (λ b. fault_if b fault.IdentitiesExhausted None) room;
     short = tt;
@@ -89,10 +89,10 @@ module _ (labels : List Label) (rooms : Rooms) (old mid new : Stored) (mid_is : 
   }
 
   -- for a new named identity
-  pub identity_readied : (name : List ℕ) (asked : Change) → IsLabelSet labels → has_reserved labels ≡ false → number_named name old.state.named ≡ None
+  pub identity_prepared : (name : List ℕ) (asked : Change) → IsLabelSet labels → has_reserved labels ≡ false → number_named name old.state.named ≡ None
       → is_exhausted labels old.state.identities ≡ false → 0 < rooms.named → asked ≡ change.Named name number
-      → IsReadiedHere (AddIdentity name labels) old new (record { plan = plan; change = asked })
-  identity_readied name asked set allowed fresh room place its = record {
+      → IsPreparedHere (AddIdentity name labels) old new (record { plan = plan; change = asked })
+  identity_prepared name asked set allowed fresh room place its = record {
     valid = set;
     no_fault = by (named_of name old.state.named) fresh;
     short = tt;

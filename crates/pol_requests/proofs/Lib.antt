@@ -1,6 +1,6 @@
 pub mod ChangeParts
 pub mod Likeness
-pub mod Readying
+pub mod Preparing
 pub mod Faults
 pub mod LiveNumbers
 pub mod HeldLabels

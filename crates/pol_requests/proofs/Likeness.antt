@@ -10,9 +10,9 @@ use Rattle.pol_model.specs.Endpoints.{named_of}
 use Rattle.pol_model.specs.Fault.{fault_if, fault_of, has_reserved, is_exhausted}
 use Rattle.pol_model.specs.Identities.{number_released}
 use Rattle.pol_model_laws.specs.Holding.{rows_taken}
-use Rattle.pol_requests.specs.declared.readied.Change.TheVariants as change
+use Rattle.pol_requests.specs.declared.prepared.Change.TheVariants as change
 use Rattle.pol_store.specs.Store.{IsLike}
-use Rattle.pol_requests.specs.Readied.{change_for, or_none}
+use Rattle.pol_requests.specs.Prepared.{change_for, or_none}
 
 -- a number is there for both, or for neither
 some_by_number : (a b : Option NamedIdentity) → option_map (λ identity. identity.number) a ≡ option_map (λ identity. identity.number) b → is_some a ≡ is_some b

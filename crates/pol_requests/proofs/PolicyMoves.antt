@@ -24,10 +24,10 @@ use Rattle.pol_tables.specs.Tables.{number_named}
 use Rattle.pol_peers.specs.Listed.{listed_peers}
 use Rattle.pol_peers.specs.References.{HasRefs, IsMoreBy, RefsOf}
 use Rattle.pol_peers.proofs.Counts.{refs_dropped, refs_may_drop}
-use Rattle.pol_requests.specs.declared.readied.Change.TheVariants as change
-use Rattle.pol_requests.specs.declared.readied.Readied.{Readied}
+use Rattle.pol_requests.specs.declared.prepared.Change.TheVariants as change
+use Rattle.pol_requests.specs.declared.prepared.Prepared.{Prepared}
 use Rattle.pol_store.specs.PolicyParts.{listed_of, with_cache, with_policies, with_rows}
-use Rattle.pol_requests.specs.Readied.{Changes, IsReadied, IsUnderWay, MayChange, change_for}
+use Rattle.pol_requests.specs.Prepared.{Changes, IsPrepared, IsUnderWay, MayChange, change_for}
 use Rattle.pol_store.specs.Store.{Stored, StandsFor, peers_of, with_rooms}
 use Rattle.pol_requests.proofs.PolicyRefs.{refs_applied, refs_removed}
 
@@ -203,12 +203,12 @@ may_take_out key given_up old may = by may.request may.under_way may.asked
     by (Apply policy) way asked = absurd cc
     by (SetMode mode) way asked = absurd cc
 
--- ---- a readied policy is taken back
+-- ---- a prepared policy is taken back
 pub policy_back : (policy : Policy) (taken : List Prefix) (old released new : Stored) → released ≡ with_rows (prefixes_released taken old.state.identities) old
     → new ≡ with_cache new.cache released → IsMoreBy (listed_peers policy) new.cache.live released.cache.live
     → ((rows : List IdentityRow) → AreExact rows released.cache.live → AreExact rows new.cache.live) → new.cache.log ≡ released.cache.log
-    → (s : State) (readied : Readied) → Keeps s → IsReadied s (Apply policy) old readied → taken ≡ policy_prefixes policy → StandsFor s new
-policy_back policy taken old released new given same less exact log s readied keeps is taken_is =
+    → (s : State) (prepared : Prepared) → Keeps s → IsPrepared s (Apply policy) old prepared → taken ≡ policy_prefixes policy → StandsFor s new
+policy_back policy taken old released new given same less exact log s prepared keeps is taken_is =
     let like = is.like in
     let state : new.state ≡ record old.state { identities = prefixes_released taken old.state.identities } = ap (λ (t : Stored). t.state) same ∙ ap (λ (t : Stored). t.state) given in
     let back : prefixes_released taken old.state.identities ≡ s.identities =
@@ -227,7 +227,7 @@ policy_back policy taken old released new given same less exact log s readied ke
           (subst (λ (t : Stored). IsMoreBy (listed_peers policy) new.cache.live t.cache.live) given less);
       exact = exact s.identities (subst (λ (t : Stored). AreExact s.identities t.cache.live) (sym given) is.exact);
       newest =
-          before (newest new.cache.log) (newest old.cache.log) readied.plan.revision s.revision
+          before (newest new.cache.log) (newest old.cache.log) prepared.plan.revision s.revision
           (ap newest log ∙ ap (λ (t : Stored). newest t.cache.log) given) is.plan.fits.newer is.plan.revision_is;
     }
   where

@@ -1,4 +1,4 @@
--- A policy's request, step by step: what is readied, and what is given back where it isn't.
+-- A policy's request, step by step: what is prepared, and what is given back where it isn't.
 use Rattle.std.proofs.Common.{◌≡◌, ℕ, ◌+◌, ◌<◌, ◌≤◌, Bool, true, false, List, ◌++◌, nat_lt, Option, None, Some, Result, Err, refl, sym, ap, subst, ◌∙◌, arith}
 use Rattle.std.specs.List.{AllByRecursion, IsDistinct}
 use Rattle.std.proofs.lemmas.Bool.{lt-ltb, ltb-true}
@@ -35,16 +35,16 @@ use Rattle.pol_selcache.specs.Plan.{Plan}
 use Rattle.pol_peers.specs.Listed.{listed_peers}
 use Rattle.pol_peers.specs.References.{HasRefs, IsMoreBy, RefsOf}
 use Rattle.pol_peers.proofs.Counts.{has_more, refs_held, undone}
-use Rattle.pol_allocator.specs.Held.{AreApart, Readies, RefersTo}
+use Rattle.pol_allocator.specs.Held.{AreApart, Prepares, RefersTo}
 use Rattle.pol_allocator.proofs.Apart.{apart_where_held}
-use Rattle.pol_requests.specs.declared.readied.Change.TheVariants as change
-use Rattle.pol_requests.specs.declared.error.ReadyError.TheVariants.{Fault, Memory}
+use Rattle.pol_requests.specs.declared.prepared.Change.TheVariants as change
+use Rattle.pol_requests.specs.declared.error.PrepareError.TheVariants.{Fault, Memory}
 use Rattle.pol_store.specs.PolicyParts.{with_cache, with_rows}
 use Rattle.pol_requests.specs.Causes.{policy_error}
-use Rattle.pol_requests.specs.Readied.{ReadiesOrNot}
+use Rattle.pol_requests.specs.Prepared.{PreparesOrNot}
 use Rattle.pol_store.specs.Store.{IsLike, StandsFor, StandsForSome, Stored, peers_of, with_rooms}
 use Rattle.pol_requests.proofs.Likeness.{like_fault}
-use Rattle.pol_requests.proofs.Readying.{IsReadiedHere, as_before, refused}
+use Rattle.pol_requests.proofs.Preparing.{IsPreparedHere, as_before, refused}
 
 -- The policy's peers have references and there is room for it; else all is as before.
 pub record RefersHere (policy : Policy) (old new : Stored) : Type 0 where
@@ -79,10 +79,10 @@ stands_still s old new still stands = record {
   newest = subst (λ (n : ℕ). n ≤ s.revision) (sym still.newest) stands.newest;
 }
 
-pub still_without_memory : (request : Request) (old new : Stored) → IsStill old new → ReadiesOrNot request old new (Err Memory)
+pub still_without_memory : (request : Request) (old new : Stored) → IsStill old new → PreparesOrNot request old new (Err Memory)
 still_without_memory request old new still s keeps stands = (tt, stands_still s old new still stands, tt)
 
-still_refused : (policy : Policy) (old new : Stored) (fault : OneFault) → IsStill old new → fault_of old.state (Apply policy) ≡ Some fault → ReadiesOrNot (Apply policy) old new (Err (Fault fault))
+still_refused : (policy : Policy) (old new : Stored) (fault : OneFault) → IsStill old new → fault_of old.state (Apply policy) ≡ Some fault → PreparesOrNot (Apply policy) old new (Err (Fault fault))
 still_refused policy old new fault still is s keeps stands =
     (tt, stands_still s old new still stands, sym (like_fault s old.state stands.like (Apply policy)) ∙ is)
 
@@ -116,7 +116,7 @@ may_give_up taken given_up key old reserved referred settled same same_too is =
     subst (λ (t : State). AreApart taken given_up t.identities) (sym second)
     (subst (λ (gs : List Prefix). AreApart taken gs old.state.identities) (sym given) (given_up_apart taken key old settled))
 
--- ---- what is readied
+-- ---- what is prepared
 fits : (policy : Policy) (s : State) → (LOCAL_IDENTITIES < locals_held s.identities + locals_wanted s.identities (policy_prefixes policy) → ⊥) → fault_of s (Apply policy) ≡ None
 fits policy s never = by (nat_lt LOCAL_IDENTITIES (locals_held s.identities + locals_wanted s.identities (policy_prefixes policy))) refl
   where
@@ -146,7 +146,7 @@ pub record HoldsHere (taken given_up : List Prefix) (old new : Stored) (plan : P
   pub enough : LOCAL_IDENTITIES < locals_held old.state.identities + locals_wanted old.state.identities taken → ⊥
   pub rows : new ≡ with_rows (prefixes_held taken old.state.identities) (with_cache new.cache old)
   pub sets : new.cache ≡ with_room new.cache.log.spare old.cache
-  pub plan_is : Readies (old.state.revision + 1) (prefixes_released given_up (prefixes_held taken old.state.identities)) new.cache plan
+  pub plan_is : Prepares (old.state.revision + 1) (prefixes_released given_up (prefixes_held taken old.state.identities)) new.cache plan
 
 pub holds_here : (taken given_up slice other : List Prefix) (old new : Stored) (plan : Plan) → slice ≡ taken → other ≡ given_up → HoldsHere slice other old new plan → HoldsHere taken given_up old new plan
 holds_here taken given_up slice other old new plan is is_too holds =
@@ -155,10 +155,10 @@ holds_here taken given_up slice other old new plan is is_too holds =
 abbrev with_ids : State → List IdentityRow → State
 with_ids t rows = record t { identities = rows }
 
-pub policy_readied : (policy : Policy) (old referred new : Stored) (stamped : Stamped) (key : PolicyKey) (taken given_up : List Prefix) (plan : Plan) → IsShortPolicy policy
+pub policy_prepared : (policy : Policy) (old referred new : Stored) (stamped : Stamped) (key : PolicyKey) (taken given_up : List Prefix) (plan : Plan) → IsShortPolicy policy
     → RefersHere policy old referred → AreParts policy old stamped key taken given_up → HoldsHere taken given_up referred new plan
-    → IsReadiedHere (Apply policy) old new (record { plan = plan; change = change.Policy stamped key taken given_up })
-policy_readied policy old referred new stamped key taken given_up plan short refers parts holds =
+    → IsPreparedHere (Apply policy) old new (record { plan = plan; change = change.Policy stamped key taken given_up })
+policy_prepared policy old referred new stamped key taken given_up plan short refers parts holds =
     let ids : referred.state.identities ≡ old.state.identities = ap (λ (t : State). t.identities) refers.state in
     let more : prefixes_held taken referred.state.identities ≡ prefixes_held (policy_prefixes policy) old.state.identities = λ i. prefixes_held (parts.taken_is i) (ids i) in
     let after_it : prefixes_released given_up (prefixes_held taken referred.state.identities)
@@ -172,8 +172,8 @@ policy_readied policy old referred new stamped key taken given_up plan short ref
       refs = λ refs. subst (λ (c : Cache). RefsOf (listed_peers policy ++ peers_of old.state.policies) c.live) (sym holds.sets)
           (refs_held (listed_peers policy) (peers_of old.state.policies) old.cache.live referred.cache.live refs refers.more);
       exact = λ exact. subst (λ (c : Cache). AreExact old.state.identities c.live) (sym holds.sets) refers.exact;
-      plan = subst (λ (rows : List IdentityRow). Readies (old.state.revision + 1) rows new.cache plan) after_it
-          (subst (λ (t : State). Readies (t.revision + 1) (prefixes_released given_up (prefixes_held taken referred.state.identities)) new.cache plan) refers.state holds.plan_is);
+      plan = subst (λ (rows : List IdentityRow). Prepares (old.state.revision + 1) rows new.cache plan) after_it
+          (subst (λ (t : State). Prepares (t.revision + 1) (prefixes_released given_up (prefixes_held taken referred.state.identities)) new.cache plan) refers.state holds.plan_is);
       change = λ i. change.Policy (parts.stamped_is i) (parts.key_is i) (parts.taken_is i) (parts.given_up_is i);
       room = subst (λ (t : Stored). 0 < t.rooms.policies) (sym holds.rows) refers.room;
     }
@@ -198,7 +198,7 @@ may_give_back policy old referred held refers same =
 
 pub policy_refused : (policy : Policy) (old referred new : Stored) (taken : List Prefix) (error : IdentError) → RefersHere policy old referred → taken ≡ policy_prefixes policy
     → (◌≡◌ {A = Result Plan IdentError} (Err error) (Err ident.Exhausted) → LOCAL_IDENTITIES < locals_held referred.state.identities + locals_wanted referred.state.identities taken) → IsStill old new
-    → ReadiesOrNot (Apply policy) old new (Err (policy_error error))
+    → PreparesOrNot (Apply policy) old new (Err (policy_error error))
 policy_refused policy old referred new taken ident.Exhausted refers taken_is many still =
     let ids : referred.state.identities ≡ old.state.identities = ap (λ (t : State). t.identities) refers.state in
     still_refused policy old new LocalExhausted still
@@ -207,7 +207,7 @@ policy_refused policy old referred new taken ident.Memory refers taken_is many s
 
 -- more prefixes than numbers are left: nothing was taken yet
 pub policy_too_much : (policy : Policy) (old new : Stored) (taken : List Prefix) → new ≡ with_rooms new.rooms old → taken ≡ policy_prefixes policy
-    → nat_lt LOCAL_IDENTITIES (locals_held new.state.identities + locals_wanted new.state.identities taken) ≡ true → ReadiesOrNot (Apply policy) old new (Err (Fault LocalExhausted))
+    → nat_lt LOCAL_IDENTITIES (locals_held new.state.identities + locals_wanted new.state.identities taken) ≡ true → PreparesOrNot (Apply policy) old new (Err (Fault LocalExhausted))
 policy_too_much policy old new taken same taken_is many =
     let ids : new.state.identities ≡ old.state.identities = ap (λ (t : Stored). t.state.identities) same in
     refused (Apply policy) old new LocalExhausted (as_before new.rooms old new same)

@@ -1,4 +1,4 @@
--- What was readied is begun, or taken back.
+-- What was prepared is begun, or taken back.
 use Rattle.std.proofs.Common.{◌≡◌, ℕ, ◌+◌, ◌≤◌, ◌&&◌, not, true, false, if◌then◌else◌, List, [], ◌∷◌, find, Some, refl, sym, ap, subst, ◌∙◌, arith}
 use Rattle.std.specs.Option.{option_map_or}
 use Rattle.pol_rule.specs.contracts.policy.PeerPartialEq.TheImpl as peers
@@ -22,10 +22,10 @@ use Rattle.pol_selcache.specs.Plan.{Planned, after_changes, changed}
 use Rattle.pol_tables.specs.Tables.{number_named}
 use Rattle.pol_allocator.proofs.Coming.{number_not_local}
 use Rattle.pol_peers.specs.References.{RefsOf, references_of}
-use Rattle.pol_requests.specs.declared.readied.Readied.{Readied}
+use Rattle.pol_requests.specs.declared.prepared.Prepared.{Prepared}
 use Rattle.pol_store.specs.Parts.{begun, numbers_of, with_numbers}
 use Rattle.pol_store.specs.Store.{IsLike, StandsFor, Stored, peers_of}
-use Rattle.pol_requests.specs.Readied.{HasRoom, IsReadied, IsUnderWay, peers_with}
+use Rattle.pol_requests.specs.Prepared.{HasRoom, IsPrepared, IsUnderWay, peers_with}
 
 -- changes of sets leave the references as they were
 references_kept : (changes : List Planned) (p : Peer) (live : List Live) → references_of p (changed changes live) ≡ references_of p live
@@ -37,12 +37,12 @@ references_kept changes p (s ∷ live) =
       | false ↦ references_kept changes p live
     ]
 
--- a readied request is under way once its plan is carried out
-pub under_way : (s : State) (request : Request) (old : Stored) (readied : Readied) (new : Stored) → IsReadied s request old readied
-    → new ≡ begun readied.plan old → newest new.cache.log ≤ readied.plan.revision → IsUnderWay s request new
-under_way s request old readied new ready is before =
+-- a prepared request is under way once its plan is carried out
+pub under_way : (s : State) (request : Request) (old : Stored) (prepared : Prepared) (new : Stored) → IsPrepared s request old prepared
+    → new ≡ begun prepared.plan old → newest new.cache.log ≤ prepared.plan.revision → IsUnderWay s request new
+under_way s request old prepared new ready is before =
     let like = ready.like in
-    let live : new.cache.live ≡ changed readied.plan.changes old.cache.live = ap (λ (stored : Stored). stored.cache.live) is in
+    let live : new.cache.live ≡ changed prepared.plan.changes old.cache.live = ap (λ (stored : Stored). stored.cache.live) is in
     let at = ready.plan.revision_is in
     record {
       may = ready.may;
@@ -55,14 +55,14 @@ under_way s request old readied new ready is before =
         policies = ap (λ (stored : Stored). stored.state.policies) is ∙ like.policies;
         endpoints = ap (λ (stored : Stored). stored.state.endpoints) is ∙ like.endpoints;
       };
-      refs = λ p. ap (references_of p) live ∙ references_kept readied.plan.changes p old.cache.live ∙ ready.refs p;
+      refs = λ p. ap (references_of p) live ∙ references_kept prepared.plan.changes p old.cache.live ∙ ready.refs p;
       exact = subst (λ (l : List Live). AreExact (after s request).identities l) (sym live) ready.plan.exact;
       newest = omega (arith, at, before);
       room = subst (λ (stored : Stored). HasRoom request stored.rooms) (sym is) ready.room;
     }
 
--- what is readied has changed nothing where nothing was taken
-module _ (s : State) (request : Request) (old : Stored) (readied : Readied) (ready : IsReadied s request old readied) where
+-- what is prepared has changed nothing where nothing was taken
+module _ (s : State) (request : Request) (old : Stored) (prepared : Prepared) (ready : IsPrepared s request old prepared) where
   not_later : newest old.cache.log ≤ s.revision
   not_later = let at = ready.plan.revision_is in let newer = ready.plan.fits.newer in omega (arith, at, newer)
 

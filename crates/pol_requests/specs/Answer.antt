@@ -4,8 +4,8 @@ use Rattle.pol_model.specs.declared.limits.TheConstants.{ENDPOINTS_MAX}
 use Rattle.pol_model.specs.declared.row.Endpoint.{Endpoint}
 use Rattle.pol_model.specs.Committed.{slots_of}
 use Rattle.pol_model.specs.Endpoints.{without_endpoint}
-use Rattle.pol_requests.specs.declared.readied.Change.{Change}
-use Rattle.pol_requests.specs.declared.readied.Change.TheVariants as change
+use Rattle.pol_requests.specs.declared.prepared.Change.{Change}
+use Rattle.pol_requests.specs.declared.prepared.Change.TheVariants as change
 
 -- the identity of what the change adds
 abbrev pub identity_in : Change → Option ℕ

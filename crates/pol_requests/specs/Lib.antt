@@ -1,3 +1,3 @@
-pub mod Readied
+pub mod Prepared
 pub mod Answer
 pub mod Causes

@@ -1,4 +1,4 @@
-//! What was readied is done, or taken back.
+//! What was prepared is done, or taken back.
 ghost use Rattle.std.specs.Prelude.{◌≡◌, ◌<◌, ◌-◌, ◌^◌};
 ghost use Rattle.pol_model.specs.declared.request.Request.{Request as OneRequest};
 ghost use Rattle.pol_model.specs.After.{after};
@@ -6,13 +6,13 @@ ghost use Rattle.pol_model.specs.State.{State};
 ghost use Rattle.pol_model_laws.specs.Keeps.{Keeps};
 ghost use Rattle.pol_peers.specs.Numbering.{LosesSelectors};
 ghost use Rattle.pol_selcache.specs.Cache.{carried};
-ghost use Rattle.pol_requests.specs.Readied.{CanBeDone, Changes, IsReadied, MayChange, TakesBack};
+ghost use Rattle.pol_requests.specs.Prepared.{CanBeDone, Changes, IsPrepared, MayChange, TakesBack};
 ghost use Rattle.pol_store.specs.Store.{StandsFor};
 
-use crate::endpoints::{place_endpoint, take_out_endpoint};
-use crate::identities::{place_identity, take_out_identity};
-use crate::policies::{put_policy, take_back_policy, take_out_policy};
-use crate::readied::{Change, Readied};
+use crate::endpoints::{accept_endpoint, accept_no_endpoint};
+use crate::identities::{accept_identity, accept_no_identity};
+use crate::policies::{accept_no_policy, accept_policy, withdraw_policy};
+use crate::prepared::{Change, Prepared};
 use pol_model::Mode;
 use pol_store::Store;
 
@@ -32,49 +32,47 @@ fn make_change(store: &mut Store, change: Change)
     ensures selectors { LosesSelectors store.old.cache store.new.cache }
 {
     match change {
-        Change::Endpoint(endpoint, name) => place_endpoint(store, endpoint, name),
-        Change::NoEndpoint(name, number) => take_out_endpoint(store, name, number),
-        Change::Named(name, number) => place_identity(store, name, number),
-        Change::NotNamed(name, number) => take_out_identity(store, name, number),
+        Change::Endpoint(endpoint, name) => accept_endpoint(store, endpoint, name),
+        Change::NoEndpoint(name, number) => accept_no_endpoint(store, name, number),
+        Change::Named(name, number) => accept_identity(store, name, number),
+        Change::NotNamed(name, number) => accept_no_identity(store, name, number),
         Change::Policy {
             stamped,
             key,
             taken,
             given_up,
-        } => put_policy(store, stamped, key, taken, given_up),
-        Change::NoPolicy(key, given_up) => take_out_policy(store, key, given_up),
+        } => accept_policy(store, stamped, key, taken, given_up),
+        Change::NoPolicy(key, given_up) => accept_no_policy(store, key, given_up),
         Change::Mode(mode) => change_mode(store, mode),
     }
 }
 
-/// Does what was readied, and raises the revision by one. It takes no memory.
-pub fn carry_out(store: &mut Store, readied: Readied)
-    requires ready { CanBeDone store.old readied }
+/// Does what was prepared, and raises the revision by one. It takes no memory.
+pub fn accept(store: &mut Store, prepared: Prepared)
+    requires ready { CanBeDone store.old prepared }
     requires room { store.old.state.revision < 2 ^ 64 - 1 }
-    ensures done { (s : State) (request : OneRequest) → Keeps s → IsReadied s request store.old readied → StandsFor (after s request) store.new }
-    ensures selectors { LosesSelectors (carried readied.plan store.old.cache) store.new.cache }
+    ensures done { (s : State) (request : OneRequest) → Keeps s → IsPrepared s request store.old prepared → StandsFor (after s request) store.new }
+    ensures selectors { LosesSelectors (carried prepared.plan store.old.cache) store.new.cache }
 {
-    let Readied { plan, change } = readied;
-    store.begin(plan);
+    let Prepared { plan, change } = prepared;
+    store.accept(plan);
     make_change(store, change);
 }
 
-/// Gives back what was taken when the request was readied. It takes no memory.
-pub fn take_back(store: &mut Store, readied: Readied)
-    requires ready { CanBeDone store.old readied }
-    ensures back { TakesBack store.old readied store.new }
+/// Gives back what was taken when the request was prepared. It takes no memory.
+pub fn withdraw(store: &mut Store, prepared: Prepared)
+    requires ready { CanBeDone store.old prepared }
+    ensures back { TakesBack store.old prepared store.new }
     ensures selectors { LosesSelectors store.old.cache store.new.cache }
 {
-    let Readied {
+    let Prepared {
         plan: _plan,
         change,
-    } = readied;
+    } = prepared;
     match change {
         Change::Endpoint(endpoint, _) => store.release(endpoint.identity),
         Change::Named(_, number) => store.release(number),
-        Change::Policy { stamped, taken, .. } => {
-            take_back_policy(store, &stamped.policy, &taken)
-        }
+        Change::Policy { stamped, taken, .. } => { withdraw_policy(store, &stamped.policy, &taken) }
         Change::NoEndpoint(_, _)
         | Change::NotNamed(_, _)
         | Change::NoPolicy(_, _)

@@ -1,4 +1,4 @@
-//! What a readied request will be answered.
+//! What a prepared request will be answered.
 ghost use Rattle.std.specs.Prelude.{◌≡◌, ◌<◌, ◌-◌, ◌^◌, map};
 ghost use Rattle.std.specs.List.{AllByRecursion};
 ghost use Rattle.pol_model.specs.declared.limits.TheConstants.{ENDPOINTS_MAX};
@@ -10,9 +10,9 @@ ghost use Rattle.pol_model.specs.Endpoints.{without_endpoint};
 ghost use Rattle.pol_model.specs.State.{State};
 ghost use Rattle.pol_model_laws.specs.Keeps.{Keeps};
 ghost use Rattle.pol_requests.specs.Answer.{FitsSlots, identity_in, slots_with};
-ghost use Rattle.pol_requests.specs.Readied.{IsReadied};
+ghost use Rattle.pol_requests.specs.Prepared.{IsPrepared};
 
-use crate::readied::{Change, Readied};
+use crate::prepared::{Change, Prepared};
 use pol_model::{Committed, Endpoint};
 use pol_store::Store;
 use std::cmp::max;
@@ -60,15 +60,15 @@ fn slots_with(store: &Store, change: &Change) -> u32
     }
 }
 
-/// What the readied request is answered once it is done.
-pub fn answer(store: &Store, readied: &Readied) -> Committed
+/// What the prepared request is answered once it is done.
+pub fn answer(store: &Store, prepared: &Prepared) -> Committed
     requires room { store.now.state.revision < 2 ^ 64 - 1 }
-    ensures answer { (s : State) (request : OneRequest) → Keeps s → IsReadied s request store.now readied.now
+    ensures answer { (s : State) (request : OneRequest) → Keeps s → IsPrepared s request store.now prepared.now
         → result ≡ committed_of (after s request) request }
 {
     Committed {
         revision: store.next_revision(),
-        identity: identity_in(&readied.change),
-        slots: slots_with(store, &readied.change),
+        identity: identity_in(&prepared.change),
+        slots: slots_with(store, &prepared.change),
     }
 }

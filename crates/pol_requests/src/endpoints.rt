@@ -4,11 +4,11 @@ ghost use Rattle.pol_model.specs.declared.request.Request.TheVariants.{AddEndpoi
 ghost use Rattle.pol_selcache.specs.Cache.{with_room};
 ghost use Rattle.pol_selcache.specs.Live.{label_selectors};
 ghost use Rattle.pol_requests.specs.Causes.{endpoint_fault};
-ghost use Rattle.pol_requests.specs.Readied.{Changes, MayChange, ReadiesOrNot};
+ghost use Rattle.pol_requests.specs.Prepared.{Changes, MayChange, PreparesOrNot};
 ghost use Rattle.pol_store.specs.Store.{StandsForSome};
 
-use crate::error::ReadyError;
-use crate::readied::{Change, Readied};
+use crate::error::PrepareError;
+use crate::prepared::{Change, Prepared};
 use pol_addr::Addr;
 use pol_allocator::LabelsHeld;
 use pol_data::{Steps, Text};
@@ -35,22 +35,22 @@ fn endpoint_fault(store: &Store, name: &str, labels: &LabelSet, address: Addr) -
     }
 }
 
-/// Readies a new endpoint: it holds the number of its labels.
-pub(crate) fn ready_endpoint<L: Ledger>(
+/// Prepares a new endpoint: it holds the number of its labels.
+pub(crate) fn prepare_endpoint<L: Ledger>(
     store: &mut Store,
     name: &Text,
     labels: &LabelSet,
     address: Addr,
     steps: &mut Steps<L>,
-) -> Result<Readied, ReadyError>
+) -> Result<Prepared, PrepareError>
     requires stands { StandsForSome store.old }
     requires room { store.old.state.revision < 2 ^ 64 - 1 }
-    ensures readied { ReadiesOrNot (AddEndpoint name.now labels.now address) store.old store.new result }
+    ensures prepared { PreparesOrNot (AddEndpoint name.now labels.now address) store.old store.new result }
     ensures sets { store.new.cache ≡ with_room store.new.cache.log.spare store.old.cache }
     ensures cost { steps.new ≤ steps.old + label_selectors store.old.cache.live }
 {
     if let Some(fault) = endpoint_fault(store, name.as_str(), labels, address) {
-        return Err(ReadyError::Fault(fault));
+        return Err(PrepareError::Fault(fault));
     }
     store.reserve_endpoint()?;
     let own = name.copy(store.allocator())?;
@@ -58,42 +58,42 @@ pub(crate) fn ready_endpoint<L: Ledger>(
     match store.hold_labels(labels, steps) {
         Ok(LabelsHeld { number, plan }) => {
             endpoint.identity = number;
-            Ok(Readied {
+            Ok(Prepared {
                 plan,
                 change: Change::Endpoint(endpoint, own),
             })
         }
-        Err(IdentError::Exhausted) => Err(ReadyError::Fault(Fault::IdentitiesExhausted)),
-        Err(IdentError::Memory) => Err(ReadyError::Memory),
+        Err(IdentError::Exhausted) => Err(PrepareError::Fault(Fault::IdentitiesExhausted)),
+        Err(IdentError::Memory) => Err(PrepareError::Memory),
     }
 }
 
-/// Readies that the endpoint of that name goes.
-pub(crate) fn ready_no_endpoint<L: Ledger>(
+/// Prepares that the endpoint of that name goes.
+pub(crate) fn prepare_no_endpoint<L: Ledger>(
     store: &mut Store,
     name: &Text,
     steps: &mut Steps<L>,
-) -> Result<Readied, ReadyError>
+) -> Result<Prepared, PrepareError>
     requires stands { StandsForSome store.old }
     requires room { store.old.state.revision < 2 ^ 64 - 1 }
-    ensures readied { ReadiesOrNot (RemoveEndpoint name.now) store.old store.new result }
+    ensures prepared { PreparesOrNot (RemoveEndpoint name.now) store.old store.new result }
     ensures sets { store.new.cache ≡ with_room store.new.cache.log.spare store.old.cache }
     ensures cost { steps.new ≤ steps.old }
 {
     let number = match store.endpoint_number(name.as_str()) {
         Some(number) => number,
-        None => return Err(ReadyError::Fault(Fault::UnknownEndpoint)),
+        None => return Err(PrepareError::Fault(Fault::UnknownEndpoint)),
     };
     let own = name.copy(store.allocator())?;
     let plan = store.plan_release(number, steps)?;
-    Ok(Readied {
+    Ok(Prepared {
         plan,
         change: Change::NoEndpoint(own, number),
     })
 }
 
 /// Places the endpoint, whose number is held.
-pub(crate) fn place_endpoint(store: &mut Store, endpoint: Endpoint, name: Text)
+pub(crate) fn accept_endpoint(store: &mut Store, endpoint: Endpoint, name: Text)
     requires may { MayChange store.old (Change.Endpoint endpoint name) }
     ensures done { Changes store.old (Change.Endpoint endpoint name) store.new }
     ensures sets { store.new.cache ≡ store.old.cache }
@@ -102,7 +102,7 @@ pub(crate) fn place_endpoint(store: &mut Store, endpoint: Endpoint, name: Text)
 }
 
 /// Takes the endpoint out, and gives its number back.
-pub(crate) fn take_out_endpoint(store: &mut Store, name: Text, number: u32)
+pub(crate) fn accept_no_endpoint(store: &mut Store, name: Text, number: u32)
     requires may { MayChange store.old (Change.NoEndpoint name number) }
     ensures done { Changes store.old (Change.NoEndpoint name number) store.new }
     ensures sets { store.new.cache ≡ store.old.cache }

@@ -1,7 +1,7 @@
 //! What a request does to a store.
 //!
-//! A request is first readied, which takes all that it needs (`ready`); then it is done (`carry_out`), or what it took is
-//! given back (`take_back`). The latter two take no memory.
+//! A request is first prepared, which takes all that it needs (`prepare`); then it is done (`accept`), or what it took is
+//! given back (`withdraw`). The latter two take no memory.
 #![tactic(auto)]
 
 mod change;
@@ -10,11 +10,11 @@ mod endpoints;
 mod error;
 mod identities;
 mod policies;
-mod readied;
+mod prepared;
 mod requests;
 
-pub use change::{carry_out, take_back};
+pub use change::{accept, withdraw};
 pub use committed::answer;
-pub use error::ReadyError;
-pub use readied::{Change, Readied};
-pub use requests::ready;
+pub use error::PrepareError;
+pub use prepared::{Change, Prepared};
+pub use requests::prepare;

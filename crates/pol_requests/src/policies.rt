@@ -12,12 +12,12 @@ ghost use Rattle.pol_peers.specs.Numbering.{GainsSelectors, LosesSelectors};
 ghost use Rattle.pol_peers.specs.References.{HasRefs};
 ghost use Rattle.pol_selcache.specs.Cache.{with_room};
 ghost use Rattle.pol_requests.specs.Causes.{policy_error};
-ghost use Rattle.pol_requests.specs.Readied.{Changes, IsCause, IsReadied, MayChange, ReadiesOrNot};
+ghost use Rattle.pol_requests.specs.Prepared.{Changes, IsCause, IsPrepared, MayChange, PreparesOrNot};
 ghost use Rattle.pol_store.specs.Store.{StandsFor, StandsForSome};
-ghost use Rattle.pol_requests.specs.declared.readied.Readied.{Readied as OneReadied};
+ghost use Rattle.pol_requests.specs.declared.prepared.Prepared.{Prepared as OnePrepared};
 
-use crate::error::ReadyError;
-use crate::readied::{Change, Readied};
+use crate::error::PrepareError;
+use crate::prepared::{Change, Prepared};
 use pol_data::{Memory, Steps};
 use pol_ident::IdentError;
 use pol_model::{Fault, Stamped};
@@ -47,13 +47,13 @@ struct KeyAndPrefixes {
     prefixes: Prefixes,
 }
 
-/// Why a policy isn't readied, where its prefixes aren't held.
-fn policy_error(error: IdentError) -> ReadyError
+/// Why a policy isn't prepared, where its prefixes aren't held.
+fn policy_error(error: IdentError) -> PrepareError
     ensures { result ≡ policy_error error }
 {
     match error {
-        IdentError::Exhausted => ReadyError::Fault(Fault::LocalExhausted),
-        IdentError::Memory => ReadyError::Memory,
+        IdentError::Exhausted => PrepareError::Fault(Fault::LocalExhausted),
+        IdentError::Memory => PrepareError::Memory,
     }
 }
 
@@ -88,7 +88,7 @@ fn new_policy(store: &Store, policy: &Policy) -> Result<NewPolicy, Memory>
 }
 
 /// The key and the prefixes of the policy of that key. `Fault` says that there is none.
-fn old_policy(store: &Store, key: &PolicyKey) -> Result<KeyAndPrefixes, ReadyError>
+fn old_policy(store: &Store, key: &PolicyKey) -> Result<KeyAndPrefixes, PrepareError>
     ensures key { IfOk result (λ old. old.key ≡ key.now) }
     ensures prefixes { IfOk result (λ old. old.prefixes ≡ prefixes_of (policy_at key.now store.now.state.policies)) }
     ensures no_fault { IfOk result (λ old. fault_of store.now.state (Remove key.now) ≡ None) }
@@ -99,20 +99,20 @@ fn old_policy(store: &Store, key: &PolicyKey) -> Result<KeyAndPrefixes, ReadyErr
             key: key.copy(store.allocator())?,
             prefixes: stamped.policy.prefixes(store.allocator())?,
         }),
-        None => Err(ReadyError::Fault(Fault::UnknownPolicy)),
+        None => Err(PrepareError::Fault(Fault::UnknownPolicy)),
     }
 }
 
-/// Readies a policy: its peers have references, and its prefixes are held.
-pub(crate) fn ready_policy<L: Ledger>(
+/// Prepares a policy: its peers have references, and its prefixes are held.
+pub(crate) fn prepare_policy<L: Ledger>(
     store: &mut Store,
     policy: &Policy,
     steps: &mut Steps<L>,
-) -> Result<Readied, ReadyError>
+) -> Result<Prepared, PrepareError>
     requires stands { StandsForSome store.old }
     requires room { store.old.state.revision < 2 ^ 64 - 1 }
     requires short { IsShortPolicy policy.now }
-    ensures readied { ReadiesOrNot (Apply policy.now) store.old store.new result }
+    ensures prepared { PreparesOrNot (Apply policy.now) store.old store.new result }
     ensures selectors { GainsSelectors store.old.cache store.new.cache }
 {
     // The call tells that the selectors fit together.
@@ -121,11 +121,11 @@ pub(crate) fn ready_policy<L: Ledger>(
     let new = new_policy(store, policy)?;
     // Before selectors are made, which takes long where there are millions of prefixes.
     if are_too_many(store.identities(), new.taken.as_slice()) {
-        return Err(ReadyError::Fault(Fault::LocalExhausted));
+        return Err(PrepareError::Fault(Fault::LocalExhausted));
     }
     store.refer(policy, steps)?;
     match store.hold_prefixes(new.taken.as_slice(), new.given_up.as_slice(), steps) {
-        Ok(plan) => Ok(Readied {
+        Ok(plan) => Ok(Prepared {
             plan,
             change: Change::Policy {
                 stamped: new.stamped,
@@ -141,27 +141,27 @@ pub(crate) fn ready_policy<L: Ledger>(
     }
 }
 
-/// Readies that the policy of that key goes.
-pub(crate) fn ready_no_policy<L: Ledger>(
+/// Prepares that the policy of that key goes.
+pub(crate) fn prepare_no_policy<L: Ledger>(
     store: &mut Store,
     key: &PolicyKey,
     steps: &mut Steps<L>,
-) -> Result<Readied, ReadyError>
+) -> Result<Prepared, PrepareError>
     requires stands { StandsForSome store.old }
     requires room { store.old.state.revision < 2 ^ 64 - 1 }
-    ensures readied { ReadiesOrNot (Remove key.now) store.old store.new result }
+    ensures prepared { PreparesOrNot (Remove key.now) store.old store.new result }
     ensures sets { store.new.cache ≡ with_room store.new.cache.log.spare store.old.cache }
 {
     let old = old_policy(store, key)?;
     let plan = store.plan_prefixes(old.prefixes.as_slice(), steps)?;
-    Ok(Readied {
+    Ok(Prepared {
         plan,
         change: Change::NoPolicy(old.key, old.prefixes),
     })
 }
 
 /// Places the policy; what one of the same key held and referred to is given up.
-pub(crate) fn put_policy(
+pub(crate) fn accept_policy(
     store: &mut Store,
     new: Stamped,
     key: PolicyKey,
@@ -178,7 +178,7 @@ pub(crate) fn put_policy(
 }
 
 /// Takes the policy out, and gives up what it held and referred to.
-pub(crate) fn take_out_policy(store: &mut Store, key: PolicyKey, given_up: Prefixes)
+pub(crate) fn accept_no_policy(store: &mut Store, key: PolicyKey, given_up: Prefixes)
     requires may { MayChange store.old (Change.NoPolicy key given_up) }
     ensures done { Changes store.old (Change.NoPolicy key given_up) store.new }
     ensures selectors { LosesSelectors store.old.cache store.new.cache }
@@ -188,10 +188,10 @@ pub(crate) fn take_out_policy(store: &mut Store, key: PolicyKey, given_up: Prefi
     store.release_prefixes(given_up.as_slice());
 }
 
-/// Gives back what a readied policy holds and refers to.
-pub(crate) fn take_back_policy(store: &mut Store, policy: &Policy, taken: &Prefixes)
+/// Gives back what a prepared policy holds and refers to.
+pub(crate) fn withdraw_policy(store: &mut Store, policy: &Policy, taken: &Prefixes)
     requires referred { HasRefs (listed_peers policy.now) store.old.cache.live }
-    ensures back { (s : State) (readied : OneReadied) → Keeps s → IsReadied s (Apply policy.now) store.old readied → taken.now ≡ policy_prefixes policy.now → StandsFor s store.new }
+    ensures back { (s : State) (prepared : OnePrepared) → Keeps s → IsPrepared s (Apply policy.now) store.old prepared → taken.now ≡ policy_prefixes policy.now → StandsFor s store.new }
     ensures selectors { LosesSelectors store.old.cache store.new.cache }
 {
     store.release_prefixes(taken.as_slice());

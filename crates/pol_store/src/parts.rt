@@ -12,7 +12,7 @@ ghost use Rattle.pol_change_log.specs.Log.{newest};
 ghost use Rattle.pol_selcache.specs.Cache.{IsPlanFor};
 ghost use Rattle.pol_selcache.specs.Live.{label_selectors};
 ghost use Rattle.pol_tables.specs.Tables.{SameNumbers, number_named};
-ghost use Rattle.pol_allocator.specs.Held.{HoldsLabels, IsSettled, Readies, with_log_room};
+ghost use Rattle.pol_allocator.specs.Held.{HoldsLabels, IsSettled, Prepares, with_log_room};
 ghost use Rattle.pol_store.specs.Parts.{begun, numbers_of, with_numbers};
 ghost use Rattle.pol_store.specs.Store.{with_rooms};
 
@@ -95,7 +95,7 @@ impl Store {
         requires held { has_row number self.old.state.identities ≡ true }
         requires settled { IsSettled (self.old.state.revision + 1) (numbers_of self.old) }
         requires room { self.old.state.revision < 2 ^ 64 - 1 }
-        ensures plan { IfOk result (λ plan. Readies (self.old.state.revision + 1) (released number self.old.state.identities) self.new.cache plan) }
+        ensures plan { IfOk result (λ plan. Prepares (self.old.state.revision + 1) (released number self.old.state.identities) self.new.cache plan) }
         ensures same { self.new ≡ with_numbers (with_log_room self.new.cache.log.spare (numbers_of self.old)) self.old }
         ensures err { OnErr result (self.new ≡ self.old) }
         ensures cost { steps.new ≤ steps.old }
@@ -107,7 +107,7 @@ impl Store {
     pub fn plan_nothing<L: Ledger>(&mut self, steps: &mut Steps<L>) -> Result<Plan, Memory>
         requires settled { IsSettled (self.old.state.revision + 1) (numbers_of self.old) }
         requires room { self.old.state.revision < 2 ^ 64 - 1 }
-        ensures plan { IfOk result (λ plan. Readies (self.old.state.revision + 1) self.old.state.identities self.new.cache plan) }
+        ensures plan { IfOk result (λ plan. Prepares (self.old.state.revision + 1) self.old.state.identities self.new.cache plan) }
         ensures same { self.new ≡ with_numbers (with_log_room self.new.cache.log.spare (numbers_of self.old)) self.old }
         ensures err { OnErr result (self.new ≡ self.old) }
         ensures cost { steps.new ≤ steps.old }
@@ -116,7 +116,7 @@ impl Store {
     }
 
     /// Raises the revision, and makes the planned changes of the sets.
-    pub fn begin(&mut self, plan: Plan)
+    pub fn accept(&mut self, plan: Plan)
         requires fits { IsPlanFor plan self.old.cache }
         requires room { self.old.state.revision < 2 ^ 64 - 1 }
         ensures begun { self.new ≡ begun plan self.old }

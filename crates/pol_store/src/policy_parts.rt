@@ -14,7 +14,7 @@ ghost use Rattle.pol_selcache.specs.Live.{AreExact};
 ghost use Rattle.pol_peers.specs.Listed.{listed_peers};
 ghost use Rattle.pol_peers.specs.Numbering.{TakesFreshNumbers};
 ghost use Rattle.pol_peers.specs.References.{HasRefs, IsMoreBy, KeepsNumbers};
-ghost use Rattle.pol_allocator.specs.Held.{AreApart, IsSettled, Readies, RefersTo};
+ghost use Rattle.pol_allocator.specs.Held.{AreApart, IsSettled, Prepares, RefersTo};
 ghost use Rattle.pol_store.specs.Parts.{numbers_of};
 ghost use Rattle.pol_store.specs.PolicyParts.{listed_of, with_cache, with_policies, with_rows};
 ghost use Rattle.pol_store.specs.Store.{with_rooms};
@@ -91,7 +91,7 @@ impl Store {
         requires once { IsDistinct same_prefix given_up.now }
         requires apart { AreApart taken.now given_up.now self.old.state.identities }
         ensures rows { OnOk result (self.new ≡ with_rows (prefixes_held taken.now self.old.state.identities) (with_cache self.new.cache self.old)) }
-        ensures plan { IfOk result (λ plan. Readies (self.old.state.revision + 1) (prefixes_released given_up.now (prefixes_held taken.now self.old.state.identities)) self.new.cache plan) }
+        ensures plan { IfOk result (λ plan. Prepares (self.old.state.revision + 1) (prefixes_released given_up.now (prefixes_held taken.now self.old.state.identities)) self.new.cache plan) }
         ensures sets { self.new.cache ≡ with_room self.new.cache.log.spare self.old.cache }
         ensures within { OnOk result (AllByRecursion IsPrefix taken.now) }
         ensures err { OnErr result (self.new ≡ self.old) }
@@ -112,7 +112,7 @@ impl Store {
         requires room { self.old.state.revision < 2 ^ 64 - 1 }
         requires settled { IsSettled (self.old.state.revision + 1) (numbers_of self.old) }
         requires once { IsDistinct same_prefix given_up.now }
-        ensures plan { IfOk result (λ plan. Readies (self.old.state.revision + 1) (prefixes_released given_up.now self.old.state.identities) self.new.cache plan) }
+        ensures plan { IfOk result (λ plan. Prepares (self.old.state.revision + 1) (prefixes_released given_up.now self.old.state.identities) self.new.cache plan) }
         ensures same { self.new ≡ with_cache (with_room self.new.cache.log.spare self.old.cache) self.old }
     {
         self.addresses = None;

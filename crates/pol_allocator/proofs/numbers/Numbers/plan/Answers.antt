@@ -1,8 +1,8 @@
 use Rattle.std.proofs.Common.{sym, subst}
 use Rattle.pol_selcache.specs.Cache.{MayPlan}
 use Rattle.pol_selcache.specs.Live.{rows_without}
-use Rattle.pol_allocator.specs.Held.{Held, Readies}
-use Rattle.pol_allocator.proofs.Readying.{readied}
+use Rattle.pol_allocator.specs.Held.{Held, Prepares}
+use Rattle.pol_allocator.proofs.Preparing.{prepared}
 use Rattle.pol_allocator.proofs.numbers.Numbers.plan.Goals as goal
 
 pub plan-requires : goal.plan-requires
@@ -12,6 +12,6 @@ plan-requires g c = record {
 
 pub returns-clause-plan : goal.returns-clause-plan
 returns-clause-plan g c =
-    subst (λ (held : Held). Readies c.args.revision (rows_without c.args.gone.now held.rows) c.plan.new.self c.in_ok-plan.plan) c.self.view_is
-    (readied c.args.revision (rows_without c.args.gone.now c.self.inside.identities) c.self.inside.selectors c.plan.new.self c.in_ok-plan.plan
+    subst (λ (held : Held). Prepares c.args.revision (rows_without c.args.gone.now held.rows) c.plan.new.self c.in_ok-plan.plan) c.self.view_is
+    (prepared c.args.revision (rows_without c.args.gone.now c.self.inside.identities) c.self.inside.selectors c.plan.new.self c.in_ok-plan.plan
     c.in_ok-plan.ensures.plan c.in_ok-plan.ensures.fits c.in_ok-plan.ensures.exact c.plan.ensures.same)

@@ -1,7 +1,7 @@
 use Rattle.std.proofs.Common.{sym, subst}
 use Rattle.pol_selcache.specs.Live.{AreExact}
 use Rattle.pol_selcache.proofs.Coming.{rows_without_none}
-use Rattle.pol_allocator.proofs.Readying.{readied_all}
+use Rattle.pol_allocator.proofs.Preparing.{prepared_all}
 use Rattle.pol_allocator.proofs.numbers.Numbers.plan_nothing.Goals as goal
 
 pub plan-requires : goal.plan-requires
@@ -16,4 +16,4 @@ plan-requires g c = record {
 }
 
 pub returns-clause-plan : goal.returns-clause-plan
-returns-clause-plan g c = readied_all c.args.self.now.rows c.args.revision c.plan.new.self.cache c.plan.result c.plan.ensures.plan
+returns-clause-plan g c = prepared_all c.args.self.now.rows c.args.revision c.plan.new.self.cache c.plan.result c.plan.ensures.plan

@@ -1,6 +1,6 @@
 use Rattle.std.proofs.Common.{true, false, sym, ◌∙◌}
 use Rattle.pol_allocator.proofs.Going.{numbers_may_go}
-use Rattle.pol_allocator.proofs.Readying.{readied_released}
+use Rattle.pol_allocator.proofs.Preparing.{prepared_released}
 use Rattle.pol_allocator.proofs.numbers.Numbers.plan_release.Goals as goal
 
 pub plan-requires : goal.plan-requires
@@ -15,8 +15,8 @@ plan-requires-else-is_last g c = record {
 
 pub returns-then-is_last-clause-plan : goal.returns-then-is_last-clause-plan
 returns-then-is_last-clause-plan g c =
-    readied_released c.args.number c.args.self.now.rows c.is_last.ensures.sound true (sym c.if-is_last.true ∙ c.is_last.ensures.last) c.args.revision c.plan.new.self.cache c.plan.result c.plan.ensures.plan
+    prepared_released c.args.number c.args.self.now.rows c.is_last.ensures.sound true (sym c.if-is_last.true ∙ c.is_last.ensures.last) c.args.revision c.plan.new.self.cache c.plan.result c.plan.ensures.plan
 
 pub returns-else-is_last-clause-plan : goal.returns-else-is_last-clause-plan
 returns-else-is_last-clause-plan g c =
-    readied_released c.args.number c.args.self.now.rows c.is_last.ensures.sound false (sym c.if-is_last.false ∙ c.is_last.ensures.last) c.args.revision c.plan-else-is_last.new.self.cache c.plan-else-is_last.result c.plan-else-is_last.ensures.plan
+    prepared_released c.args.number c.args.self.now.rows c.is_last.ensures.sound false (sym c.if-is_last.false ∙ c.is_last.ensures.last) c.args.revision c.plan-else-is_last.new.self.cache c.plan-else-is_last.result c.plan-else-is_last.ensures.plan

@@ -3,7 +3,7 @@ use Rattle.pol_history.specs.declared.machine.Event.TheVariants as step
 use Rattle.pol_history.specs.Machine.{Machine}
 use Rattle.pol_repo.specs.Cost.{label_peers}
 use Rattle.pol_repo.specs.Repository.{state_in}
-use Rattle.pol_requests.specs.Readied.{is_of_policy}
+use Rattle.pol_requests.specs.Prepared.{is_of_policy}
 use Rattle.pol_core.specs.Rows.{by_name}
 use Rattle.pol_core.specs.Stands.{Kept, Stands, StepsTo, Stored, kept_of, options_in, options_of}
 use Rattle.pol_core.proofs.Begun.{stands_after}
