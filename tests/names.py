@@ -10,17 +10,10 @@ import program
 
 TYPE = re.compile(r"(?m)^(pub )?(?:pub\(\w+\) )?(?:enum|struct|trait|union|type) (\w+)")
 TWICE = {
-    "Change": "pol_change_list pol_change_log pol_requests",
-    "Endpoints": "pol_sanitize pol_tables",
     "Entries": "pol_audit pol_rule",
     "Hints": "pol_pool pol_trie",
-    "Kind": "ident_bench pol_json pol_mapkey pol_sanitize repo_bench",
-    "Moves": "cache_bench pol_sets",
-    "Named": "pol_tables repo_bench",
+    "Kind": "pol_mapkey pol_sanitize",
     "Node": "pol_arena pol_lpm pol_node pol_trie",
-    "Numbers": "pol_allocator pol_audit",
-    "Place": "pol_ident pol_rule",
-    "Places": "pol_interner pol_model",
     "Reading": "pol_map_dump pol_parallel_lines pol_phases",
     "Slot": "pol_arena pol_lpm pol_node",
 }

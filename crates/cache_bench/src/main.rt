@@ -24,7 +24,7 @@ use std::sync::ledger::{Blank, Ledger};
 
 /// What comes and goes.
 #[derive(Clone, Copy)]
-enum Moves {
+enum WhatMoves {
     Identity,
     Selector,
 }
@@ -34,7 +34,7 @@ fn time_all<R: Clock + AllocGlobal, L: Ledger>(
     rt: &R,
     cache: &mut SelectorCache,
     identities: &mut Identities,
-    moves: Moves,
+    moves: WhatMoves,
     ask: Ask,
     count: u32,
     steps: &mut Steps<L>,
@@ -44,8 +44,8 @@ fn time_all<R: Clock + AllocGlobal, L: Ledger>(
 {
     add_all(rt.alloc(), cache, identities, ask, count, steps)?;
     match moves {
-        Moves::Selector => Ok(Some(time_oldest(rt, cache, identities, ask, steps)?)),
-        Moves::Identity => {
+        WhatMoves::Selector => Ok(Some(time_oldest(rt, cache, identities, ask, steps)?)),
+        WhatMoves::Identity => {
             let holder = holder_for(rt.alloc(), ask)?;
             Ok(rounds(rt, cache, identities, &holder, steps))
         }
@@ -56,7 +56,7 @@ fn time_all<R: Clock + AllocGlobal, L: Ledger>(
 fn time_over<R: Clock + AllocGlobal, L: Ledger>(
     rt: &R,
     blank: Blank,
-    moves: Moves,
+    moves: WhatMoves,
     ask: Ask,
     count: u32,
 ) -> Result<Option<(u128, u128)>>
@@ -81,7 +81,7 @@ fn time_over<R: Clock + AllocGlobal, L: Ledger>(
 fn measure<R: Clock + Eprint + AllocGlobal>(
     rt: &R,
     what: &str,
-    moves: Moves,
+    moves: WhatMoves,
     ask: Ask,
     count: u32,
 ) -> Result<()> {
@@ -100,23 +100,23 @@ fn of_identities<R: Clock + Eprint + AllocGlobal>(rt: &R) -> Result<()> {
     let all = "an identity that all take";
     let none_filed = "the same, where none is filed under a value";
     let prefix = "an identity of a prefix that one takes";
-    measure(rt, one, Moves::Identity, Ask::OwnValue, 10)?;
-    measure(rt, one, Moves::Identity, Ask::OwnValue, 1_000)?;
-    measure(rt, one, Moves::Identity, Ask::OwnValue, 10_000)?;
-    measure(rt, all, Moves::Identity, Ask::SameValue, 1_000)?;
-    measure(rt, none_filed, Moves::Identity, Ask::NoValue, 1_000)?;
-    measure(rt, prefix, Moves::Identity, Ask::OwnPrefix, 1_000)?;
-    measure(rt, prefix, Moves::Identity, Ask::OwnPrefix, 10_000)
+    measure(rt, one, WhatMoves::Identity, Ask::OwnValue, 10)?;
+    measure(rt, one, WhatMoves::Identity, Ask::OwnValue, 1_000)?;
+    measure(rt, one, WhatMoves::Identity, Ask::OwnValue, 10_000)?;
+    measure(rt, all, WhatMoves::Identity, Ask::SameValue, 1_000)?;
+    measure(rt, none_filed, WhatMoves::Identity, Ask::NoValue, 1_000)?;
+    measure(rt, prefix, WhatMoves::Identity, Ask::OwnPrefix, 1_000)?;
+    measure(rt, prefix, WhatMoves::Identity, Ask::OwnPrefix, 10_000)
 }
 
 /// Selectors that go and come again.
 fn of_selectors<R: Clock + Eprint + AllocGlobal>(rt: &R) -> Result<()> {
     let value = "the oldest, of a value";
     let prefix = "the oldest, of a prefix";
-    measure(rt, value, Moves::Selector, Ask::OwnValue, 1_000)?;
-    measure(rt, value, Moves::Selector, Ask::OwnValue, 10_000)?;
-    measure(rt, prefix, Moves::Selector, Ask::OwnPrefix, 1_000)?;
-    measure(rt, prefix, Moves::Selector, Ask::OwnPrefix, 10_000)
+    measure(rt, value, WhatMoves::Selector, Ask::OwnValue, 1_000)?;
+    measure(rt, value, WhatMoves::Selector, Ask::OwnValue, 10_000)?;
+    measure(rt, prefix, WhatMoves::Selector, Ask::OwnPrefix, 1_000)?;
+    measure(rt, prefix, WhatMoves::Selector, Ask::OwnPrefix, 10_000)
 }
 
 fn main(rt: HostRuntime) -> Result<()> {

@@ -2,7 +2,7 @@
 ghost use Rattle.std.specs.Prelude.{◌≡◌, IfOk};
 ghost use Rattle.pol_change_log.specs.Log.{newest};
 
-use pol_change_log::{Change, ChangeLog};
+use pol_change_log::{ChangeLog, SetChange};
 use pol_data::Memory;
 use pol_sets::IdSet;
 use std::alloc::Global;
@@ -16,10 +16,10 @@ fn one(alloc: Global, id: u32) -> Result<IdSet, Memory> {
 }
 
 /// That number 257 came to the selector's set.
-fn came(alloc: Global, selector: u64, revision: u64) -> Result<Change, Memory>
+fn came(alloc: Global, selector: u64, revision: u64) -> Result<SetChange, Memory>
     ensures { IfOk result (λ c. c.revision ≡ revision) }
 {
-    Ok(Change {
+    Ok(SetChange {
         selector,
         revision,
         gained: one(alloc, 257)?,
@@ -28,13 +28,13 @@ fn came(alloc: Global, selector: u64, revision: u64) -> Result<Change, Memory>
 }
 
 /// That it came at an odd revision, and went at an even one.
-fn came_or_went(alloc: Global, selector: u64, revision: u64) -> Result<Change, Memory>
+fn came_or_went(alloc: Global, selector: u64, revision: u64) -> Result<SetChange, Memory>
     ensures { IfOk result (λ c. c.revision ≡ revision) }
 {
     if revision % 2 == 1 {
         return came(alloc, selector, revision);
     }
-    Ok(Change {
+    Ok(SetChange {
         selector,
         revision,
         gained: IdSet::new(alloc),

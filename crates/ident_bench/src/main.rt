@@ -55,16 +55,16 @@ enum Holder {
 
 /// Which of both.
 #[derive(Clone, Copy)]
-enum Kind {
+enum HolderKind {
     Labels,
     Prefix,
 }
 
 /// Four labels, or a prefix of 24 bits.
-fn holder_for(alloc: Global, kind: Kind, number: u32) -> Result<Holder> {
+fn holder_for(alloc: Global, kind: HolderKind, number: u32) -> Result<Holder> {
     match kind {
-        Kind::Labels => Ok(Holder::Labels(label_set(alloc, number)?)),
-        Kind::Prefix => {
+        HolderKind::Labels => Ok(Holder::Labels(label_set(alloc, number)?)),
+        HolderKind::Prefix => {
             let bits = number.wrapping_mul(1 << 8);
             Ok(Holder::Prefix(Prefix::new(Addr { bits }, 24)))
         }
@@ -72,7 +72,7 @@ fn holder_for(alloc: Global, kind: Kind, number: u32) -> Result<Holder> {
 }
 
 /// So many of them, from a number on.
-fn holders(alloc: Global, kind: Kind, first: u32, count: u32) -> Result<Vec<Holder>> {
+fn holders(alloc: Global, kind: HolderKind, first: u32, count: u32) -> Result<Vec<Holder>> {
     let mut all = Vec::new(alloc);
     for i in 0..count {
         all.push(holder_for(alloc, kind, first.wrapping_add(i))?)?;
@@ -182,7 +182,7 @@ fn time_turns<R: Clock + AllocGlobal>(
 fn grow<R: Clock + AllocGlobal>(
     rt: &R,
     identities: &mut Identities,
-    kind: Kind,
+    kind: HolderKind,
     first: u32,
     count: u32,
 ) -> Result<u128> {
@@ -195,7 +195,7 @@ fn grow<R: Clock + AllocGlobal>(
 fn fill<R: Clock + AllocGlobal>(
     rt: &R,
     identities: &mut Identities,
-    kind: Kind,
+    kind: HolderKind,
     count: u32,
 ) -> Result<u128>
     requires { 1 ≤ count }
@@ -225,9 +225,9 @@ fn time_heading<R: Clock + AllocGlobal>(
 }
 
 /// Headings under which one stands, and under which each does.
-fn headings(kind: Kind) -> (HeadingRef<'static>, HeadingRef<'static>) {
+fn headings(kind: HolderKind) -> (HeadingRef<'static>, HeadingRef<'static>) {
     match kind {
-        Kind::Labels => {
+        HolderKind::Labels => {
             let app = HeadingRef::Label {
                 key: "app",
                 value: "web-1",
@@ -238,7 +238,7 @@ fn headings(kind: Kind) -> (HeadingRef<'static>, HeadingRef<'static>) {
             };
             (app, namespace)
         }
-        Kind::Prefix => {
+        HolderKind::Prefix => {
             let one = Prefix::new(Addr { bits: 1 << 8 }, 24);
             let all = Prefix::new(Addr { bits: 0 }, 0);
             (HeadingRef::Prefix(one), HeadingRef::Prefix(all))
@@ -251,7 +251,7 @@ fn time_at<R: Clock + Eprint + AllocGlobal>(
     rt: &R,
     identities: &mut Identities,
     what: &str,
-    kind: Kind,
+    kind: HolderKind,
     rows: u32,
 ) -> Result<()>
     requires { 501 ≤ rows }
@@ -268,7 +268,12 @@ fn time_at<R: Clock + Eprint + AllocGlobal>(
     Ok(())
 }
 
-fn measure<R: Clock + Eprint + AllocGlobal>(rt: &R, what: &str, kind: Kind, rows: u32) -> Result<()>
+fn measure<R: Clock + Eprint + AllocGlobal>(
+    rt: &R,
+    what: &str,
+    kind: HolderKind,
+    rows: u32,
+) -> Result<()>
     requires { 501 ≤ rows }
 {
     let mut identities = Identities::new(rt.alloc())?;
@@ -276,8 +281,8 @@ fn measure<R: Clock + Eprint + AllocGlobal>(rt: &R, what: &str, kind: Kind, rows
 }
 
 fn main(rt: HostRuntime) -> Result<()> {
-    measure(&rt, "label sets", Kind::Labels, 1_000)?;
-    measure(&rt, "label sets", Kind::Labels, 65_280)?;
-    measure(&rt, "prefixes", Kind::Prefix, 1_000)?;
-    measure(&rt, "prefixes", Kind::Prefix, 65_280)
+    measure(&rt, "label sets", HolderKind::Labels, 1_000)?;
+    measure(&rt, "label sets", HolderKind::Labels, 65_280)?;
+    measure(&rt, "prefixes", HolderKind::Prefix, 1_000)?;
+    measure(&rt, "prefixes", HolderKind::Prefix, 65_280)
 }

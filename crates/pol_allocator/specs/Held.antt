@@ -1,4 +1,4 @@
--- What a contract sees of `Numbers`, and what its calls prepare and do.
+-- What a contract sees of `Allocator`, and what its calls prepare and do.
 use Rattle.std.specs.Prelude.{ℕ, ◌≡◌, ◌<◌, ◌⊎◌, true, List, []}
 use Rattle.pol_rule.specs.declared.policy.Peer.{Peer}
 use Rattle.pol_peers.specs.References.{IsMoreBy}

@@ -5,7 +5,7 @@ ghost use Rattle.pol_selcache.specs.Cache.{MayPlan};
 ghost use Rattle.pol_selcache.specs.Live.{label_selectors};
 ghost use Rattle.pol_allocator.specs.Held.{HoldsLabels, IsSettled, Prepares, with_log_room};
 
-use crate::Numbers;
+use crate::Allocator;
 use pol_data::{Memory, Steps};
 use pol_ident::IdentError;
 use pol_labels::LabelSet;
@@ -21,7 +21,7 @@ pub struct LabelsHeld {
     pub plan: Plan,
 }
 
-impl Numbers {
+impl Allocator {
     /// What changes of the sets where this number was taken: nothing where it isn't new.
     fn plan_taken<L: Ledger>(
         &mut self,

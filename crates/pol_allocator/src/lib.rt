@@ -6,15 +6,15 @@
 //! takes none: `carry_out`, `release`, `release_prefixes`, `unrefer`.
 #![tactic(auto)]
 
+mod allocator;
 mod hold;
 pub mod laws;
 mod moves;
-mod numbers;
 mod peers;
 mod plan;
 mod prefixes;
 mod release;
 mod shared;
 
+pub use allocator::Allocator;
 pub use hold::LabelsHeld;
-pub use numbers::Numbers;

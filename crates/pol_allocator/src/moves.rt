@@ -13,7 +13,7 @@ ghost use Rattle.pol_selcache.specs.Live.{AreExact, rows_without};
 ghost use Rattle.pol_prefixes.specs.Beyond.{AreBeyond};
 ghost use Rattle.pol_allocator.specs.Held.{Prepares, with_log_room};
 
-use crate::Numbers;
+use crate::Allocator;
 use crate::shared::{once_held, once_planned, once_released};
 use pol_addr::Prefix;
 use pol_data::{Memory, Steps};
@@ -22,7 +22,7 @@ use pol_prefixes::{gone_numbers, hold_prefixes, release_prefixes};
 use pol_selcache::Plan;
 use std::sync::ledger::Ledger;
 
-impl Numbers {
+impl Allocator {
     /// Holds the prefixes once more, and gives the numbers that are new.
     pub(crate) fn take(&mut self, prefixes: &[Prefix]) -> Result<Vec<u32>, IdentError>
         ensures rows { OnOk result (self.new ≡ record self.old { rows = prefixes_held prefixes.now self.old.rows }) }

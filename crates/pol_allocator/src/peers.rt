@@ -7,13 +7,13 @@ ghost use Rattle.pol_peers.specs.Listed.{listed_peers};
 ghost use Rattle.pol_peers.specs.References.{HasRefs, IsMoreBy, KeepsNumbers, steps_to_hold};
 ghost use Rattle.pol_allocator.specs.Held.{RefersTo};
 
-use crate::Numbers;
+use crate::Allocator;
 use pol_data::{Memory, Steps};
 use pol_peers::{drop_peers, hold_peers};
 use pol_rule::Policy;
 use std::sync::ledger::Ledger;
 
-impl Numbers {
+impl Allocator {
     /// One reference more for each peer that the policy lists, or for none. A new selector has the held numbers that its
     /// peer selects; the sets of the others stay as they are. `Memory` is want of memory, or a count at its end.
     pub fn refer<L: Ledger>(&mut self, policy: &Policy, steps: &mut Steps<L>) -> Result<(), Memory>

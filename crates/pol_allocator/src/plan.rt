@@ -4,12 +4,12 @@ ghost use Rattle.pol_selcache.specs.Cache.{MayPlan};
 ghost use Rattle.pol_selcache.specs.Live.{label_selectors, rows_without};
 ghost use Rattle.pol_allocator.specs.Held.{IsSettled, Prepares, with_log_room};
 
-use crate::Numbers;
+use crate::Allocator;
 use pol_data::{Memory, Steps};
 use pol_selcache::Plan;
 use std::sync::ledger::Ledger;
 
-impl Numbers {
+impl Allocator {
     /// What changes where some numbers come and others go, which are all held now. No set is changed yet. The one error
     /// is want of memory.
     pub(crate) fn plan<L: Ledger>(

@@ -9,14 +9,14 @@ ghost use Rattle.pol_model.specs.Prefixes.{prefixes_held, prefixes_released};
 ghost use Rattle.pol_selcache.specs.Cache.{with_room};
 ghost use Rattle.pol_allocator.specs.Held.{AreApart, IsSettled, Prepares, with_log_room};
 
-use crate::Numbers;
+use crate::Allocator;
 use pol_addr::Prefix;
 use pol_data::{Memory, Steps};
 use pol_ident::IdentError;
 use pol_selcache::Plan;
 use std::sync::ledger::Ledger;
 
-impl Numbers {
+impl Allocator {
     /// Holds the prefixes of a policy once more, and finds what that changes of the sets at a revision, and what it changes
     /// that those of another policy are released then. No set is changed yet.
     ///

@@ -6,7 +6,7 @@ ghost use Rattle.pol_model_laws.specs.Holding.{has_row};
 ghost use Rattle.pol_model_laws.specs.Keeps.{KeepsRows};
 ghost use Rattle.pol_allocator.specs.Held.{IsSettled, Prepares, with_log_room};
 
-use crate::Numbers;
+use crate::Allocator;
 use pol_data::{Memory, Steps};
 use pol_model::RESERVED_LAST;
 use pol_selcache::Plan;
@@ -19,7 +19,7 @@ fn goes_with_one(number: u32, holders: u64) -> bool
     number > RESERVED_LAST && holders == 1
 }
 
-impl Numbers {
+impl Allocator {
     /// Whether the number goes with one holder less: it has no other, and isn't a reserved one.
     fn is_last(&self, number: u32) -> bool
         requires held { has_row number self.now.rows ≡ true }

@@ -3,7 +3,7 @@ use Rattle.std.proofs.Common.{◌≡◌, ℕ, ◌≤◌, ◌==◌, Bool, true, f
 use Rattle.std.proofs.lemmas.Bool.{cases_lt, lt-ltb, le-ltb, le-leb, lt-leb}
 use Rattle.std.proofs.lemmas.Option.{same_Some}
 use Rattle.pol_sets.specs.declared.sets.Move.{Move}
-use Rattle.pol_change_log.specs.declared.change.Change.{Change}
+use Rattle.pol_change_log.specs.declared.change.SetChange.{SetChange}
 use Rattle.pol_change_log.specs.Log.{is_later_of, newest_of, InOrder}
 use Rattle.pol_change_log.specs.Net.{net, after_all}
 use Rattle.pol_change_log.specs.Recorded.{horizon_of, changes_of, changes_until, SinceTellsDifference}
@@ -11,12 +11,12 @@ use Rattle.pol_change_log.specs.Sets.{AllFit, IsMove}
 use Rattle.pol_change_log.proofs.LogLemmas.{none_later, kept_changes_tell}
 use Rattle.pol_change_log.proofs.NetLemmas.{after-ascends, after-append, fit-append, net_is_exact}
 
-later_first : (b : Bool) (c : Change) (all later until : List Change) → all ≡ later ++ until → cond b (c ∷ all) all ≡ cond b (c ∷ later) later ++ until
+later_first : (b : Bool) (c : SetChange) (all later until : List SetChange) → all ≡ later ++ until → cond b (c ∷ all) all ≡ cond b (c ∷ later) later ++ until
 later_first true c all later until same = ap (λ ds. c ∷ ds) same
 later_first false c all later until same = same
 
 -- the later changes come first, and then the others
-split_at : (selector revision horizon : ℕ) (cs : List Change) → InOrder horizon cs → changes_of selector cs ≡ filter (is_later_of selector revision) cs ++ changes_until selector revision cs
+split_at : (selector revision horizon : ℕ) (cs : List SetChange) → InOrder horizon cs → changes_of selector cs ≡ filter (is_later_of selector revision) cs ++ changes_until selector revision cs
 split_at selector revision horizon [] order = refl
 split_at selector revision horizon (c ∷ cs) order =
     let rest = split_at selector revision horizon cs order.1 in

@@ -4,33 +4,33 @@ use Rattle.std.specs.Prelude.{slice_get}
 use Rattle.std.specs.Option.{option_map_or}
 use Rattle.std.proofs.lemmas.Bool.{cases_lt, lt-ltb, le-ltb}
 use Rattle.std.proofs.lemmas.List.{length-take}
-use Rattle.pol_change_log.specs.declared.change.Change.{Change}
+use Rattle.pol_change_log.specs.declared.change.SetChange.{SetChange}
 use Rattle.pol_change_log.specs.Log.{Log, recorded, is_later_of, newest, newest_of, InOrder, IsSound}
 use Rattle.pol_change_log.specs.Net.{net}
 use Rattle.pol_change_log.specs.Recorded.{horizon_of, LogsKeepLast, KeptChangesTell}
 
 -- ---- what is kept
-take_take : (n m : ℕ) (cs : List Change) → n ≤ m → take n (take m cs) ≡ take n cs
+take_take : (n m : ℕ) (cs : List SetChange) → n ≤ m → take n (take m cs) ≡ take n cs
 take_take zero m cs within = refl
 take_take (suc n) zero cs within = absurd (omega arith)
 take_take (suc n) (suc m) [] within = refl
 take_take (suc n) (suc m) (c ∷ cs) within = ap (λ ds. c ∷ ds) (take_take n m cs (omega arith))
 
-next_kept : (n : ℕ) (c : Change) (kept all : List Change) → kept ≡ take n all → take n (c ∷ kept) ≡ take n (c ∷ all)
+next_kept : (n : ℕ) (c : SetChange) (kept all : List SetChange) → kept ≡ take n all → take n (c ∷ kept) ≡ take n (c ∷ all)
 next_kept zero c kept all keeps = refl
 next_kept (suc n) c kept all keeps = ap (λ ds. c ∷ ds) (ap (take n) keeps ∙ take_take n (suc n) all (omega arith))
 
 -- the revision of the change that exactly so many follow, or else this one
-abbrev pub revision_at : ℕ → List Change → ℕ → ℕ
+abbrev pub revision_at : ℕ → List SetChange → ℕ → ℕ
 revision_at n cs other = option_map_or (λ c. c.revision) (slice_get cs n) other
 
 -- the first of the changes that are left out, or where all are kept what was before
-left_out : (n : ℕ) (all : List Change) → revision_at n (take (suc n) all) (revision_at (suc n) all 0) ≡ revision_at n all 0
+left_out : (n : ℕ) (all : List SetChange) → revision_at n (take (suc n) all) (revision_at (suc n) all 0) ≡ revision_at n all 0
 left_out n [] = refl
 left_out zero (c ∷ all) = refl
 left_out (suc n) (c ∷ all) = left_out n all
 
-next_horizon : (n : ℕ) (kept all : List Change) (horizon : ℕ) → kept ≡ take (suc n) all → horizon ≡ revision_at (suc n) all 0 → revision_at n kept horizon ≡ revision_at n all 0
+next_horizon : (n : ℕ) (kept all : List SetChange) (horizon : ℕ) → kept ≡ take (suc n) all → horizon ≡ revision_at (suc n) all 0 → revision_at n kept horizon ≡ revision_at n all 0
 next_horizon n kept all horizon keeps is = (λ i. revision_at n (keeps i) (is i)) ∙ left_out n all
 
 pub logs_keep_last : LogsKeepLast
@@ -43,7 +43,7 @@ logs_keep_last = record {
 }
 
 -- ---- a log stays in order
-order_kept : (n horizon : ℕ) (cs : List Change) → InOrder horizon cs → (newest_of (revision_at n cs horizon) (take n cs) ≡ newest_of horizon cs) × InOrder (revision_at n cs horizon) (take n cs)
+order_kept : (n horizon : ℕ) (cs : List SetChange) → InOrder horizon cs → (newest_of (revision_at n cs horizon) (take n cs) ≡ newest_of horizon cs) × InOrder (revision_at n cs horizon) (take n cs)
 order_kept zero horizon [] order = (refl, tt)
 order_kept (suc n) horizon [] order = (refl, tt)
 order_kept zero horizon (c ∷ cs) order = (refl, tt)
@@ -51,7 +51,7 @@ order_kept (suc n) horizon (c ∷ cs) order =
     let rest = order_kept n horizon cs order.1 in
     (refl, (rw rest.0 order.0, rest.1))
 
-pub recorded_sound : (log : Log) (c : Change) → IsSound log → newest log ≤ c.revision → IsSound (recorded log c)
+pub recorded_sound : (log : Log) (c : SetChange) → IsSound log → newest log ≤ c.revision → IsSound (recorded log c)
 recorded_sound log c sound order =
     let rest = order_kept 65535 log.horizon log.kept sound.in_order in
     record {
@@ -60,13 +60,13 @@ recorded_sound log c sound order =
     }
 
 -- ---- what is left out isn't later than the horizon
-pub none_later : (selector revision horizon : ℕ) (cs : List Change) → InOrder horizon cs → newest_of horizon cs ≤ revision → filter (is_later_of selector revision) cs ≡ []
+pub none_later : (selector revision horizon : ℕ) (cs : List SetChange) → InOrder horizon cs → newest_of horizon cs ≤ revision → filter (is_later_of selector revision) cs ≡ []
 none_later selector revision horizon [] order most = refl
 none_later selector revision horizon (c ∷ cs) order most =
     let next : newest_of horizon cs ≤ c.revision = order.0 in
     rw (le-ltb revision c.revision most) (none_later selector revision horizon cs order.1 (omega arith))
 
-kept_tell : (selector revision n : ℕ) (cs : List Change) → InOrder 0 cs → revision_at n cs 0 ≤ revision → filter (is_later_of selector revision) (take n cs) ≡ filter (is_later_of selector revision) cs
+kept_tell : (selector revision n : ℕ) (cs : List SetChange) → InOrder 0 cs → revision_at n cs 0 ≤ revision → filter (is_later_of selector revision) (take n cs) ≡ filter (is_later_of selector revision) cs
 kept_tell selector revision zero [] order most = refl
 kept_tell selector revision (suc n) [] order most = refl
 kept_tell selector revision zero (c ∷ cs) order most = sym (none_later selector revision 0 (c ∷ cs) order most)

@@ -3,7 +3,7 @@ use Rattle.std.proofs.Common.{◌≡◌, ℕ, ◌==◌, Bool, true, false, not, 
 use Rattle.std.proofs.lemmas.Bool.{lt-ltb, le-ltb}
 use Rattle.std.proofs.lemmas.List.Sums.{sum_by-append}
 use Rattle.pol_sets.specs.declared.sets.Move.{Move}
-use Rattle.pol_change_log.specs.declared.change.Change.{Change}
+use Rattle.pol_change_log.specs.declared.change.SetChange.{SetChange}
 use Rattle.pol_change_log.specs.Ids.{has, without, union}
 use Rattle.pol_change_log.specs.Net.{times, surplus, came, went, net, move_of, joined, moved, after_all}
 use Rattle.pol_change_log.specs.Sets.{Fits, AllFit, IsMove, NetIsExact, NetsJoin, DifferencesLead}
@@ -102,7 +102,7 @@ times-append id xs ys = sum_by-append (λ own. cond (own == id) 1 0) xs ys
 sums_balance : (came more went less first middle last : ℕ) → more + first ≡ less + middle → came + middle ≡ went + last → (came + more) + first ≡ (went + less) + last
 sums_balance came more went less first middle last older newer = omega arith
 
-balance : (id : ℕ) (ids : List ℕ) (cs : List Change) → AllFit ids cs → times id (came cs) + one_if (has id ids) ≡ times id (went cs) + one_if (has id (after_all ids cs))
+balance : (id : ℕ) (ids : List ℕ) (cs : List SetChange) → AllFit ids cs → times id (came cs) + one_if (has id ids) ≡ times id (went cs) + one_if (has id (after_all ids cs))
 balance id ids [] fit = refl
 balance id ids (c ∷ older) fit =
     rw (times-append id c.gained (came older), times-append id c.lost (went older))
@@ -116,7 +116,7 @@ more_bits false true came went same = lt-ltb went came (omega arith)
 more_bits false false came went same = le-ltb went came (omega arith)
 
 -- ---- the net change
-pub after-ascends : (ids : List ℕ) (cs : List Change) → Ascends ids → Ascends (after_all ids cs)
+pub after-ascends : (ids : List ℕ) (cs : List SetChange) → Ascends ids → Ascends (after_all ids cs)
 after-ascends ids [] ascend = ascend
 after-ascends ids (c ∷ older) ascend = moved-ascends (after_all ids older) (move_of c) (after-ascends ids older ascend)
 
@@ -134,11 +134,11 @@ net_is_exact selector ids cs ascend fit = record {
 }
 
 -- ---- two stretches of changes
-pub after-append : (ids : List ℕ) (newer older : List Change) → after_all ids (newer ++ older) ≡ after_all (after_all ids older) newer
+pub after-append : (ids : List ℕ) (newer older : List SetChange) → after_all ids (newer ++ older) ≡ after_all (after_all ids older) newer
 after-append ids [] older = refl
 after-append ids (c ∷ newer) older = ap (λ own. moved own (move_of c)) (after-append ids newer older)
 
-pub fit-append : (ids : List ℕ) (newer older : List Change) → AllFit ids (newer ++ older) → AllFit ids older × AllFit (after_all ids older) newer
+pub fit-append : (ids : List ℕ) (newer older : List SetChange) → AllFit ids (newer ++ older) → AllFit ids older × AllFit (after_all ids older) newer
 fit-append ids [] older fit = (fit, tt)
 fit-append ids (c ∷ newer) older fit =
     let rest = fit-append ids newer older fit.1 in

@@ -8,13 +8,13 @@ use Rattle.std.proofs.lemmas.List.{length-map, length-take, take_all, take-map}
 use Rattle.std.proofs.lemmas.Option.{slice_get_past, slice_get-map}
 use Rattle.pol_data.proofs.Every.{every-take}
 use Rattle.pol_arena.specs.Twin.{Entry, Twin, after_push}
-use Rattle.pol_change_log.specs.declared.change.Change.{Change}
+use Rattle.pol_change_log.specs.declared.change.SetChange.{SetChange}
 use Rattle.pol_change_log.specs.Log.{recorded, newest_of, IsSound}
 use Rattle.pol_change_log.specs.Nodes.{values, log_of, IsKept, with_place, horizon_with_place}
 use Rattle.pol_change_log.proofs.LogLemmas.{recorded_sound}
 
 -- the revision of a node's change
-revision_of_value : (horizon : ℕ) (o : Option (Entry Change)) → option_map_or (λ c. c.revision) (option_map (λ e. e.value) o) horizon ≡ option_map_or (λ e. e.value.revision) o horizon
+revision_of_value : (horizon : ℕ) (o : Option (Entry SetChange)) → option_map_or (λ c. c.revision) (option_map (λ e. e.value) o) horizon ≡ option_map_or (λ e. e.value.revision) o horizon
 revision_of_value horizon None = refl
 revision_of_value horizon (Some e) = refl
 
@@ -31,18 +31,18 @@ count_more count len same below = omega arith
 count_full : (count len taken : ℕ) → count ≡ len → len ≡ 65536 → taken ≡ min 65535 len → min 65536 (count + 1) ≡ suc taken
 count_full count len taken same full is = omega arith
 
-module _ (nodes : Twin Change) (count horizon spare : ℕ) (kept : IsKept nodes count horizon spare) (c : Change) (node : ℕ) where
+module _ (nodes : Twin SetChange) (count horizon spare : ℕ) (kept : IsKept nodes count horizon spare) (c : SetChange) (node : ℕ) where
   -- the nodes after the change
-  abbrev pub nodes_after : Twin Change
+  abbrev pub nodes_after : Twin SetChange
   nodes_after = after_push (with_place nodes) (c.selector % 65536) c node
 
   -- as many as may be are kept, or fewer
   at_most : length nodes.ages ≤ 65536
-  at_most = let few = kept.sound.few in let same = length-map nodes.ages (λ (e : Entry Change). e.value) in omega arith
+  at_most = let few = kept.sound.few in let same = length-map nodes.ages (λ (e : Entry SetChange). e.value) in omega arith
 
   pub log_after : log_of nodes_after (horizon_with_place nodes horizon) (spare - 1) ≡ recorded (log_of nodes horizon spare) c
   log_after =
-      let same : length (values nodes.ages) ≡ length nodes.ages = length-map nodes.ages (λ (e : Entry Change). e.value) in
+      let same : length (values nodes.ages) ≡ length nodes.ages = length-map nodes.ages (λ (e : Entry SetChange). e.value) in
       elim (cases_lt (length nodes.ages) 65536) [
         | inl below ↦
             let all : take 65535 (values nodes.ages) ≡ values nodes.ages = take_all 65535 (values nodes.ages) (omega arith) in
@@ -50,16 +50,16 @@ module _ (nodes : Twin Change) (count horizon spare : ℕ) (kept : IsKept nodes 
             rw (lt-ltb (length nodes.ages) 65536 below)
             (λ i. record {
               kept = c ∷ sym all i;
-              horizon = option_map_or (λ (d : Change). d.revision) (sym none i) horizon;
+              horizon = option_map_or (λ (d : SetChange). d.revision) (sym none i) horizon;
               spare = spare - 1;
             })
         | inr above ↦
             let full : length nodes.ages ≡ 65536 = omega (arith, at_most) in
-            let last : slice_get (values nodes.ages) 65535 ≡ option_map (λ e. e.value) (slice_get nodes.ages 65535) = slice_get-map (λ (e : Entry Change). e.value) nodes.ages 65535 in
+            let last : slice_get (values nodes.ages) 65535 ≡ option_map (λ e. e.value) (slice_get nodes.ages 65535) = slice_get-map (λ (e : Entry SetChange). e.value) nodes.ages 65535 in
             rw (le-ltb (length nodes.ages) 65536 above, full)
             (λ i. record {
-              kept = c ∷ sym (take-map (λ (e : Entry Change). e.value) 65535 nodes.ages) i;
-              horizon = sym (ap (λ o. option_map_or (λ (d : Change). d.revision) o horizon) last ∙ revision_of_value horizon (slice_get nodes.ages 65535)) i;
+              kept = c ∷ sym (take-map (λ (e : Entry SetChange). e.value) 65535 nodes.ages) i;
+              horizon = sym (ap (λ o. option_map_or (λ (d : SetChange). d.revision) o horizon) last ∙ revision_of_value horizon (slice_get nodes.ages 65535)) i;
               spare = spare - 1;
             })
       ]
@@ -81,7 +81,7 @@ module _ (nodes : Twin Change) (count horizon spare : ℕ) (kept : IsKept nodes 
             record {
               sound = sound;
               counted = rw (le-ltb (length nodes.ages) 65536 above) (count_full count (length nodes.ages) _ kept.counted full (length-take (length nodes.ages - 1) nodes.ages ∙ ap (λ n. min (n - 1) (length nodes.ages)) full));
-              placed = rw (le-ltb (length nodes.ages) 65536 above) (refl, every-take (λ (e : Entry Change). e.chain ≡ e.value.selector % 65536) (length nodes.ages - 1) nodes.ages kept.placed);
+              placed = rw (le-ltb (length nodes.ages) 65536 above) (refl, every-take (λ (e : Entry SetChange). e.chain ≡ e.value.selector % 65536) (length nodes.ages - 1) nodes.ages kept.placed);
               room = rw (le-ltb (length nodes.ages) 65536 above, add-sub_cancel nodes.spare 1) (room_full spare count nodes.spare (rw kept.counted above));
               chains = rw (le-ltb (length nodes.ages) 65536 above) chains;
             }

@@ -2,13 +2,13 @@
 use Rattle.std.specs.Prelude.{ℕ, ◌-◌, ◌≤◌, Bool, ◌==◌, ◌&&◌, nat_lt, if◌then◌else◌, ⊤, List, [], ◌∷◌, length, take, filter, slice_get, Option, Some, None}
 use Rattle.std.specs.Option.{option_map_or}
 use Rattle.pol_sets.specs.declared.sets.Move.{Move}
-use Rattle.pol_change_log.specs.declared.change.Change.{Change}
+use Rattle.pol_change_log.specs.declared.change.SetChange.{SetChange}
 use Rattle.pol_change_log.specs.Net.{net}
 
 -- the changes that are kept, newest first, the revision of the newest change that was dropped or 0, and how many
 -- changes can be recorded without memory
 pub record Log : Type 0 where
-  pub kept : List Change
+  pub kept : List SetChange
   pub horizon : ℕ
   pub spare : ℕ
 
@@ -18,7 +18,7 @@ empty_log = record { kept = []; horizon = 0; spare = 0 }
 
 -- the log after a change: the last 65,536 are kept, and the horizon is the revision of the one before them, if this
 -- change pushed one out
-abbrev pub recorded : Log → Change → Log
+abbrev pub recorded : Log → SetChange → Log
 recorded log c = record {
   kept = take 65536 (c ∷ log.kept);
   horizon = option_map_or (λ d. d.revision) (slice_get (c ∷ log.kept) 65536) log.horizon;
@@ -26,7 +26,7 @@ recorded log c = record {
 }
 
 -- the change is later than the revision, and the selector's
-abbrev pub is_later_of : ℕ → ℕ → Change → Bool
+abbrev pub is_later_of : ℕ → ℕ → SetChange → Bool
 is_later_of selector revision c = nat_lt revision c.revision && (c.selector == selector)
 
 -- the net change of the selector's set since the revision: none below the horizon
@@ -35,7 +35,7 @@ since log selector revision =
     if nat_lt revision log.horizon then None else Some (net selector (filter (is_later_of selector revision) log.kept))
 
 -- the revision of the newest of these changes, or the horizon
-abbrev pub newest_of : ℕ → List Change → ℕ
+abbrev pub newest_of : ℕ → List SetChange → ℕ
 newest_of horizon [] = horizon
 newest_of horizon (c ∷ cs) = c.revision
 
@@ -44,7 +44,7 @@ abbrev pub newest : Log → ℕ
 newest log = newest_of log.horizon log.kept
 
 -- no change is newer than the next newer one, nor the horizon than any
-abbrev pub InOrder : ℕ → List Change → Type 0
+abbrev pub InOrder : ℕ → List SetChange → Type 0
 InOrder horizon [] = ⊤
 InOrder horizon (c ∷ cs) = (newest_of horizon cs ≤ c.revision) × InOrder horizon cs
 

@@ -2,7 +2,7 @@
 use Rattle.std.specs.Prelude.{ℕ, ◌==◌, nat_lt, List, [], ◌∷◌, count_by, filter}
 use Rattle.std.specs.List.{flat_map}
 use Rattle.pol_sets.specs.declared.sets.Move.{Move}
-use Rattle.pol_change_log.specs.declared.change.Change.{Change}
+use Rattle.pol_change_log.specs.declared.change.SetChange.{SetChange}
 use Rattle.pol_change_log.specs.Ids.{without, union}
 
 -- how often the number stands in the list
@@ -14,19 +14,19 @@ abbrev pub surplus : List ℕ → List ℕ → List ℕ
 surplus ids others = filter (λ id. nat_lt (times id others) (times id ids)) (union [] ids)
 
 -- all that came by these changes, and all that went
-abbrev pub came : List Change → List ℕ
+abbrev pub came : List SetChange → List ℕ
 came cs = flat_map (λ c. c.gained) cs
 
-abbrev pub went : List Change → List ℕ
+abbrev pub went : List SetChange → List ℕ
 went cs = flat_map (λ c. c.lost) cs
 
 -- the net change of a selector's changes: gained is what came more often than it went, lost what went more often
-abbrev pub net : ℕ → List Change → Move
+abbrev pub net : ℕ → List SetChange → Move
 net selector cs =
     record { selector = selector; gained = surplus (came cs) (went cs); lost = surplus (went cs) (came cs) }
 
 -- what a change moved
-abbrev pub move_of : Change → Move
+abbrev pub move_of : SetChange → Move
 move_of c = record { selector = c.selector; gained = c.gained; lost = c.lost }
 
 -- the one move and then the other: what came and went, or went and came, isn't there
@@ -42,6 +42,6 @@ abbrev pub moved : List ℕ → Move → List ℕ
 moved ids m = union (without ids m.lost) m.gained
 
 -- the set after these changes
-abbrev pub after_all : List ℕ → List Change → List ℕ
+abbrev pub after_all : List ℕ → List SetChange → List ℕ
 after_all ids [] = ids
 after_all ids (c ∷ older) = moved (after_all ids older) (move_of c)

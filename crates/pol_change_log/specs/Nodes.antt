@@ -3,19 +3,19 @@ use Rattle.std.specs.Prelude.{◌≡◌, ℕ, ◌-◌, ◌<◌, ◌≤◌, ◌%�
 use Rattle.std.specs.List.{AllByRecursion}
 use Rattle.std.specs.Option.{option_map_or}
 use Rattle.pol_arena.specs.Twin.{Entry, Twin, oldest, after_drop}
-use Rattle.pol_change_log.specs.declared.change.Change.{Change}
+use Rattle.pol_change_log.specs.declared.change.SetChange.{SetChange}
 use Rattle.pol_change_log.specs.Log.{Log, IsSound}
 
 -- the changes of nodes
-abbrev pub values : List (Entry Change) → List Change
+abbrev pub values : List (Entry SetChange) → List SetChange
 values es = map (λ e. e.value) es
 
 -- the log that these fields stand for
-abbrev pub log_of : Twin Change → ℕ → ℕ → Log
+abbrev pub log_of : Twin SetChange → ℕ → ℕ → Log
 log_of nodes horizon spare = record { kept = values nodes.ages; horizon = horizon; spare = spare }
 
 -- each change is on its selector's chain, and there are nodes and chains for the spare changes
-pub record IsKept (nodes : Twin Change) (count horizon spare : ℕ) : Type 0 where
+pub record IsKept (nodes : Twin SetChange) (count horizon spare : ℕ) : Type 0 where
   pub sound : IsSound (log_of nodes horizon spare)
   pub counted : count ≡ length nodes.ages
   pub placed : AllByRecursion (λ e. e.chain ≡ e.value.selector % 65536) nodes.ages
@@ -23,16 +23,16 @@ pub record IsKept (nodes : Twin Change) (count horizon spare : ℕ) : Type 0 whe
   pub chains : 0 < spare → 65536 ≤ nodes.chains
 
 -- the nodes without the oldest, where there are 65,536
-abbrev pub with_place : Twin Change → Twin Change
+abbrev pub with_place : Twin SetChange → Twin SetChange
 with_place nodes = if nat_lt (length nodes.ages) 65536 then nodes else after_drop nodes
 
 -- and the horizon then
-abbrev pub horizon_with_place : Twin Change → ℕ → ℕ
+abbrev pub horizon_with_place : Twin SetChange → ℕ → ℕ
 horizon_with_place nodes horizon =
     if nat_lt (length nodes.ages) 65536 then horizon else option_map_or (λ e. e.value.revision) (oldest nodes.ages) horizon
 
 -- the selector's changes from the front of these on, up to the first that isn't later than the revision
-abbrev pub found_in : ℕ → ℕ → List (Entry Change) → List Change
+abbrev pub found_in : ℕ → ℕ → List (Entry SetChange) → List SetChange
 found_in selector revision [] = []
 found_in selector revision (e ∷ es) =
     if nat_lt revision e.value.revision

@@ -4,7 +4,7 @@ use Rattle.std.specs.List.{AllByRecursion}
 use Rattle.std.specs.List.Sorted.{IsStrictlySortedBy}
 use Rattle.std.specs.Ordering.{nat_cmp}
 use Rattle.pol_sets.specs.declared.sets.Move.{Move}
-use Rattle.pol_change_log.specs.declared.change.Change.{Change}
+use Rattle.pol_change_log.specs.declared.change.SetChange.{SetChange}
 use Rattle.pol_change_log.specs.Ids.{has, without}
 use Rattle.pol_change_log.specs.Net.{move_of, joined, net, moved, after_all}
 
@@ -16,7 +16,7 @@ pub record Fits (ids : List ℕ) (m : Move) : Type 0 where
   pub lost_old : AllByRecursion (λ id. has id ids ≡ true) m.lost
 
 -- each of the changes fits the set that the older ones left
-abbrev pub AllFit : List ℕ → List Change → Type 0
+abbrev pub AllFit : List ℕ → List SetChange → Type 0
 AllFit ids [] = ⊤
 AllFit ids (c ∷ older) = Fits (after_all ids older) (move_of c) × AllFit ids older
 
@@ -28,14 +28,14 @@ pub record IsMove (old new : List ℕ) (m : Move) : Type 0 where
 -- The net change of a set's changes is the difference of the set after them and before them.
 abbrev pub NetIsExact : Type 0
 NetIsExact =
-    (selector : ℕ) (ids : List ℕ) (cs : List Change)
+    (selector : ℕ) (ids : List ℕ) (cs : List SetChange)
     → IsStrictlySortedBy nat_cmp ids → AllFit ids cs
     → IsMove ids (after_all ids cs) (net selector cs)
 
 -- The net change of two stretches of changes is that of the older joined with that of the newer.
 abbrev pub NetsJoin : Type 0
 NetsJoin =
-    (selector : ℕ) (ids : List ℕ) (newer older : List Change)
+    (selector : ℕ) (ids : List ℕ) (newer older : List SetChange)
     → IsStrictlySortedBy nat_cmp ids → AllFit ids (newer ++ older)
     → net selector (newer ++ older) ≡ joined (net selector older) (net selector newer)
 

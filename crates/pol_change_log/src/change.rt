@@ -3,7 +3,7 @@ use pol_sets::IdSet;
 
 /// What one revision changed of the set of one selector.
 #[derive(Debug, Drop)]
-pub struct Change {
+pub struct SetChange {
     /// The number of the selector.
     pub selector: u64,
     /// The revision that changed its set.

@@ -9,5 +9,5 @@ pub mod laws;
 mod log;
 mod net;
 
-pub use change::Change;
+pub use change::SetChange;
 pub use log::ChangeLog;

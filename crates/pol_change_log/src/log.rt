@@ -5,7 +5,7 @@ ghost use Rattle.pol_change_log.specs.Log.{empty_log, newest, recorded, since, I
 ghost use Rattle.pol_change_log.specs.Net.{net};
 ghost use Rattle.pol_change_log.specs.Nodes.{with_place, horizon_with_place, found_in};
 
-use crate::Change;
+use crate::SetChange;
 use crate::net::net_of;
 use pol_arena::Twin;
 use pol_data::Memory;
@@ -22,7 +22,7 @@ const CHAINS: u64 = 65_536;
 /// The last 65,536 changes of all selectors' sets, and all where there are fewer. The limit is profile.
 #[derive(Drop)]
 pub struct ChangeLog {
-    nodes: Twin<Change>,
+    nodes: Twin<SetChange>,
     count: usize,
     horizon: u64,
     spare: usize,
@@ -51,7 +51,7 @@ fn chain_of(selector: u64) -> u64
 /// isn't later.
 fn net_on_chain(
     alloc: Global,
-    nodes: &Twin<Change>,
+    nodes: &Twin<SetChange>,
     selector: u64,
     revision: u64,
 ) -> Result<Move, Memory>
@@ -75,7 +75,7 @@ fn net_on_chain(
 }
 
 /// Drops the oldest node where as many are kept as may be, and gives the horizon then.
-fn make_place(nodes: &mut Twin<Change>, count: usize, horizon: u64) -> u64
+fn make_place(nodes: &mut Twin<SetChange>, count: usize, horizon: u64) -> u64
     requires counted { count ≡ length nodes.old.ages }
     ensures nodes { nodes.new ≡ with_place nodes.old }
     ensures horizon { result ≡ horizon_with_place nodes.old horizon }
@@ -122,7 +122,7 @@ impl ChangeLog {
 
     /// Records a change, which is no older than any so far. There must be room for one, and it takes no memory. Where
     /// 65,536 are kept the oldest goes, and its revision is the horizon from then on.
-    pub fn record(&mut self, change: Change)
+    pub fn record(&mut self, change: SetChange)
         requires in_order { newest self.old ≤ change.revision }
         requires spare { 1 ≤ self.old.spare }
         ensures log { self.new ≡ recorded self.old change }

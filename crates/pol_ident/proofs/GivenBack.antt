@@ -9,7 +9,7 @@ use Rattle.pol_model.specs.Identities.{is_reserved, released}
 use Rattle.pol_model_laws.specs.Holding.{has_row, row_of}
 use Rattle.pol_model_laws.specs.Keeps.{KeepsRows}
 use Rattle.pol_model_laws.proofs.RowLaws.{keep_released}
-use Rattle.pol_ident.specs.declared.place.Place.TheVariants.{Reserved, Cluster, Local, Nowhere}
+use Rattle.pol_ident.specs.declared.place.NumberPlace.TheVariants.{Reserved, Cluster, Local, Nowhere}
 use Rattle.pol_ident.specs.Place.{IsPlaceOf}
 use Rattle.pol_ident.specs.Rows.{IsIdentities, rows_of}
 use Rattle.pol_interner.specs.Slots.{Slot, changed, one_less, slot_at}

@@ -13,7 +13,7 @@ use Rattle.pol_model_laws.specs.Keeps.{KeepsRows}
 use Rattle.pol_model_laws.proofs.FoundRows.{row-kinds}
 use Rattle.pol_model_laws.proofs.Membership.{find-In}
 use Rattle.pol_model_laws.proofs.StartRows.{start_row}
-use Rattle.pol_ident.specs.declared.place.Place.TheVariants.{Reserved, Cluster, Local, Nowhere}
+use Rattle.pol_ident.specs.declared.place.NumberPlace.TheVariants.{Reserved, Cluster, Local, Nowhere}
 use Rattle.pol_ident.specs.Place.{IsPlaceOf}
 use Rattle.pol_ident.specs.Rows.{cluster_rows, local_rows, row_with, rows_of}
 use Rattle.pol_interner.specs.Slots.{Slot, slot_at}

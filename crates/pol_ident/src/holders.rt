@@ -4,7 +4,7 @@ ghost use Rattle.pol_model_laws.specs.Holding.{row_of};
 ghost use Rattle.pol_model_laws.specs.Keeps.{KeepsRows};
 
 use crate::Identities;
-use crate::place::{Place, place_of};
+use crate::place::{NumberPlace, place_of};
 
 impl Identities {
     /// How many hold the number: one at least, and one for a reserved number. None exactly where the number isn't held.
@@ -14,10 +14,10 @@ impl Identities {
         ensures sound { KeepsRows self.now }
     {
         match place_of(number) {
-            Place::Reserved(place) => Some(self.reserved[place as usize].holders),
-            Place::Cluster(place) => self.cluster.holders_at(place),
-            Place::Local(place) => self.local.holders_at(place),
-            Place::Nowhere => None,
+            NumberPlace::Reserved(place) => Some(self.reserved[place as usize].holders),
+            NumberPlace::Cluster(place) => self.cluster.holders_at(place),
+            NumberPlace::Local(place) => self.local.holders_at(place),
+            NumberPlace::Nowhere => None,
         }
     }
 }

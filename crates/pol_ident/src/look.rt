@@ -6,7 +6,7 @@ ghost use Rattle.pol_model_laws.specs.Keeps.{KeepsRows};
 ghost use Rattle.pol_ident.specs.Look.{labels_at, prefix_at};
 
 use crate::Identities;
-use crate::place::{Place, place_of};
+use crate::place::{NumberPlace, place_of};
 use pol_addr::Prefix;
 use pol_labels::LabelSet;
 use pol_model::WORLD_IDENTITY;
@@ -19,22 +19,22 @@ impl Identities {
         ensures sound { KeepsRows self.now }
     {
         match place_of(number) {
-            Place::Reserved(place) => {
+            NumberPlace::Reserved(place) => {
                 let row = &self.reserved[place as usize];
                 Some((&row.labels, row.prefix))
             }
-            Place::Cluster(place) => match self.cluster.key_at(place) {
+            NumberPlace::Cluster(place) => match self.cluster.key_at(place) {
                 Some(labels) => Some((labels, None)),
                 None => None,
             },
-            Place::Local(place) => match self.local.key_at(place) {
+            NumberPlace::Local(place) => match self.local.key_at(place) {
                 Some(prefix) => {
                     let world = &self.reserved[WORLD_IDENTITY as usize - 1];
                     Some((&world.labels, Some(*prefix)))
                 }
                 None => None,
             },
-            Place::Nowhere => None,
+            NumberPlace::Nowhere => None,
         }
     }
 

@@ -6,7 +6,7 @@ use pol_model::{CLUSTER_FIRST, CLUSTER_LAST, LOCAL_FIRST, LOCAL_LAST, RESERVED_L
 
 /// The kind of a number, and its place among the numbers of that kind, from 0 on.
 #[derive(Clone, Copy, Debug, PartialEq, Eq)]
-pub(crate) enum Place {
+pub(crate) enum NumberPlace {
     /// A reserved number.
     Reserved(u32),
     /// A number that label sets take.
@@ -18,16 +18,16 @@ pub(crate) enum Place {
 }
 
 /// The kind and the place of a number.
-pub(crate) fn place_of(number: u32) -> Place
+pub(crate) fn place_of(number: u32) -> NumberPlace
     ensures { IsPlaceOf number result }
 {
     if 1 <= number && number <= RESERVED_LAST {
-        Place::Reserved(number - 1)
+        NumberPlace::Reserved(number - 1)
     } else if CLUSTER_FIRST <= number && number <= CLUSTER_LAST {
-        Place::Cluster(number - CLUSTER_FIRST)
+        NumberPlace::Cluster(number - CLUSTER_FIRST)
     } else if LOCAL_FIRST <= number && number <= LOCAL_LAST {
-        Place::Local(number - LOCAL_FIRST)
+        NumberPlace::Local(number - LOCAL_FIRST)
     } else {
-        Place::Nowhere
+        NumberPlace::Nowhere
     }
 }

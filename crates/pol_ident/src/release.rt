@@ -5,7 +5,7 @@ ghost use Rattle.pol_model_laws.specs.Holding.{has_row};
 ghost use Rattle.pol_model_laws.specs.Keeps.{KeepsRows};
 
 use crate::Identities;
-use crate::place::{Place, place_of};
+use crate::place::{NumberPlace, place_of};
 
 impl Identities {
     /// Takes one holder away from the number, which is held. With its last holder the identity goes, and its number is
@@ -16,12 +16,12 @@ impl Identities {
         ensures sound { KeepsRows self.new }
     {
         match place_of(number) {
-            Place::Cluster(place) => self.cluster.release(place),
-            Place::Local(place) => self.local.release(place),
-            Place::Reserved(_) => {
+            NumberPlace::Cluster(place) => self.cluster.release(place),
+            NumberPlace::Local(place) => self.local.release(place),
+            NumberPlace::Reserved(_) => {
                 let _ = &self.reserved;
             }
-            Place::Nowhere => unreachable!(),
+            NumberPlace::Nowhere => unreachable!(),
         }
     }
 }

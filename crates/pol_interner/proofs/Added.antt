@@ -8,7 +8,7 @@ use Rattle.std.proofs.lemmas.Bool.Decides.{eqb_tells}
 use Rattle.std.proofs.lemmas.List.{get_or-set_same, get_or-set_other, get_or_past, get_or_append_left, length-map, length-set, length_push, map-append, map-set}
 use Rattle.std.proofs.lemmas.Option.{same_Some, slice_get-get_or, slice_get_within}
 use Rattle.std.proofs.Math.Seq.{get_or-append_seam}
-use Rattle.pol_interner.specs.declared.places.Held.{Held}
+use Rattle.pol_interner.specs.declared.interner.Held.{Held}
 use Rattle.pol_interner.specs.Slots.{filled, free_place, slot_at}
 use Rattle.pol_interner.specs.Tied.{all_shown, empty_at, least_first, shown, HasRoom, IsFreeOf, IsTied}
 use Rattle.pol_interner.proofs.FreePlaces.{empty_is_none, empty_within, IsFreeOf-grown, IsFreeOf-popped, least_at_end, least_on_heap, popped_is_empty}

@@ -1,10 +1,10 @@
--- What the parts of `Places` show, and how they stay tied, as keys come and go.
+-- What the parts of `Interner` show, and how they stay tied, as keys come and go.
 use Rattle.std.proofs.Common.{zero, suc, ◌≡◌, ℕ, ◌+◌, ◌<◌, ◌≤◌, Bool, false, List, [], ◌∷◌, ◌++◌, length, get_or, set, slice_get, Option, None, Some, option_map, refl, sym, ap, subst, ◌∙◌, inl, inr, arith}
 use Rattle.std.proofs.lemmas.Bool.Decides.{eqb_tells}
 use Rattle.std.proofs.lemmas.List.{get_or-set_same, get_or-set_other, length-map, length-set, map-set}
 use Rattle.std.proofs.lemmas.Map.{lookup-none, none_passes_from_lookup, NonePasses}
 use Rattle.std.proofs.lemmas.Option.{same_Some}
-use Rattle.pol_interner.specs.declared.places.Held.{Held}
+use Rattle.pol_interner.specs.declared.interner.Held.{Held}
 use Rattle.std.proofs.lemmas.Map.Made.{lookup_key_passes}
 use Rattle.std.specs.Map.{lookup, lookup_key}
 use Rattle.std.specs.declared.cmp.Reverse.{Reverse}

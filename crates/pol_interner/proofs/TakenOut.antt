@@ -1,10 +1,10 @@
--- What the parts of `Places` show, and how they stay tied, where a key is taken out.
+-- What the parts of `Interner` show, and how they stay tied, where a key is taken out.
 use Rattle.std.proofs.Common.{◌≡◌, ◌≢◌, ℕ, ◌-◌, ◌<◌, ◌≤◌, cond, List, ◌∷◌, length, get_or, set, slice_get, Option, None, Some, IfSome, option_map, refl, sym, ap, subst, ◌∙◌, inl, inr, arith, eqb, min}
 use Rattle.std.proofs.lemmas.Bool.{cases_lt, eq-eqb, ne_eqb}
 use Rattle.std.proofs.lemmas.Bool.Decides.{eqb_tells}
 use Rattle.std.proofs.lemmas.List.{get_or-set_same, get_or-set_other, get_or-take, length-map, length-set, length-take, ext_get_or}
 use Rattle.std.proofs.lemmas.Option.{same_Some, slice_get-get_or, slice_get_within}
-use Rattle.pol_interner.specs.declared.places.Held.{Held}
+use Rattle.pol_interner.specs.declared.interner.Held.{Held}
 use Rattle.std.specs.List.{swap_remove}
 use Rattle.std.specs.BinaryHeap.{KeepsHeap}
 use Rattle.std.specs.List.Sorted.{IsPermutation}

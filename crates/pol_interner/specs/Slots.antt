@@ -1,4 +1,4 @@
--- What a contract sees of `Places`: by each place from 0 on nothing, or a key with its count of holders.
+-- What a contract sees of `Interner`: by each place from 0 on nothing, or a key with its count of holders.
 use Rattle.std.specs.Prelude.{ℕ, ◌≡◌, ◌+◌, ◌-◌, Bool, true, false, nat_le, if◌then◌else◌, List, [], ◌∷◌, Option, Some, None, suc, zero, slice_index_or}
 
 abbrev pub Slot : Type 0 → Type 0

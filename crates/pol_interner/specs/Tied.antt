@@ -1,10 +1,10 @@
--- How the parts of a `Places` fit together. No public clause cites this module.
+-- How the parts of an `Interner` fit together. No public clause cites this module.
 use Rattle.std.specs.Prelude.{ℕ, ◌≡◌, ◌+◌, ◌<◌, ◌≤◌, ◌^◌, ◌&&◌, nat_eq, nat_lt, is_none, is_some, Bool, if◌then◌else◌, List, map, length, count_by, slice_get, slice_index_or, Option, Some, None, option_map}
 use Rattle.std.specs.BinaryHeap.{IsHeap}
 use Rattle.std.specs.Ordering.{nat_cmp}
 use Rattle.std.specs.declared.cmp.Ordering.{Ordering}
 use Rattle.std.specs.declared.cmp.Reverse.{Reverse}
-use Rattle.pol_interner.specs.declared.places.Held.{Held}
+use Rattle.pol_interner.specs.declared.interner.Held.{Held}
 use Rattle.pol_interner.specs.Slots.{Slot}
 
 -- the slot is taken, and its key has this index

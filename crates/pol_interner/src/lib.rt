@@ -3,6 +3,6 @@
 //! Keys are found by an index, and the least free place by a heap.
 #![tactic(auto)]
 
-mod places;
+mod interner;
 
-pub use places::Places;
+pub use interner::Interner;

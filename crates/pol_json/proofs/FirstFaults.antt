@@ -4,8 +4,8 @@ use Rattle.std.specs.Option.{option_or}
 use Rattle.serde_json.specs.Data.{Data}
 use Rattle.pol_json.specs.declared.fault.DocFault.{DocFault}
 use Rattle.pol_json.specs.declared.table.Content.TheVariants.{Object}
-use Rattle.pol_json.specs.declared.table.Kind.{Kind}
-use Rattle.pol_json.specs.declared.table.Kind.TheVariants.{Policy, NetworkPolicy}
+use Rattle.pol_json.specs.declared.table.ObjectKind.{ObjectKind}
+use Rattle.pol_json.specs.declared.table.ObjectKind.TheVariants.{Policy, NetworkPolicy}
 use Rattle.pol_json.specs.Build.{policy_of}
 use Rattle.pol_json.specs.Document.{head_fault, places_in, places_of, first_fault, unless_fault, read_document}
 use Rattle.pol_json.specs.Look.{IsAt, IsOneOf, AllSound, IsRead, IsFirstFault}
@@ -96,7 +96,7 @@ found_is None fault is = cc
 found_is (Some f) fault is = (f, refl, cc)
 
 -- where nothing is found, nothing is wrong at what a path leads to
-pub sound_at : (kind : Kind) (d : Data) → first_found (places_in kind d) ≡ None → (path : List Step) (shape : Shape) (value : Data)
+pub sound_at : (kind : ObjectKind) (d : Data) → first_found (places_in kind d) ≡ None → (path : List Step) (shape : Shape) (value : Data)
     → IsAt kind path d shape value → cause_of shape value ≡ None
 sound_at kind d none path shape value led =
     none_of (places_in kind d) (record { path = path; shape = shape; value = value }) none (led_to_is_a_place path (one (Object kind)) d shape value led)
@@ -130,7 +130,7 @@ pub read_is_of_the_table : (d : Data) (policy : RawPolicy) → read_document d �
 read_is_of_the_table d policy is path shape value led = sound_is_read shape value (read_is_sound d policy is path shape value led)
 
 -- what is found first, told as the fault of a document of this kind
-told_first : (kind : Kind) (d : Data) (fault : DocFault) → option_map fault_of (first_found (places_in kind d)) ≡ Some fault → IsFirstFault kind d fault
+told_first : (kind : ObjectKind) (d : Data) (fault : DocFault) → option_map fault_of (first_found (places_in kind d)) ≡ Some fault → IsFirstFault kind d fault
 told_first kind d fault is =
     let found = found_is (first_found (places_in kind d)) fault is in
     let first = first_of (places_in kind d) found.0 found.1 in

@@ -18,8 +18,8 @@ use Rattle.pol_json.specs.Texts.{is_dns_name}
 use Rattle.pol_json.specs.declared.fault.DocFault.{DocFault}
 use Rattle.pol_json.specs.declared.fault.DocFault.TheVariants.{NotPolicy, NoName, NoSpec}
 use Rattle.pol_json.specs.declared.table.Content.TheVariants.{Object, Text}
-use Rattle.pol_json.specs.declared.table.Kind.{Kind}
-use Rattle.pol_json.specs.declared.table.Kind.TheVariants.{Metadata, NetworkPolicy, Policy}
+use Rattle.pol_json.specs.declared.table.ObjectKind.{ObjectKind}
+use Rattle.pol_json.specs.declared.table.ObjectKind.TheVariants.{Metadata, NetworkPolicy, Policy}
 use Rattle.pol_json.specs.declared.table.TextForm.TheVariants as form
 use Rattle.pol_rule.specs.declared.raw.RawPolicy.{RawPolicy}
 
@@ -46,7 +46,7 @@ there None e found = absurd cc
 there (Some f) e found = not_null (is_null f) f e refl found
 
 -- a step leads to a member that is there
-steps : (kind : Kind) (name : List ℕ) (d e : Data) → present name d ≡ Some e → StepsTo (named name) (one (Object kind)) d (shape_of kind name) e
+steps : (kind : ObjectKind) (name : List ℕ) (d e : Data) → present name d ≡ Some e → StepsTo (named name) (one (Object kind)) d (shape_of kind name) e
 steps kind name null e found = absurd cc
 steps kind name (boolean b) e found = absurd cc
 steps kind name (number n) e found = absurd cc
@@ -63,11 +63,11 @@ passes true cause none = refl
 passes false cause none = absurd cc
 
 -- from a document of a kind that has metadata, and in which nothing is found
-record HasMetadata (kind : Kind) (d : Data) : Type 0 where
+record HasMetadata (kind : ObjectKind) (d : Data) : Type 0 where
   none : first_found (places_in kind d) ≡ None
   leads : (m : Data) → present (codes "metadata") d ≡ Some m → StepsTo (named (codes "metadata")) (one (Object kind)) d (one (Object Metadata)) m
 
-module _ (kind : Kind) (d : Data) (of : HasMetadata kind d) where
+module _ (kind : ObjectKind) (d : Data) (of : HasMetadata kind d) where
   name_at : (name : List ℕ) (m e : Data) (text : List ℕ) → shape_of Metadata name ≡ one (Text form.Name) → present (codes "metadata") d ≡ Some m
       → present name m ≡ Some e → as_str e ≡ Some text → is_dns_name text ≡ true
   name_at name m e text shape at_metadata at_name reads =

@@ -2,7 +2,7 @@
 use Rattle.std.proofs.Common.{◌≡◌, ℕ, zero, suc, ◌+◌, Bool, true, false, ◌⊎◌, inl, inr, List, [], ◌∷◌, ◌++◌, map, Some, refl, sym, ap, subst, ◌∙◌, arith}
 use Rattle.serde_json.specs.Data.{Data, array, object, Items, no_items, item, Members, no_members, member}
 use Rattle.serde_json.specs.Find.{get_item}
-use Rattle.pol_json.specs.declared.table.Kind.{Kind}
+use Rattle.pol_json.specs.declared.table.ObjectKind.{ObjectKind}
 use Rattle.pol_json.specs.declared.table.Content.{Content}
 use Rattle.pol_json.specs.declared.table.Content.TheVariants.{Object}
 use Rattle.pol_json.specs.Look.{HasMember, StepsTo, LeadsTo, IsOneOf}
@@ -57,7 +57,7 @@ there_cases p d true ps is h = absurd (rw is at h)
 there_cases p d false ps is h = (refl, rw is at h)
 
 -- a place that a member leads to
-record IntoMember (kind : Kind) (ms : Members) (p : Place) : Type 0 where
+record IntoMember (kind : ObjectKind) (ms : Members) (p : Place) : Type 0 where
   name : List ℕ
   rest : List Step
   inside : Data
@@ -66,12 +66,12 @@ record IntoMember (kind : Kind) (ms : Members) (p : Place) : Type 0 where
   there : is_null inside ≡ false
   leads : LeadsTo rest (shape_of kind name) inside p.shape p.value
 
-into_object : (kind : Kind) (ms : Members) (p : Place) → IntoMember kind ms p → IsLedTo (one (Object kind)) (object ms) p
+into_object : (kind : ObjectKind) (ms : Members) (p : Place) → IntoMember kind ms p → IsLedTo (one (Object kind)) (object ms) p
 into_object kind ms p into =
     subst (λ path. LeadsTo path (one (Object kind)) (object ms) p.shape p.value) (sym into.way)
     (shape_of kind into.name, into.inside, (into.has, into.there, refl), into.leads)
 
-into_this : (kind : Kind) (name : List ℕ) (d : Data) (ms : Members) (p : Place) → IsOneOf p (unless_absent d (map (under (named name)) (places (shape_of kind name) d)))
+into_this : (kind : ObjectKind) (name : List ℕ) (d : Data) (ms : Members) (p : Place) → IsOneOf p (unless_absent d (map (under (named name)) (places (shape_of kind name) d)))
     → ((q : Place) → IsOneOf q (below (shape_of kind name) d) → IsLedTo (shape_of kind name) d q) → IntoMember kind (member name d ms) p
 into_this kind name d ms p h deeper =
     let found = there_cases p d (is_null d) (map (under (named name)) (places (shape_of kind name) d)) refl h in
@@ -80,7 +80,7 @@ into_this kind name d ms p h deeper =
     subst (IntoMember kind (member name d ms)) from.2
     (record { name = name; rest = from.0.path; inside = d; way = refl; has = inl (refl, refl); there = found.0; leads = led })
 
-into_more : (kind : Kind) (name : List ℕ) (d : Data) (ms : Members) (p : Place) → IntoMember kind ms p → IntoMember kind (member name d ms) p
+into_more : (kind : ObjectKind) (name : List ℕ) (d : Data) (ms : Members) (p : Place) → IntoMember kind ms p → IntoMember kind (member name d ms) p
 into_more kind name d ms p into =
     record { name = into.name; rest = into.rest; inside = into.inside; way = into.way; has = inr into.has; there = into.there; leads = into.leads }
 
@@ -118,7 +118,7 @@ into_next content k d ds p into =
       leads = into.leads;
     }
 
-this_or_more : (kind : Kind) (name : List ℕ) (d : Data) (ms : Members) (p : Place) → IsOneOf p (below_members kind (member name d ms))
+this_or_more : (kind : ObjectKind) (name : List ℕ) (d : Data) (ms : Members) (p : Place) → IsOneOf p (below_members kind (member name d ms))
     → ((q : Place) → IsOneOf q (below (shape_of kind name) d) → IsLedTo (shape_of kind name) d q) → (IsOneOf p (below_members kind ms) → IntoMember kind ms p)
     → IntoMember kind (member name d ms) p
 this_or_more kind name d ms p h deeper more =
@@ -142,7 +142,7 @@ mutual
   led_below (list_of content) (array ds) p h = into_list content ds p (led_items content 0 ds p h)
   led_below _ _ p h = absurd h
 
-  led_members : (kind : Kind) (ms : Members) (p : Place) → IsOneOf p (below_members kind ms) → IntoMember kind ms p
+  led_members : (kind : ObjectKind) (ms : Members) (p : Place) → IsOneOf p (below_members kind ms) → IntoMember kind ms p
   led_members kind no_members p h = absurd h
   led_members kind (member name d ms) p h =
       this_or_more kind name d ms p h (λ q. led_below (shape_of kind name) d q) (led_members kind ms p)
@@ -161,11 +161,11 @@ places_are_led_to shape d p h = led_among shape d p h (led_below shape d)
 abbrev pub place_at : List Step → Shape → Data → Place
 place_at path s e = record { path = path; shape = s; value = e }
 
-member_here : (kind : Kind) (k : List ℕ) (e : Data) (q : Place) → is_null e ≡ false → IsOneOf q (places (shape_of kind k) e)
+member_here : (kind : ObjectKind) (k : List ℕ) (e : Data) (q : Place) → is_null e ≡ false → IsOneOf q (places (shape_of kind k) e)
     → IsOneOf (under (named k) q) (unless_absent e (map (under (named k)) (places (shape_of kind k) e)))
 member_here kind k e q there h = rw there (among_under (named k) q (places (shape_of kind k) e) h)
 
-this_member : (kind : Kind) (k name : List ℕ) (e f : Data) (q : Place) → k ≡ name → e ≡ f → is_null f ≡ false → IsOneOf q (places (shape_of kind name) f)
+this_member : (kind : ObjectKind) (k name : List ℕ) (e f : Data) (q : Place) → k ≡ name → e ≡ f → is_null f ≡ false → IsOneOf q (places (shape_of kind name) f)
     → IsOneOf (under (named name) q) (unless_absent e (map (under (named k)) (places (shape_of kind k) e)))
 this_member kind k name e f q same_name same_value there h =
     let by_name : IsOneOf q (places (shape_of kind k) f) = subst (λ n. IsOneOf q (places (shape_of kind n) f)) (sym same_name) h in
@@ -174,7 +174,7 @@ this_member kind k name e f q same_name same_value there h =
     subst (λ n. IsOneOf (under (named n) q) (unless_absent e (map (under (named k)) (places (shape_of kind k) e)))) same_name
     (member_here kind k e q there_too by_value)
 
-among_members : (kind : Kind) (ms : Members) (name : List ℕ) (f : Data) (q : Place) → HasMember name f ms → is_null f ≡ false
+among_members : (kind : ObjectKind) (ms : Members) (name : List ℕ) (f : Data) (q : Place) → HasMember name f ms → is_null f ≡ false
     → IsOneOf q (places (shape_of kind name) f) → IsOneOf (under (named name) q) (below_members kind ms)
 among_members kind no_members name f q has there h = absurd has
 among_members kind (member k e ms) name f q (inl is) there h =

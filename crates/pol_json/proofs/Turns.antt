@@ -7,7 +7,7 @@ use Rattle.serde_json.specs.declared.value.Value.{Value}
 use Rattle.pol_json.specs.declared.fault.DocFault.{DocFault}
 use Rattle.pol_json.specs.declared.fault.DocError.{DocError}
 use Rattle.pol_json.specs.declared.fault.DocError.TheVariants as error
-use Rattle.pol_json.specs.declared.table.Kind.{Kind}
+use Rattle.pol_json.specs.declared.table.ObjectKind.{ObjectKind}
 use Rattle.pol_json.specs.declared.table.Content.{Content}
 use Rattle.pol_json.specs.Gives.{Finds}
 use Rattle.pol_json.specs.Path.{fault_below}
@@ -42,13 +42,13 @@ item_turn content vs i v within is =
     rw (here, add-one) refl
 
 -- the places of a member, and those of the next ones
-abbrev pub ThenNext : Kind → List Entry → List Entry → Value → List ℕ → Type 0
+abbrev pub ThenNext : ObjectKind → List Entry → List Entry → Value → List ℕ → Type 0
 ThenNext kind entries left v name =
     below_members kind (members_view entries)
     ≡ unless_absent (view v) (map (under (named name)) (places (shape_of kind name) (view v))) ++ below_members kind (members_view left)
 
 -- the places of a member come before those of the next ones
-pub member_turn : (kind : Kind) (entries left : List Entry) (e : Entry) (name : List ℕ) → entries ≡ e ∷ left → name ≡ string_bytes e.0
+pub member_turn : (kind : ObjectKind) (entries left : List Entry) (e : Entry) (name : List ℕ) → entries ≡ e ∷ left → name ≡ string_bytes e.0
     → ThenNext kind entries left e.1 name
 member_turn kind entries left e name is same =
     let own : ThenNext kind entries left e.1 (string_bytes e.0) = rw is refl in

@@ -1,7 +1,7 @@
 -- The places of a value are visited in the order of their paths.
 use Rattle.std.proofs.Common.{ℕ, suc, ◌<◌, if◌then◌else◌, Bool, true, false, inl, inr, List, [], ◌∷◌, ◌++◌, map, refl, arith}
 use Rattle.serde_json.specs.Data.{Data, array, object, Items, no_items, item, Members, no_members, member}
-use Rattle.pol_json.specs.declared.table.Kind.{Kind}
+use Rattle.pol_json.specs.declared.table.ObjectKind.{ObjectKind}
 use Rattle.pol_json.specs.declared.table.Content.{Content}
 use Rattle.pol_json.specs.declared.table.Content.TheVariants.{Object}
 use Rattle.pol_json.specs.Look.{StepBefore, PathBefore, AllAfter, PathsAscend, IsBelow, NamesAscend, ItemsAscend, MembersAscend}
@@ -44,7 +44,7 @@ top_under : (step : Step) (ps : List Place) → AllAfter [] (map (under step) ps
 top_under step [] = tt
 top_under step (p ∷ ps) = (tt, top_under step ps)
 
-top_members : (kind : Kind) (ms : Members) → AllAfter [] (below_members kind ms)
+top_members : (kind : ObjectKind) (ms : Members) → AllAfter [] (below_members kind ms)
 top_members kind no_members = tt
 top_members kind (member name d ms) =
     let own = map (under (named name)) (places (shape_of kind name) d) in
@@ -80,7 +80,7 @@ steps_under : (s t : Step) (ps : List Place) → StepBefore s t → AllStepsAfte
 steps_under s t [] before = tt
 steps_under s t (p ∷ ps) before = (before, steps_under s t ps before)
 
-steps_members : (kind : Kind) (name : List ℕ) (ms : Members) → IsBelow name ms → AllStepsAfter (named name) (below_members kind ms)
+steps_members : (kind : ObjectKind) (name : List ℕ) (ms : Members) → IsBelow name ms → AllStepsAfter (named name) (below_members kind ms)
 steps_members kind name no_members is = tt
 steps_members kind name (member k d ms) is =
     let own = map (under (named k)) (places (shape_of kind k) d) in
@@ -111,7 +111,7 @@ before_steps s (p ∷ ps) qs after = (after_step s p.path qs after, before_steps
 ascend_places : (shape : Shape) (d : Data) → PathsAscend (below shape d) → PathsAscend (places shape d)
 ascend_places shape d below = (top_first shape d, below)
 
-ascend_member : (kind : Kind) (name : List ℕ) (d : Data) (ms : Members) → PathsAscend (below (shape_of kind name) d) → IsBelow name ms
+ascend_member : (kind : ObjectKind) (name : List ℕ) (d : Data) (ms : Members) → PathsAscend (below (shape_of kind name) d) → IsBelow name ms
     → PathsAscend (below_members kind ms) → PathsAscend (below_members kind (member name d ms))
 ascend_member kind name d ms deeper is more =
     let ps = places (shape_of kind name) d in
@@ -135,7 +135,7 @@ mutual
   ascend_below (list_of content) (array ds) ascend = ascend_items content 0 ds ascend
   ascend_below _ _ ascend = tt
 
-  ascend_members : (kind : Kind) (ms : Members) → MembersAscend ms → PathsAscend (below_members kind ms)
+  ascend_members : (kind : ObjectKind) (ms : Members) → MembersAscend ms → PathsAscend (below_members kind ms)
   ascend_members kind no_members ascend = tt
   ascend_members kind (member name d ms) ascend =
       ascend_member kind name d ms (ascend_below (shape_of kind name) d ascend.0) ascend.1 (ascend_members kind ms ascend.2)

@@ -6,8 +6,8 @@ use Rattle.serde_json.specs.Data.{Data}
 use Rattle.pol_json.specs.declared.fault.DocFault.{DocFault}
 use Rattle.pol_json.specs.declared.fault.DocFault.TheVariants.{NotPolicy, NoName, NoSpec}
 use Rattle.pol_json.specs.declared.table.Content.TheVariants.{Object}
-use Rattle.pol_json.specs.declared.table.Kind.{Kind}
-use Rattle.pol_json.specs.declared.table.Kind.TheVariants.{Policy}
+use Rattle.pol_json.specs.declared.table.ObjectKind.{ObjectKind}
+use Rattle.pol_json.specs.declared.table.ObjectKind.TheVariants.{Policy}
 use Rattle.pol_json.specs.Build.{is_cluster_wide, policy_of}
 use Rattle.pol_json.specs.Members.{is_text, present, text_at, list_at}
 use Rattle.pol_json.specs.Path.{fault_of}
@@ -50,7 +50,7 @@ head_fault d =
     else None
 
 -- the places of a document of this kind
-abbrev pub places_in : Kind → Data → List Place
+abbrev pub places_in : ObjectKind → Data → List Place
 places_in kind d = places (one (Object kind)) d
 
 -- the places of a document

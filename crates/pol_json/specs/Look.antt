@@ -7,7 +7,7 @@ use Rattle.serde_json.specs.Data.{Data, Items, no_items, item, Members, no_membe
 use Rattle.serde_json.specs.Find.{get_item}
 use Rattle.pol_json.specs.declared.fault.DocFault.{DocFault}
 use Rattle.pol_json.specs.declared.table.Content.TheVariants.{Object}
-use Rattle.pol_json.specs.declared.table.Kind.{Kind}
+use Rattle.pol_json.specs.declared.table.ObjectKind.{ObjectKind}
 use Rattle.pol_json.specs.Document.{places_in}
 use Rattle.pol_json.specs.Members.{is_null}
 use Rattle.pol_json.specs.Path.{fault_by, path_text}
@@ -32,7 +32,7 @@ LeadsTo [] shape d s e = (shape ≡ s) × (d ≡ e)
 LeadsTo (step ∷ path) shape d s e = (t : Shape) × (f : Data) × StepsTo step shape d t f × LeadsTo path t f s e
 
 -- the same, from the whole document of a kind
-abbrev pub IsAt : Kind → List Step → Data → Shape → Data → Type 0
+abbrev pub IsAt : ObjectKind → List Step → Data → Shape → Data → Type 0
 IsAt kind path d s e = LeadsTo path (one (Object kind)) d s e
 
 -- the place is one of these
@@ -53,7 +53,7 @@ IsRead (one content) = Unit {0}
 IsRead (list_of content) = Unit {0}
 
 -- a place of the document of this kind whose cause is this fault, with nothing wrong at the places before it
-pub record IsFirstFault (kind : Kind) (d : Data) (fault : DocFault) : Type 0 where
+pub record IsFirstFault (kind : ObjectKind) (d : Data) (fault : DocFault) : Type 0 where
   pub before : List Place
   pub place : Place
   pub after : List Place

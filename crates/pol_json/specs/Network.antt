@@ -5,7 +5,7 @@ use Rattle.std.specs.Option.{option_or}
 use Rattle.serde_json.specs.Data.{Data}
 use Rattle.pol_json.specs.declared.fault.DocFault.{DocFault}
 use Rattle.pol_json.specs.declared.fault.DocFault.TheVariants.{NotPolicy, NoName, NoSpec}
-use Rattle.pol_json.specs.declared.table.Kind.TheVariants.{NetworkPolicy}
+use Rattle.pol_json.specs.declared.table.ObjectKind.TheVariants.{NetworkPolicy}
 use Rattle.pol_json.specs.Build.{default_namespace, metadata_text}
 use Rattle.pol_json.specs.Document.{has_name, places_in}
 use Rattle.pol_json.specs.Members.{is_text, present, text_at}

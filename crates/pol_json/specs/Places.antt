@@ -5,7 +5,7 @@ use Rattle.std.specs.List.{find, list_any}
 use Rattle.std.specs.Str.{str_eq_ignore_ascii_case}
 use Rattle.serde_json.specs.Data.{Data, Items, no_items, item, Members, no_members, member, array, object}
 use Rattle.serde_json.specs.Find.{as_str, as_array, as_object, as_number, as_u64}
-use Rattle.pol_json.specs.declared.table.Kind.{Kind}
+use Rattle.pol_json.specs.declared.table.ObjectKind.{ObjectKind}
 use Rattle.pol_json.specs.declared.table.TextForm.{TextForm}
 use Rattle.pol_json.specs.declared.table.TextForm.TheVariants as form
 use Rattle.pol_json.specs.declared.table.Content.{Content}
@@ -49,7 +49,7 @@ text_cause form.Port text = unless (not (list_any is_letter text)) (left_out (co
 text_cause form.Protocol text = unless (not (is_icmp text)) (left_out (codes "icmp"))
 
 -- names that are found before the lack of a member; then the first member that is lacking
-abbrev pub object_cause : Kind → Data → Option Cause
+abbrev pub object_cause : ObjectKind → Data → Option Cause
 object_cause kind d =
     option_or (option_map left_out (find (λ name. is_some (present name d)) (found_first kind)))
     (option_map lacks (find (λ name. not (is_some (present name d))) (needed kind)))
@@ -105,7 +105,7 @@ abbrev mutual
   below (list_of content) (array ds) = below_items content 0 ds
   below _ _ = []
 
-  pub below_members : Kind → Members → List Place
+  pub below_members : ObjectKind → Members → List Place
   below_members kind no_members = []
   below_members kind (member name d ms) =
       unless_absent d (map (under (named name)) (here (shape_of kind name) d ∷ below (shape_of kind name) d)) ++ below_members kind ms

@@ -2,8 +2,8 @@
 -- 'profile': what is unsupported).
 use Rattle.std.specs.Prelude.{ℕ, Bool, if◌then◌else◌, List, [], ◌∷◌, codes, bytes_eq}
 use Rattle.std.specs.List.{list_any}
-use Rattle.pol_json.specs.declared.table.Kind.{Kind}
-use Rattle.pol_json.specs.declared.table.Kind.TheVariants.{Policy, Metadata, Rule, Selector, MatchLabels, Expression, IngressEntry, EgressEntry, CidrSet, PortItem, Port, NetworkPolicy, NetworkSpec, NetworkIngress, NetworkEgress, NetworkPeer, IpBlock, NetworkPort}
+use Rattle.pol_json.specs.declared.table.ObjectKind.{ObjectKind}
+use Rattle.pol_json.specs.declared.table.ObjectKind.TheVariants.{Policy, Metadata, Rule, Selector, MatchLabels, Expression, IngressEntry, EgressEntry, CidrSet, PortItem, Port, NetworkPolicy, NetworkSpec, NetworkIngress, NetworkEgress, NetworkPeer, IpBlock, NetworkPort}
 use Rattle.pol_json.specs.declared.table.TextForm.TheVariants as form
 use Rattle.pol_json.specs.declared.table.Content.{Content}
 use Rattle.pol_json.specs.declared.table.Content.TheVariants.{Ignored, Text, Number, PortNumber, Object}
@@ -37,7 +37,7 @@ abbrev network_ports : List Row
 network_ports = rows (codes "ports" ∷ []) (list_of (Object NetworkPort)) []
 
 -- the members of an object
-abbrev pub members : Kind → List Row
+abbrev pub members : ObjectKind → List Row
 members Policy =
     rows (codes "apiVersion" ∷ codes "kind" ∷ []) (one text)
     (rows (codes "metadata" ∷ []) (one (Object Metadata))
@@ -100,7 +100,7 @@ members NetworkPort =
     (rows (codes "endPort" ∷ []) (one Number) []))
 
 -- the names that Cilium knows and this profile leaves out
-abbrev pub left_out : Kind → List (List ℕ)
+abbrev pub left_out : ObjectKind → List (List ℕ)
 left_out Rule = codes "nodeSelector" ∷ codes "enableDefaultDeny" ∷ []
 left_out IngressEntry =
     codes "fromRequires" ∷ codes "fromNodes" ∷ codes "fromGroups" ∷ codes "icmps" ∷ codes "authentication" ∷ []
@@ -112,12 +112,12 @@ left_out PortItem =
 left_out _ = []
 
 -- the names that are found at the visit of their object
-abbrev pub found_first : Kind → List (List ℕ)
+abbrev pub found_first : ObjectKind → List (List ℕ)
 found_first CidrSet = left_out CidrSet
 found_first _ = []
 
 -- the members that an object needs, in byte order
-abbrev pub needed : Kind → List (List ℕ)
+abbrev pub needed : ObjectKind → List (List ℕ)
 needed Expression = codes "key" ∷ codes "operator" ∷ []
 needed CidrSet = codes "cidr" ∷ []
 needed Port = codes "port" ∷ []
@@ -125,7 +125,7 @@ needed IpBlock = codes "cidr" ∷ []
 needed _ = []
 
 -- what stands at a name that is in neither table
-abbrev pub others : Kind → Shape
+abbrev pub others : ObjectKind → Shape
 others Metadata = one Ignored
 others MatchLabels = one text
 others _ = unknown
@@ -139,7 +139,7 @@ by_rows name [] otherwise = otherwise
 by_rows name (row ∷ rest) otherwise = if bytes_eq name row.name then row.shape else by_rows name rest otherwise
 
 -- what should stand at a member of an object
-abbrev pub shape_of : Kind → List ℕ → Shape
+abbrev pub shape_of : ObjectKind → List ℕ → Shape
 shape_of kind name = by_rows name (members kind) (if is_among name (left_out kind) then unsupported name else others kind)
 
 -- what the code's shape of a name stands for

@@ -13,7 +13,7 @@ ghost use Rattle.pol_json.specs.Texts.{is_letter};
 use crate::fault::{DocError, DocFault};
 use crate::members::present;
 use crate::path::member_step;
-use crate::table::{Content, Kind, TextForm};
+use crate::table::{Content, ObjectKind, TextForm};
 use crate::texts::is_dns_name;
 use pol_data::Text;
 use serde_json::Value;
@@ -126,7 +126,7 @@ fn check_text(alloc: Global, form: TextForm, text: &str) -> Result<(), DocError>
 
 /// Names of a CIDR set item that are found before the lack of its `cidr`.
 fn check_cidr_set(alloc: Global, value: &Value) -> Result<(), DocError>
-    ensures { Finds (fault_here (object_cause Kind.CidrSet (view value.now))) result }
+    ensures { Finds (fault_here (object_cause ObjectKind.CidrSet (view value.now))) result }
 {
     if present(value, "cidrGroupRef").is_some() {
         left_out(alloc, "cidrGroupRef")
@@ -140,7 +140,7 @@ fn check_cidr_set(alloc: Global, value: &Value) -> Result<(), DocError>
 }
 
 fn check_expression(alloc: Global, value: &Value) -> Result<(), DocError>
-    ensures { Finds (fault_here (object_cause Kind.Expression (view value.now))) result }
+    ensures { Finds (fault_here (object_cause ObjectKind.Expression (view value.now))) result }
 {
     if present(value, "key").is_none() {
         lacks(alloc, "key")
@@ -152,7 +152,7 @@ fn check_expression(alloc: Global, value: &Value) -> Result<(), DocError>
 }
 
 fn check_port(alloc: Global, value: &Value) -> Result<(), DocError>
-    ensures { Finds (fault_here (object_cause Kind.Port (view value.now))) result }
+    ensures { Finds (fault_here (object_cause ObjectKind.Port (view value.now))) result }
 {
     if present(value, "port").is_none() {
         lacks(alloc, "port")
@@ -162,7 +162,7 @@ fn check_port(alloc: Global, value: &Value) -> Result<(), DocError>
 }
 
 fn check_ip_block(alloc: Global, value: &Value) -> Result<(), DocError>
-    ensures { Finds (fault_here (object_cause Kind.IpBlock (view value.now))) result }
+    ensures { Finds (fault_here (object_cause ObjectKind.IpBlock (view value.now))) result }
 {
     if present(value, "cidr").is_none() {
         lacks(alloc, "cidr")
@@ -182,14 +182,14 @@ fn check_port_number(alloc: Global, value: &Value) -> Result<(), DocError>
     }
 }
 
-fn check_object(alloc: Global, kind: Kind, value: &Value) -> Result<(), DocError>
+fn check_object(alloc: Global, kind: ObjectKind, value: &Value) -> Result<(), DocError>
     ensures { Finds (fault_here (object_cause kind (view value.now))) result }
 {
     match kind {
-        Kind::CidrSet => check_cidr_set(alloc, value),
-        Kind::Expression => check_expression(alloc, value),
-        Kind::Port => check_port(alloc, value),
-        Kind::IpBlock => check_ip_block(alloc, value),
+        ObjectKind::CidrSet => check_cidr_set(alloc, value),
+        ObjectKind::Expression => check_expression(alloc, value),
+        ObjectKind::Port => check_port(alloc, value),
+        ObjectKind::IpBlock => check_ip_block(alloc, value),
         _ => Ok(()),
     }
 }

@@ -12,7 +12,7 @@ use crate::fault::{DocError, DocFault};
 use crate::members::{is_text_at, list_at, present, text_at};
 use crate::part::{Part, items_at};
 use crate::path::from_policy;
-use crate::table::{Content, Kind};
+use crate::table::{Content, ObjectKind};
 use crate::walk::walk;
 use pol_data::{Items, Memory, Text};
 use pol_rule::{PolicyKey, RawPolicy, RawRule, RawRules};
@@ -118,7 +118,7 @@ fn head_of(value: &Value) -> Result<Head, DocError>
 }
 
 /// The first fault at a place of a document of this kind.
-pub(crate) fn check_places(alloc: Global, kind: Kind, value: &Value) -> Result<(), DocError>
+pub(crate) fn check_places(alloc: Global, kind: ObjectKind, value: &Value) -> Result<(), DocError>
     ensures { Finds (option_map fault_of (first_found (places_in kind (view value.now)))) result }
 {
     from_policy(alloc, walk(alloc, Content::Object(kind), value))
@@ -165,7 +165,7 @@ pub fn read_policy(alloc: Global, value: &Value) -> Result<RawPolicy, DocError>
     ensures exact { Gives doc_fault_of result (read_document (view value.now)) }
 {
     let head = head_of(value)?;
-    check_places(alloc, Kind::Policy, value)?;
+    check_places(alloc, ObjectKind::Policy, value)?;
     Ok(RawPolicy {
         key: build_key(alloc, &head)?,
         rules: build_rules(alloc, value, head.spec)?,

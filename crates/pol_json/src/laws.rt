@@ -4,7 +4,7 @@ ghost use Rattle.serde_json.specs.Data.{Data};
 ghost use Rattle.serde_json.specs.Read.{read};
 ghost use Rattle.pol_json.specs.declared.fault.DocFault.{DocFault};
 ghost use Rattle.pol_json.specs.Document.{head_fault, read_document};
-ghost use Rattle.pol_json.specs.declared.table.Kind.TheVariants as kind;
+ghost use Rattle.pol_json.specs.declared.table.ObjectKind.TheVariants as kind;
 ghost use Rattle.pol_json.specs.Look.{LeadsTo, IsAt, IsOneOf, IsRead, IsFirstFault, NamesAscend, PathsAscend};
 ghost use Rattle.pol_json.specs.Network.{network_fault, network_head_fault, network_name, network_namespace};
 ghost use Rattle.pol_json.specs.Places.{Step, Place, places, cause_of};

@@ -8,7 +8,7 @@ ghost use Rattle.pol_json.specs.Network.{is_network_policy, network_fault, netwo
 use crate::document::{DEFAULT_NAMESPACE, check_places, has_name, metadata_text};
 use crate::fault::{DocError, DocFault};
 use crate::members::{is_text_at, present};
-use crate::table::Kind;
+use crate::table::ObjectKind;
 use serde_json::Value;
 use std::alloc::Global;
 
@@ -47,7 +47,7 @@ pub fn network_spec(alloc: Global, value: &Value) -> Result<&Value, DocError>
     ensures spec { IfOk result (λ spec. present (codes "spec") (view value.now) ≡ Some (view spec.now)) }
 {
     let spec = head_of(value)?;
-    check_places(alloc, Kind::NetworkPolicy, value)?;
+    check_places(alloc, ObjectKind::NetworkPolicy, value)?;
     Ok(spec)
 }
 

@@ -5,7 +5,7 @@ ghost use Rattle.pol_json.specs.Table.{seen, shape_of};
 
 /// What an object of a policy document is.
 #[derive(Clone, Copy)]
-pub(crate) enum Kind {
+pub(crate) enum ObjectKind {
     /// The whole document.
     Policy,
     /// `metadata`.
@@ -71,7 +71,7 @@ pub(crate) enum Content {
     /// A port by its number, a whole number that is not negative; by its name it is left out.
     PortNumber,
     /// An object.
-    Object(Kind),
+    Object(ObjectKind),
 }
 
 /// What should stand at a member.
@@ -97,39 +97,39 @@ const CIDRS: Shape = Shape::List(Content::Text(TextForm::Cidr));
 
 const IGNORED: Shape = Shape::One(Content::Ignored);
 
-const SELECTOR: Shape = Shape::One(Content::Object(Kind::Selector));
+const SELECTOR: Shape = Shape::One(Content::Object(ObjectKind::Selector));
 
-const SELECTORS: Shape = Shape::List(Content::Object(Kind::Selector));
+const SELECTORS: Shape = Shape::List(Content::Object(ObjectKind::Selector));
 
-const CIDR_SETS: Shape = Shape::List(Content::Object(Kind::CidrSet));
+const CIDR_SETS: Shape = Shape::List(Content::Object(ObjectKind::CidrSet));
 
-const PORT_ITEMS: Shape = Shape::List(Content::Object(Kind::PortItem));
+const PORT_ITEMS: Shape = Shape::List(Content::Object(ObjectKind::PortItem));
 
-const INGRESS: Shape = Shape::List(Content::Object(Kind::IngressEntry));
+const INGRESS: Shape = Shape::List(Content::Object(ObjectKind::IngressEntry));
 
-const EGRESS: Shape = Shape::List(Content::Object(Kind::EgressEntry));
+const EGRESS: Shape = Shape::List(Content::Object(ObjectKind::EgressEntry));
 
-const METADATA: Shape = Shape::One(Content::Object(Kind::Metadata));
+const METADATA: Shape = Shape::One(Content::Object(ObjectKind::Metadata));
 
-const NETWORK_PEERS: Shape = Shape::List(Content::Object(Kind::NetworkPeer));
+const NETWORK_PEERS: Shape = Shape::List(Content::Object(ObjectKind::NetworkPeer));
 
-const NETWORK_PORTS: Shape = Shape::List(Content::Object(Kind::NetworkPort));
+const NETWORK_PORTS: Shape = Shape::List(Content::Object(ObjectKind::NetworkPort));
 
 fn policy_member(name: &str) -> Shape
-    ensures { seen name.now result ≡ shape_of Kind.Policy name.now }
+    ensures { seen name.now result ≡ shape_of ObjectKind.Policy name.now }
 {
     match name {
         "apiVersion" | "kind" => TEXT,
         "metadata" => METADATA,
-        "spec" => Shape::One(Content::Object(Kind::Rule)),
-        "specs" => Shape::List(Content::Object(Kind::Rule)),
+        "spec" => Shape::One(Content::Object(ObjectKind::Rule)),
+        "specs" => Shape::List(Content::Object(ObjectKind::Rule)),
         "status" => IGNORED,
         _ => Shape::Unknown,
     }
 }
 
 fn metadata_member(name: &str) -> Shape
-    ensures { seen name.now result ≡ shape_of Kind.Metadata name.now }
+    ensures { seen name.now result ≡ shape_of ObjectKind.Metadata name.now }
 {
     match name {
         "name" | "namespace" => NAME,
@@ -138,7 +138,7 @@ fn metadata_member(name: &str) -> Shape
 }
 
 fn rule_member(name: &str) -> Shape
-    ensures { seen name.now result ≡ shape_of Kind.Rule name.now }
+    ensures { seen name.now result ≡ shape_of ObjectKind.Rule name.now }
 {
     match name {
         "endpointSelector" => SELECTOR,
@@ -152,17 +152,17 @@ fn rule_member(name: &str) -> Shape
 }
 
 fn selector_member(name: &str) -> Shape
-    ensures { seen name.now result ≡ shape_of Kind.Selector name.now }
+    ensures { seen name.now result ≡ shape_of ObjectKind.Selector name.now }
 {
     match name {
-        "matchLabels" => Shape::One(Content::Object(Kind::MatchLabels)),
-        "matchExpressions" => Shape::List(Content::Object(Kind::Expression)),
+        "matchLabels" => Shape::One(Content::Object(ObjectKind::MatchLabels)),
+        "matchExpressions" => Shape::List(Content::Object(ObjectKind::Expression)),
         _ => Shape::Unknown,
     }
 }
 
 fn expression_member(name: &str) -> Shape
-    ensures { seen name.now result ≡ shape_of Kind.Expression name.now }
+    ensures { seen name.now result ≡ shape_of ObjectKind.Expression name.now }
 {
     match name {
         "key" | "operator" => TEXT,
@@ -172,7 +172,7 @@ fn expression_member(name: &str) -> Shape
 }
 
 fn ingress_member(name: &str) -> Shape
-    ensures { seen name.now result ≡ shape_of Kind.IngressEntry name.now }
+    ensures { seen name.now result ≡ shape_of ObjectKind.IngressEntry name.now }
 {
     match name {
         "fromEndpoints" => SELECTORS,
@@ -188,7 +188,7 @@ fn ingress_member(name: &str) -> Shape
 }
 
 fn egress_member(name: &str) -> Shape
-    ensures { seen name.now result ≡ shape_of Kind.EgressEntry name.now }
+    ensures { seen name.now result ≡ shape_of ObjectKind.EgressEntry name.now }
 {
     match name {
         "toEndpoints" => SELECTORS,
@@ -208,7 +208,7 @@ fn egress_member(name: &str) -> Shape
 }
 
 fn cidr_set_member(name: &str) -> Shape
-    ensures { seen name.now result ≡ shape_of Kind.CidrSet name.now }
+    ensures { seen name.now result ≡ shape_of ObjectKind.CidrSet name.now }
 {
     match name {
         "cidr" => Shape::One(Content::Text(TextForm::Cidr)),
@@ -219,10 +219,10 @@ fn cidr_set_member(name: &str) -> Shape
 }
 
 fn port_item_member(name: &str) -> Shape
-    ensures { seen name.now result ≡ shape_of Kind.PortItem name.now }
+    ensures { seen name.now result ≡ shape_of ObjectKind.PortItem name.now }
 {
     match name {
-        "ports" => Shape::List(Content::Object(Kind::Port)),
+        "ports" => Shape::List(Content::Object(ObjectKind::Port)),
         "rules" | "terminatingTLS" | "originatingTLS" | "listener" | "serverNames" => {
             Shape::Unsupported
         }
@@ -231,7 +231,7 @@ fn port_item_member(name: &str) -> Shape
 }
 
 fn port_member(name: &str) -> Shape
-    ensures { seen name.now result ≡ shape_of Kind.Port name.now }
+    ensures { seen name.now result ≡ shape_of ObjectKind.Port name.now }
 {
     match name {
         "port" => Shape::One(Content::Text(TextForm::Port)),
@@ -244,31 +244,31 @@ fn port_member(name: &str) -> Shape
 // ---- Kubernetes' NetworkPolicy
 
 fn network_policy_member(name: &str) -> Shape
-    ensures { seen name.now result ≡ shape_of Kind.NetworkPolicy name.now }
+    ensures { seen name.now result ≡ shape_of ObjectKind.NetworkPolicy name.now }
 {
     match name {
         "apiVersion" | "kind" => TEXT,
         "metadata" => METADATA,
-        "spec" => Shape::One(Content::Object(Kind::NetworkSpec)),
+        "spec" => Shape::One(Content::Object(ObjectKind::NetworkSpec)),
         "status" => IGNORED,
         _ => Shape::Unknown,
     }
 }
 
 fn network_spec_member(name: &str) -> Shape
-    ensures { seen name.now result ≡ shape_of Kind.NetworkSpec name.now }
+    ensures { seen name.now result ≡ shape_of ObjectKind.NetworkSpec name.now }
 {
     match name {
         "podSelector" => SELECTOR,
         "policyTypes" => TEXTS,
-        "ingress" => Shape::List(Content::Object(Kind::NetworkIngress)),
-        "egress" => Shape::List(Content::Object(Kind::NetworkEgress)),
+        "ingress" => Shape::List(Content::Object(ObjectKind::NetworkIngress)),
+        "egress" => Shape::List(Content::Object(ObjectKind::NetworkEgress)),
         _ => Shape::Unknown,
     }
 }
 
 fn network_ingress_member(name: &str) -> Shape
-    ensures { seen name.now result ≡ shape_of Kind.NetworkIngress name.now }
+    ensures { seen name.now result ≡ shape_of ObjectKind.NetworkIngress name.now }
 {
     match name {
         "from" => NETWORK_PEERS,
@@ -278,7 +278,7 @@ fn network_ingress_member(name: &str) -> Shape
 }
 
 fn network_egress_member(name: &str) -> Shape
-    ensures { seen name.now result ≡ shape_of Kind.NetworkEgress name.now }
+    ensures { seen name.now result ≡ shape_of ObjectKind.NetworkEgress name.now }
 {
     match name {
         "to" => NETWORK_PEERS,
@@ -288,17 +288,17 @@ fn network_egress_member(name: &str) -> Shape
 }
 
 fn network_peer_member(name: &str) -> Shape
-    ensures { seen name.now result ≡ shape_of Kind.NetworkPeer name.now }
+    ensures { seen name.now result ≡ shape_of ObjectKind.NetworkPeer name.now }
 {
     match name {
         "podSelector" | "namespaceSelector" => SELECTOR,
-        "ipBlock" => Shape::One(Content::Object(Kind::IpBlock)),
+        "ipBlock" => Shape::One(Content::Object(ObjectKind::IpBlock)),
         _ => Shape::Unknown,
     }
 }
 
 fn ip_block_member(name: &str) -> Shape
-    ensures { seen name.now result ≡ shape_of Kind.IpBlock name.now }
+    ensures { seen name.now result ≡ shape_of ObjectKind.IpBlock name.now }
 {
     match name {
         "cidr" => Shape::One(Content::Text(TextForm::Cidr)),
@@ -308,7 +308,7 @@ fn ip_block_member(name: &str) -> Shape
 }
 
 fn network_port_member(name: &str) -> Shape
-    ensures { seen name.now result ≡ shape_of Kind.NetworkPort name.now }
+    ensures { seen name.now result ≡ shape_of ObjectKind.NetworkPort name.now }
 {
     match name {
         "port" => Shape::One(Content::PortNumber),
@@ -319,27 +319,27 @@ fn network_port_member(name: &str) -> Shape
 }
 
 /// What should stand at the member of this name.
-pub(crate) fn shape_of(kind: Kind, name: &str) -> Shape
+pub(crate) fn shape_of(kind: ObjectKind, name: &str) -> Shape
     ensures { seen name.now result ≡ shape_of kind name.now }
 {
     match kind {
-        Kind::Policy => policy_member(name),
-        Kind::Metadata => metadata_member(name),
-        Kind::Rule => rule_member(name),
-        Kind::Selector => selector_member(name),
-        Kind::MatchLabels => TEXT,
-        Kind::Expression => expression_member(name),
-        Kind::IngressEntry => ingress_member(name),
-        Kind::EgressEntry => egress_member(name),
-        Kind::CidrSet => cidr_set_member(name),
-        Kind::PortItem => port_item_member(name),
-        Kind::Port => port_member(name),
-        Kind::NetworkPolicy => network_policy_member(name),
-        Kind::NetworkSpec => network_spec_member(name),
-        Kind::NetworkIngress => network_ingress_member(name),
-        Kind::NetworkEgress => network_egress_member(name),
-        Kind::NetworkPeer => network_peer_member(name),
-        Kind::IpBlock => ip_block_member(name),
-        Kind::NetworkPort => network_port_member(name),
+        ObjectKind::Policy => policy_member(name),
+        ObjectKind::Metadata => metadata_member(name),
+        ObjectKind::Rule => rule_member(name),
+        ObjectKind::Selector => selector_member(name),
+        ObjectKind::MatchLabels => TEXT,
+        ObjectKind::Expression => expression_member(name),
+        ObjectKind::IngressEntry => ingress_member(name),
+        ObjectKind::EgressEntry => egress_member(name),
+        ObjectKind::CidrSet => cidr_set_member(name),
+        ObjectKind::PortItem => port_item_member(name),
+        ObjectKind::Port => port_member(name),
+        ObjectKind::NetworkPolicy => network_policy_member(name),
+        ObjectKind::NetworkSpec => network_spec_member(name),
+        ObjectKind::NetworkIngress => network_ingress_member(name),
+        ObjectKind::NetworkEgress => network_egress_member(name),
+        ObjectKind::NetworkPeer => network_peer_member(name),
+        ObjectKind::IpBlock => ip_block_member(name),
+        ObjectKind::NetworkPort => network_port_member(name),
     }
 }

@@ -9,7 +9,7 @@ ghost use Rattle.pol_json.specs.Table.{one, list_of, shape_of as shape_at};
 use crate::cause::{check, is_sound_leaf, left_out, unknown_name, wrong_shape};
 use crate::fault::DocError;
 use crate::path::{from_item, from_member};
-use crate::table::{Content, Kind, Shape, shape_of};
+use crate::table::{Content, ObjectKind, Shape, shape_of};
 use serde_json::{Map, Value};
 use std::alloc::Global;
 
@@ -26,7 +26,7 @@ pub(crate) fn walk(alloc: Global, content: Content, value: &Value) -> Result<(),
 }
 
 #[cycle(walk)]
-fn walk_object(alloc: Global, kind: Kind, value: &Value) -> Result<(), DocError>
+fn walk_object(alloc: Global, kind: ObjectKind, value: &Value) -> Result<(), DocError>
     ensures { Finds (fault_below (first_found (below (one (Content.Object kind)) (view value.now)))) result }
 {
     match value {
@@ -36,7 +36,11 @@ fn walk_object(alloc: Global, kind: Kind, value: &Value) -> Result<(), DocError>
 }
 
 #[cycle(walk)]
-fn walk_members(alloc: Global, kind: Kind, members: &Map<String, Value>) -> Result<(), DocError>
+fn walk_members(
+    alloc: Global,
+    kind: ObjectKind,
+    members: &Map<String, Value>,
+) -> Result<(), DocError>
     ensures { Finds (fault_below (first_found (below_members kind (members_view members.now.entries)))) result }
 {
     for (name, value) in members {
@@ -47,7 +51,7 @@ fn walk_members(alloc: Global, kind: Kind, members: &Map<String, Value>) -> Resu
 
 /// A null member is passed over.
 #[cycle(walk)]
-fn walk_member(alloc: Global, kind: Kind, name: &str, value: &Value) -> Result<(), DocError>
+fn walk_member(alloc: Global, kind: ObjectKind, name: &str, value: &Value) -> Result<(), DocError>
     ensures { Finds (fault_below (first_found (unless_absent (view value.now)
         (map (under (named name.now)) (places (shape_at kind name.now) (view value.now)))))) result }
 {

@@ -9,7 +9,7 @@ ghost use Rattle.pol_label_sets.specs.Filed.{IsFiledApart, IsFiledAs};
 use crate::filed::{file_each, push_each, unfile_each};
 use pol_data::Memory;
 use pol_headings::{Filing, HeadingRef};
-use pol_interner::Places;
+use pol_interner::Interner;
 use pol_labels::LabelSet;
 use std::alloc::Global;
 use std::marker::Model;
@@ -19,7 +19,7 @@ use std::marker::Model;
 #[derive(Drop)]
 pub struct LabelSets {
     alloc: Global,
-    sets: Places<LabelSet>,
+    sets: Interner<LabelSet>,
     // Each place under the headings of its set's labels.
     filing: Filing,
 }
@@ -40,7 +40,7 @@ impl Model for LabelSets {
 /// Gives the set the least place without one, which is `place`, and files it. After an error the places are as before, and
 /// the place may be filed under headings of the labels.
 fn add_filed(
-    sets: &mut Places<LabelSet>,
+    sets: &mut Interner<LabelSet>,
     filing: &mut Filing,
     labels: LabelSet,
 ) -> Result<(), Memory>
@@ -57,7 +57,7 @@ fn add_filed(
 }
 
 /// Takes the place from under the headings of its set, where the last holder goes next.
-fn unfile_last(sets: &Places<LabelSet>, filing: &mut Filing, place: u32)
+fn unfile_last(sets: &Interner<LabelSet>, filing: &mut Filing, place: u32)
     requires tied { IsFiledAs filing.old sets.now }
     ensures tied { IsFiledAs filing.new (changed one_less place sets.now) }
 {
@@ -77,7 +77,7 @@ impl LabelSets {
     {
         LabelSets {
             alloc,
-            sets: Places::new(alloc),
+            sets: Interner::new(alloc),
             filing: Filing::new(alloc),
         }
     }

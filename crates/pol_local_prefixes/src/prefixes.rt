@@ -8,7 +8,7 @@ ghost use Rattle.pol_local_prefixes.specs.Tied.{last_held};
 use crate::order::{push_within, sort_from};
 use pol_addr::Prefix;
 use pol_data::Memory;
-use pol_interner::Places;
+use pol_interner::Interner;
 use std::alloc::Global;
 use std::collections::BTreeMap;
 use std::marker::Model;
@@ -17,7 +17,7 @@ use std::marker::Model;
 /// its count.
 #[derive(Drop)]
 pub struct LocalPrefixes {
-    prefixes: Places<Prefix>,
+    prefixes: Interner<Prefix>,
     // The place of each prefix.
     order: BTreeMap<Prefix, u32>,
 }
@@ -39,7 +39,7 @@ impl Model for LocalPrefixes {
 }
 
 /// The prefix of a place whose last holder goes next.
-fn last_held(prefixes: &Places<Prefix>, place: u32) -> Option<Prefix>
+fn last_held(prefixes: &Interner<Prefix>, place: u32) -> Option<Prefix>
     ensures { result ≡ last_held (slot_at prefixes.now place) }
 {
     if prefixes.holders_at(place)? > 1 {
@@ -54,7 +54,7 @@ impl LocalPrefixes {
         ensures { result ≡ [] }
     {
         LocalPrefixes {
-            prefixes: Places::new(alloc),
+            prefixes: Interner::new(alloc),
             order: BTreeMap::new(alloc),
         }
     }

@@ -16,7 +16,7 @@ use Rattle.pol_model.specs.After.{after, state_of}
 use Rattle.pol_model.specs.State.{State}
 use Rattle.pol_model.proofs.AscendingStates.{RowsAscend}
 use Rattle.pol_model.proofs.Histories.{state_of-push, state_of-revision}
-use Rattle.pol_change_log.specs.declared.change.Change.{Change}
+use Rattle.pol_change_log.specs.declared.change.SetChange.{SetChange}
 use Rattle.pol_change_log.specs.Log.{Log, since as since_of}
 use Rattle.pol_change_log.specs.Recorded.{KeepsLast}
 use Rattle.pol_change_log.specs.Sets.{IsMove}
@@ -40,7 +40,7 @@ use Rattle.pol_moves.proofs.Recorded.{all_with, horizon_by_revisions, keeps_all,
 use Rattle.pol_moves.proofs.Retold.{told_as, told_too}
 
 -- the log keeps the same of all changes where its changes are the same
-kept_as : (log other : Log) (all : List Change) → other.kept ≡ log.kept → other.horizon ≡ log.horizon → KeepsLast log all → KeepsLast other all
+kept_as : (log other : Log) (all : List SetChange) → other.kept ≡ log.kept → other.horizon ≡ log.horizon → KeepsLast log all → KeepsLast other all
 kept_as log other all kept horizon keeps = record { kept = kept ∙ keeps.kept; horizon = horizon ∙ keeps.horizon }
 
 -- ---- at the start
@@ -113,7 +113,7 @@ module _ (options : Options) (journal : List Request) (request : Request) (old n
       let rest = earlier_changes revision (omega (arith, within)) in
       λ i. replicate (changes_between (early i) (late i)) (suc revision) ++ rest i
 
-  all_revisions : map (λ (c : Change). c.revision) (all_with lead.prepared.plan.revision lead.prepared.plan.changes chained.all)
+  all_revisions : map (λ (c : SetChange). c.revision) (all_with lead.prepared.plan.revision lead.prepared.plan.changes chained.all)
       ≡ revisions_until options (longer options journal request) (length (longer options journal request))
   all_revisions =
       let one_more : length journal + 1 ≡ suc (length journal) = omega arith in

@@ -3,7 +3,7 @@ use Rattle.std.proofs.Common.{zero, suc, ◌≡◌, ℕ, ◌≤◌, List, [], �
 use Rattle.std.specs.Prelude.{option_map}
 use Rattle.std.specs.Option.{option_map_or}
 use Rattle.std.proofs.lemmas.Option.{slice_get-map}
-use Rattle.pol_change_log.specs.declared.change.Change.{Change}
+use Rattle.pol_change_log.specs.declared.change.SetChange.{SetChange}
 use Rattle.pol_change_log.specs.Log.{Log, newest, recorded}
 use Rattle.pol_change_log.specs.Log.{IsSound as IsLog}
 use Rattle.pol_change_log.specs.Recorded.{KeepsLast, horizon_of as horizon_of_changes}
@@ -14,16 +14,16 @@ use Rattle.pol_selcache.proofs.Retold.{horizon_rises as rises_with}
 use Rattle.pol_moves.specs.Changes.{revision_before}
 
 -- all changes, and those of a plan in front of them
-abbrev pub all_with : ℕ → List Planned → List Change → List Change
+abbrev pub all_with : ℕ → List Planned → List SetChange → List SetChange
 all_with revision changes all = fold (λ all change. change_at revision change ∷ all) all changes
 
-keeps_each : (revision : ℕ) (changes : List Planned) (log : Log) (all : List Change) → KeepsLast log all
+keeps_each : (revision : ℕ) (changes : List Planned) (log : Log) (all : List SetChange) → KeepsLast log all
     → KeepsLast (fold (λ log change. recorded log (change_at revision change)) log changes) (all_with revision changes all)
 keeps_each revision [] log all keeps = keeps
 keeps_each revision (c ∷ changes) log all keeps =
     keeps_each revision changes (recorded log (change_at revision c)) (change_at revision c ∷ all) (logs_keep_last.next log all (change_at revision c) keeps)
 
-pub keeps_all : (plan : Plan) (log : Log) (all : List Change) → KeepsLast log all → KeepsLast (all_recorded plan log) (all_with plan.revision plan.changes all)
+pub keeps_all : (plan : Plan) (log : Log) (all : List SetChange) → KeepsLast log all → KeepsLast (all_recorded plan log) (all_with plan.revision plan.changes all)
 keeps_all plan log all keeps = keeps_each plan.revision plan.changes log all keeps
 
 -- ---- their revisions
@@ -31,17 +31,17 @@ shifted : (n x : ℕ) (xs : List ℕ) → replicate n x ++ x ∷ xs ≡ replicat
 shifted zero x xs = refl
 shifted (suc n) x xs = ap (λ ys. x ∷ ys) (shifted n x xs)
 
-pub revisions_with : (revision : ℕ) (changes : List Planned) (all : List Change)
-    → map (λ (c : Change). c.revision) (all_with revision changes all) ≡ replicate (length changes) revision ++ map (λ (c : Change). c.revision) all
+pub revisions_with : (revision : ℕ) (changes : List Planned) (all : List SetChange)
+    → map (λ (c : SetChange). c.revision) (all_with revision changes all) ≡ replicate (length changes) revision ++ map (λ (c : SetChange). c.revision) all
 revisions_with revision [] all = refl
 revisions_with revision (c ∷ changes) all =
-    revisions_with revision changes (change_at revision c ∷ all) ∙ shifted (length changes) revision (map (λ (c : Change). c.revision) all)
+    revisions_with revision changes (change_at revision c ∷ all) ∙ shifted (length changes) revision (map (λ (c : SetChange). c.revision) all)
 
 -- the horizon is told by them
-pub horizon_by_revisions : (all : List Change) → horizon_of_changes all ≡ revision_before 65536 (map (λ (c : Change). c.revision) all)
-horizon_by_revisions all = by (slice_get all 65536) ∙ ap (λ (o : Option ℕ). option_map_or (λ n. n) o 0) (sym (slice_get-map (λ (c : Change). c.revision) all 65536))
+pub horizon_by_revisions : (all : List SetChange) → horizon_of_changes all ≡ revision_before 65536 (map (λ (c : SetChange). c.revision) all)
+horizon_by_revisions all = by (slice_get all 65536) ∙ ap (λ (o : Option ℕ). option_map_or (λ n. n) o 0) (sym (slice_get-map (λ (c : SetChange). c.revision) all 65536))
   where
-    by : (o : Option Change) → option_map_or (λ (c : Change). c.revision) o 0 ≡ option_map_or (λ n. n) (option_map (λ (c : Change). c.revision) o) 0
+    by : (o : Option SetChange) → option_map_or (λ (c : SetChange). c.revision) o 0 ≡ option_map_or (λ n. n) (option_map (λ (c : SetChange). c.revision) o) 0
     by None = refl
     by (Some c) = refl
 

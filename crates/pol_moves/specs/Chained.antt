@@ -6,7 +6,7 @@ use Rattle.pol_model.specs.declared.options.Options.{Options}
 use Rattle.pol_model.specs.declared.request.Request.{Request}
 use Rattle.pol_model.specs.After.{after, state_of}
 use Rattle.pol_model.specs.State.{State}
-use Rattle.pol_change_log.specs.declared.change.Change.{Change}
+use Rattle.pol_change_log.specs.declared.change.SetChange.{SetChange}
 use Rattle.pol_change_log.specs.Recorded.{KeepsLast}
 use Rattle.pol_selcache.specs.Cache.{Cache, IsSound, carried}
 use Rattle.pol_selcache.specs.Live.{Live, number_of}
@@ -32,7 +32,7 @@ pub record IsChained (options : Options) (journal : List Request) (nexts : List 
   pub told : (since : ℕ) → since ≤ length journal → cache.log.horizon ≤ since → (p : Peer) (number : ℕ) → number_of p cache.live ≡ Some number
       → IsListedSince options journal since p
       → WasAt since (set_in (state_at options journal since) p) (selector_in (state_of options journal) p number) cache.log
-  pub all : List Change
+  pub all : List SetChange
   pub kept : KeepsLast cache.log all
   pub revisions : map (λ change. change.revision) all ≡ revisions_until options journal (length journal)
 

@@ -10,8 +10,8 @@ use Rattle.pol_model.specs.After.{state_of}
 use Rattle.pol_model.specs.State.{State}
 use Rattle.pol_model_laws.specs.Holding.{row_of}
 use Rattle.pol_model_laws.specs.WithoutFaults.{WithoutFaults}
-use Rattle.pol_requests.specs.declared.prepared.Change.{Change}
-use Rattle.pol_requests.specs.declared.prepared.Change.TheVariants as change
+use Rattle.pol_requests.specs.declared.prepared.TableChange.{TableChange}
+use Rattle.pol_requests.specs.declared.prepared.TableChange.TheVariants as change
 use Rattle.pol_requests.specs.declared.prepared.Prepared.{Prepared}
 use Rattle.pol_requests.specs.Prepared.{IsPrepared}
 use Rattle.pol_store.specs.Store.{StandsFor, Stored}
@@ -23,7 +23,7 @@ abbrev pub labels_of : ℕ → List IdentityRow → List Label
 labels_of number rows = option_map_or (λ row. row.labels) (row_of number rows) []
 
 -- the request that asks for the change, where these are the rows with what it holds
-abbrev pub request_of : List IdentityRow → Change → Request
+abbrev pub request_of : List IdentityRow → TableChange → Request
 request_of rows (change.Endpoint endpoint name) = AddEndpoint endpoint.name endpoint.labels endpoint.address
 request_of rows (change.NoEndpoint name number) = RemoveEndpoint name
 request_of rows (change.Named name number) = AddIdentity name (labels_of number rows)

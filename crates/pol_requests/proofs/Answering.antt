@@ -19,7 +19,7 @@ use Rattle.pol_model_laws.specs.WithoutFaults.{MayCommit}
 use Rattle.pol_model_laws.proofs.Done.{endpoint-added, identity-added}
 use Rattle.pol_model_laws.proofs.Keyed.{above-In, placed-here}
 use Rattle.pol_model_laws.proofs.StateLaws.{keeps-after}
-use Rattle.pol_requests.specs.declared.prepared.Change.{Change}
+use Rattle.pol_requests.specs.declared.prepared.TableChange.{TableChange}
 use Rattle.pol_requests.specs.declared.prepared.Prepared.{Prepared}
 use Rattle.pol_requests.specs.Answer.{FitsSlots, identity_in, slots_with}
 use Rattle.pol_store.specs.Store.{Stored}
@@ -89,7 +89,7 @@ answered s request old prepared revision identity slots keeps ready at given cou
     let fits : FitsSlots prepared.change = subst FitsSlots (sym ready.change) (slots_fit s request keeps ready.may) in
     let first : revision ≡ s.revision + 1 = at ∙ ap (λ n. n + 1) ready.like.revision in
     let second : identity ≡ identity_given (after s request) request = given ∙ ap identity_in ready.change ∙ identity_after s request keeps ready.may in
-    let third : slots ≡ slots_of (after s request).endpoints = count s keeps ready.like.endpoints fits ∙ ap (λ (c : Change). slots_with c s.endpoints) ready.change ∙ slots_after s request in
+    let third : slots ≡ slots_of (after s request).endpoints = count s keeps ready.like.endpoints fits ∙ ap (λ (c : TableChange). slots_with c s.endpoints) ready.change ∙ slots_after s request in
     answer_of first second third
   where
     answer_of : {a b : ℕ} {c d : Option ℕ} {e f : ℕ} → a ≡ b → c ≡ d → e ≡ f → ◌≡◌ {A = Committed} (record { revision = a; identity = c; slots = e }) (record { revision = b; identity = d; slots = f })

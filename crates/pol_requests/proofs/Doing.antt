@@ -22,7 +22,7 @@ use Rattle.pol_selcache.specs.Cache.{Cache}
 use Rattle.pol_selcache.specs.Live.{AreExact}
 use Rattle.pol_tables.specs.Tables.{number_named}
 use Rattle.pol_peers.specs.References.{RefsOf}
-use Rattle.pol_requests.specs.declared.prepared.Change.TheVariants as change
+use Rattle.pol_requests.specs.declared.prepared.TableChange.TheVariants as change
 use Rattle.pol_store.specs.Parts.{numbers_of, with_numbers}
 use Rattle.pol_store.specs.Store.{IsLike, StandsFor, Stored, peers_of}
 use Rattle.pol_requests.specs.Prepared.{Changes, IsUnderWay, MayChange, change_for, or_none, peers_with}

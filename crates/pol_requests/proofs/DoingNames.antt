@@ -11,7 +11,7 @@ use Rattle.pol_model_laws.specs.Holding.{has_row}
 use Rattle.pol_model_laws.specs.Keeps.{Keeps}
 use Rattle.pol_tables.specs.Tables.{SameNumbers, number_named}
 use Rattle.pol_tables.proofs.NamedNumbers.{same-push, same-without}
-use Rattle.pol_requests.specs.declared.prepared.Change.TheVariants as change
+use Rattle.pol_requests.specs.declared.prepared.TableChange.TheVariants as change
 use Rattle.pol_store.specs.Parts.{numbers_of, with_numbers}
 use Rattle.pol_store.specs.Store.{Stored}
 use Rattle.pol_requests.specs.Prepared.{Changes, IsUnderWay, MayChange, change_for, or_none}

@@ -21,8 +21,8 @@ use Rattle.pol_selcache.specs.Plan.{Plan}
 use Rattle.pol_tables.specs.Tables.{number_named}
 use Rattle.pol_allocator.specs.Held.{HoldsLabels, Prepares}
 use Rattle.pol_peers.specs.References.{RefsOf}
-use Rattle.pol_requests.specs.declared.prepared.Change.{Change}
-use Rattle.pol_requests.specs.declared.prepared.Change.TheVariants as change
+use Rattle.pol_requests.specs.declared.prepared.TableChange.{TableChange}
+use Rattle.pol_requests.specs.declared.prepared.TableChange.TheVariants as change
 use Rattle.pol_store.specs.Parts.{numbers_of, with_numbers}
 use Rattle.pol_requests.specs.Causes.{endpoint_fault}
 use Rattle.pol_store.specs.Store.{Rooms, Stored, peers_of, with_rooms}
@@ -70,7 +70,7 @@ module _ (labels : List Label) (rooms : Rooms) (old mid new : Stored) (mid_is : 
   held_rooms = ap (λ (stored : Stored). stored.rooms) new_is ∙ ap (λ (stored : Stored). stored.rooms) mid_is
 
   -- for a new endpoint
-  pub endpoint_prepared : (name : List ℕ) (address : Addr) (asked : Change) → IsLabelSet labels → IsAddr address
+  pub endpoint_prepared : (name : List ℕ) (address : Addr) (asked : TableChange) → IsLabelSet labels → IsAddr address
       → endpoint_fault old.state name labels address ≡ None → is_exhausted labels old.state.identities ≡ false → 0 < rooms.endpoints
       → asked ≡ change.Endpoint (with_identity number (new_endpoint mid.state name labels address)) name
       → IsPreparedHere (AddEndpoint name labels address) old new (record { plan = plan; change = asked })
@@ -89,7 +89,7 @@ module _ (labels : List Label) (rooms : Rooms) (old mid new : Stored) (mid_is : 
   }
 
   -- for a new named identity
-  pub identity_prepared : (name : List ℕ) (asked : Change) → IsLabelSet labels → has_reserved labels ≡ false → number_named name old.state.named ≡ None
+  pub identity_prepared : (name : List ℕ) (asked : TableChange) → IsLabelSet labels → has_reserved labels ≡ false → number_named name old.state.named ≡ None
       → is_exhausted labels old.state.identities ≡ false → 0 < rooms.named → asked ≡ change.Named name number
       → IsPreparedHere (AddIdentity name labels) old new (record { plan = plan; change = asked })
   identity_prepared name asked set allowed fresh room place its = record {

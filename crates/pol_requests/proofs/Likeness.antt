@@ -10,7 +10,7 @@ use Rattle.pol_model.specs.Endpoints.{named_of}
 use Rattle.pol_model.specs.Fault.{fault_if, fault_of, has_reserved, is_exhausted}
 use Rattle.pol_model.specs.Identities.{number_released}
 use Rattle.pol_model_laws.specs.Holding.{rows_taken}
-use Rattle.pol_requests.specs.declared.prepared.Change.TheVariants as change
+use Rattle.pol_requests.specs.declared.prepared.TableChange.TheVariants as change
 use Rattle.pol_store.specs.Store.{IsLike}
 use Rattle.pol_requests.specs.Prepared.{change_for, or_none}
 

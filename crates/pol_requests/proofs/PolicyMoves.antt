@@ -24,7 +24,7 @@ use Rattle.pol_tables.specs.Tables.{number_named}
 use Rattle.pol_peers.specs.Listed.{listed_peers}
 use Rattle.pol_peers.specs.References.{HasRefs, IsMoreBy, RefsOf}
 use Rattle.pol_peers.proofs.Counts.{refs_dropped, refs_may_drop}
-use Rattle.pol_requests.specs.declared.prepared.Change.TheVariants as change
+use Rattle.pol_requests.specs.declared.prepared.TableChange.TheVariants as change
 use Rattle.pol_requests.specs.declared.prepared.Prepared.{Prepared}
 use Rattle.pol_store.specs.PolicyParts.{listed_of, with_cache, with_policies, with_rows}
 use Rattle.pol_requests.specs.Prepared.{Changes, IsPrepared, IsUnderWay, MayChange, change_for}

@@ -37,7 +37,7 @@ use Rattle.pol_peers.specs.References.{HasRefs, IsMoreBy, RefsOf}
 use Rattle.pol_peers.proofs.Counts.{has_more, refs_held, undone}
 use Rattle.pol_allocator.specs.Held.{AreApart, Prepares, RefersTo}
 use Rattle.pol_allocator.proofs.Apart.{apart_where_held}
-use Rattle.pol_requests.specs.declared.prepared.Change.TheVariants as change
+use Rattle.pol_requests.specs.declared.prepared.TableChange.TheVariants as change
 use Rattle.pol_requests.specs.declared.error.PrepareError.TheVariants.{Fault, Memory}
 use Rattle.pol_store.specs.PolicyParts.{with_cache, with_rows}
 use Rattle.pol_requests.specs.Causes.{policy_error}

@@ -17,7 +17,7 @@ use Rattle.pol_model_laws.specs.Keeps.{Keeps}
 use Rattle.pol_peers.specs.Listed.{listed_peers}
 use Rattle.pol_peers.specs.References.{HasRefs, references_of, times_in}
 use Rattle.pol_peers.proofs.Counts.{times_append}
-use Rattle.pol_requests.specs.declared.prepared.Change.TheVariants as change
+use Rattle.pol_requests.specs.declared.prepared.TableChange.TheVariants as change
 use Rattle.pol_requests.specs.declared.prepared.Prepared.{Prepared}
 use Rattle.pol_store.specs.Parts.{numbers_of, with_numbers}
 use Rattle.pol_store.specs.Store.{StandsFor, Stored, peers_of}

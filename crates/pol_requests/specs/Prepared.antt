@@ -20,8 +20,8 @@ use Rattle.pol_selcache.specs.Live.{AreExact}
 use Rattle.pol_allocator.specs.Held.{Prepares}
 use Rattle.pol_peers.specs.Listed.{listed_peers}
 use Rattle.pol_peers.specs.References.{RefsOf}
-use Rattle.pol_requests.specs.declared.prepared.Change.{Change}
-use Rattle.pol_requests.specs.declared.prepared.Change.TheVariants as change
+use Rattle.pol_requests.specs.declared.prepared.TableChange.{TableChange}
+use Rattle.pol_requests.specs.declared.prepared.TableChange.TheVariants as change
 use Rattle.pol_requests.specs.declared.prepared.Prepared.{Prepared}
 use Rattle.pol_requests.specs.declared.error.PrepareError.{PrepareError}
 use Rattle.pol_requests.specs.declared.error.PrepareError.TheVariants.{Fault, Memory}
@@ -32,7 +32,7 @@ abbrev pub or_none : Option ℕ → ℕ
 or_none number = option_map_or (λ n. n) number 0
 
 -- what the request does to the tables of the state
-abbrev pub change_for : State → Request → Change
+abbrev pub change_for : State → Request → TableChange
 change_for s (AddEndpoint name labels address) = change.Endpoint (new_endpoint s name labels address) name
 change_for s (RemoveEndpoint name) = change.NoEndpoint name (or_none (option_map (λ endpoint. endpoint.identity) (endpoint_of name s.endpoints)))
 change_for s (AddIdentity name labels) = change.Named name (number_for labels s.identities)
@@ -103,7 +103,7 @@ pub record IsUnderWay (s : State) (request : Request) (stored : Stored) : Type 0
   pub room : HasRoom request stored.rooms
 
 -- some request that is under way asks for this change
-pub record MayChange (stored : Stored) (change : Change) : Type 0 where
+pub record MayChange (stored : Stored) (change : TableChange) : Type 0 where
   pub state : State
   pub keeps : Keeps state
   pub request : Request
@@ -111,7 +111,7 @@ pub record MayChange (stored : Stored) (change : Change) : Type 0 where
   pub asked : change ≡ change_for state request
 
 -- the change does each request under way that asks for it
-abbrev pub Changes : Stored → Change → Stored → Type 0
+abbrev pub Changes : Stored → TableChange → Stored → Type 0
 Changes old change new =
     (s : State) (request : Request) → Keeps s → IsUnderWay s request old → change ≡ change_for s request
     → StandsFor (after s request) new

@@ -12,38 +12,38 @@ ghost use Rattle.pol_store.specs.Store.{StandsFor};
 use crate::endpoints::{accept_endpoint, accept_no_endpoint};
 use crate::identities::{accept_identity, accept_no_identity};
 use crate::policies::{accept_no_policy, accept_policy, withdraw_policy};
-use crate::prepared::{Change, Prepared};
+use crate::prepared::{Prepared, TableChange};
 use pol_model::Mode;
 use pol_store::Store;
 
 /// Changes the mode.
 fn change_mode(store: &mut Store, mode: Mode)
-    requires may { MayChange store.old (Change.Mode mode) }
-    ensures done { Changes store.old (Change.Mode mode) store.new }
+    requires may { MayChange store.old (TableChange.Mode mode) }
+    ensures done { Changes store.old (TableChange.Mode mode) store.new }
     ensures sets { store.new.cache ≡ store.old.cache }
 {
     store.set_mode(mode);
 }
 
 /// Changes the tables, and gives up what goes.
-fn make_change(store: &mut Store, change: Change)
+fn make_change(store: &mut Store, change: TableChange)
     requires may { MayChange store.old change }
     ensures done { Changes store.old change store.new }
     ensures selectors { LosesSelectors store.old.cache store.new.cache }
 {
     match change {
-        Change::Endpoint(endpoint, name) => accept_endpoint(store, endpoint, name),
-        Change::NoEndpoint(name, number) => accept_no_endpoint(store, name, number),
-        Change::Named(name, number) => accept_identity(store, name, number),
-        Change::NotNamed(name, number) => accept_no_identity(store, name, number),
-        Change::Policy {
+        TableChange::Endpoint(endpoint, name) => accept_endpoint(store, endpoint, name),
+        TableChange::NoEndpoint(name, number) => accept_no_endpoint(store, name, number),
+        TableChange::Named(name, number) => accept_identity(store, name, number),
+        TableChange::NotNamed(name, number) => accept_no_identity(store, name, number),
+        TableChange::Policy {
             stamped,
             key,
             taken,
             given_up,
         } => accept_policy(store, stamped, key, taken, given_up),
-        Change::NoPolicy(key, given_up) => accept_no_policy(store, key, given_up),
-        Change::Mode(mode) => change_mode(store, mode),
+        TableChange::NoPolicy(key, given_up) => accept_no_policy(store, key, given_up),
+        TableChange::Mode(mode) => change_mode(store, mode),
     }
 }
 
@@ -70,12 +70,14 @@ pub fn withdraw(store: &mut Store, prepared: Prepared)
         change,
     } = prepared;
     match change {
-        Change::Endpoint(endpoint, _) => store.release(endpoint.identity),
-        Change::Named(_, number) => store.release(number),
-        Change::Policy { stamped, taken, .. } => { withdraw_policy(store, &stamped.policy, &taken) }
-        Change::NoEndpoint(_, _)
-        | Change::NotNamed(_, _)
-        | Change::NoPolicy(_, _)
-        | Change::Mode(_) => (),
+        TableChange::Endpoint(endpoint, _) => store.release(endpoint.identity),
+        TableChange::Named(_, number) => store.release(number),
+        TableChange::Policy { stamped, taken, .. } => {
+            withdraw_policy(store, &stamped.policy, &taken)
+        }
+        TableChange::NoEndpoint(_, _)
+        | TableChange::NotNamed(_, _)
+        | TableChange::NoPolicy(_, _)
+        | TableChange::Mode(_) => (),
     }
 }

@@ -12,7 +12,7 @@ ghost use Rattle.pol_model_laws.specs.Keeps.{Keeps};
 ghost use Rattle.pol_requests.specs.Answer.{FitsSlots, identity_in, slots_with};
 ghost use Rattle.pol_requests.specs.Prepared.{IsPrepared};
 
-use crate::prepared::{Change, Prepared};
+use crate::prepared::{Prepared, TableChange};
 use pol_model::{Committed, Endpoint};
 use pol_store::Store;
 use std::cmp::max;
@@ -31,32 +31,34 @@ fn last_slot_without(endpoints: &[Endpoint], name: &str) -> u32
 }
 
 /// The identity of what the change adds.
-fn identity_in(change: &Change) -> Option<u32>
+fn identity_in(change: &TableChange) -> Option<u32>
     ensures identity { result ≡ identity_in change.now }
 {
     match change {
-        Change::Endpoint(endpoint, _) => Some(endpoint.identity),
-        Change::Named(_, number) => Some(*number),
-        Change::NoEndpoint(_, _)
-        | Change::NotNamed(_, _)
-        | Change::Policy { .. }
-        | Change::NoPolicy(_, _)
-        | Change::Mode(_) => None,
+        TableChange::Endpoint(endpoint, _) => Some(endpoint.identity),
+        TableChange::Named(_, number) => Some(*number),
+        TableChange::NoEndpoint(_, _)
+        | TableChange::NotNamed(_, _)
+        | TableChange::Policy { .. }
+        | TableChange::NoPolicy(_, _)
+        | TableChange::Mode(_) => None,
     }
 }
 
 /// One more than the greatest slot once the change is done.
-fn slots_with(store: &Store, change: &Change) -> u32
+fn slots_with(store: &Store, change: &TableChange) -> u32
     ensures slots { (s : State) → Keeps s → store.now.state.endpoints ≡ s.endpoints → FitsSlots change.now → result ≡ slots_with change.now s.endpoints }
 {
     match change {
-        Change::Endpoint(endpoint, _) => { max(store.slots(), endpoint.slot.saturating_add(1)) }
-        Change::NoEndpoint(name, _) => { last_slot_without(store.endpoints(), name.as_str()) }
-        Change::Named(_, _)
-        | Change::NotNamed(_, _)
-        | Change::Policy { .. }
-        | Change::NoPolicy(_, _)
-        | Change::Mode(_) => store.slots(),
+        TableChange::Endpoint(endpoint, _) => {
+            max(store.slots(), endpoint.slot.saturating_add(1))
+        }
+        TableChange::NoEndpoint(name, _) => { last_slot_without(store.endpoints(), name.as_str()) }
+        TableChange::Named(_, _)
+        | TableChange::NotNamed(_, _)
+        | TableChange::Policy { .. }
+        | TableChange::NoPolicy(_, _)
+        | TableChange::Mode(_) => store.slots(),
     }
 }
 

@@ -8,7 +8,7 @@ ghost use Rattle.pol_requests.specs.Prepared.{Changes, MayChange, PreparesOrNot}
 ghost use Rattle.pol_store.specs.Store.{StandsForSome};
 
 use crate::error::PrepareError;
-use crate::prepared::{Change, Prepared};
+use crate::prepared::{Prepared, TableChange};
 use pol_addr::Addr;
 use pol_allocator::LabelsHeld;
 use pol_data::{Steps, Text};
@@ -60,7 +60,7 @@ pub(crate) fn prepare_endpoint<L: Ledger>(
             endpoint.identity = number;
             Ok(Prepared {
                 plan,
-                change: Change::Endpoint(endpoint, own),
+                change: TableChange::Endpoint(endpoint, own),
             })
         }
         Err(IdentError::Exhausted) => Err(PrepareError::Fault(Fault::IdentitiesExhausted)),
@@ -88,14 +88,14 @@ pub(crate) fn prepare_no_endpoint<L: Ledger>(
     let plan = store.plan_release(number, steps)?;
     Ok(Prepared {
         plan,
-        change: Change::NoEndpoint(own, number),
+        change: TableChange::NoEndpoint(own, number),
     })
 }
 
 /// Places the endpoint, whose number is held.
 pub(crate) fn accept_endpoint(store: &mut Store, endpoint: Endpoint, name: Text)
-    requires may { MayChange store.old (Change.Endpoint endpoint name) }
-    ensures done { Changes store.old (Change.Endpoint endpoint name) store.new }
+    requires may { MayChange store.old (TableChange.Endpoint endpoint name) }
+    ensures done { Changes store.old (TableChange.Endpoint endpoint name) store.new }
     ensures sets { store.new.cache ≡ store.old.cache }
 {
     store.put_endpoint(endpoint, name);
@@ -103,8 +103,8 @@ pub(crate) fn accept_endpoint(store: &mut Store, endpoint: Endpoint, name: Text)
 
 /// Takes the endpoint out, and gives its number back.
 pub(crate) fn accept_no_endpoint(store: &mut Store, name: Text, number: u32)
-    requires may { MayChange store.old (Change.NoEndpoint name number) }
-    ensures done { Changes store.old (Change.NoEndpoint name number) store.new }
+    requires may { MayChange store.old (TableChange.NoEndpoint name number) }
+    ensures done { Changes store.old (TableChange.NoEndpoint name number) store.new }
     ensures sets { store.new.cache ≡ store.old.cache }
 {
     store.drop_endpoint(name.as_str());

@@ -7,7 +7,7 @@ ghost use Rattle.pol_requests.specs.Prepared.{Changes, MayChange, PreparesOrNot}
 ghost use Rattle.pol_store.specs.Store.{StandsForSome};
 
 use crate::error::PrepareError;
-use crate::prepared::{Change, Prepared};
+use crate::prepared::{Prepared, TableChange};
 use pol_allocator::LabelsHeld;
 use pol_data::{Steps, Text};
 use pol_ident::IdentError;
@@ -40,7 +40,7 @@ pub(crate) fn prepare_identity<L: Ledger>(
     match store.hold_labels(labels, steps) {
         Ok(LabelsHeld { number, plan }) => Ok(Prepared {
             plan,
-            change: Change::Named(own, number),
+            change: TableChange::Named(own, number),
         }),
         Err(IdentError::Exhausted) => Err(PrepareError::Fault(Fault::IdentitiesExhausted)),
         Err(IdentError::Memory) => Err(PrepareError::Memory),
@@ -67,14 +67,14 @@ pub(crate) fn prepare_no_identity<L: Ledger>(
     let plan = store.plan_release(number, steps)?;
     Ok(Prepared {
         plan,
-        change: Change::NotNamed(own, number),
+        change: TableChange::NotNamed(own, number),
     })
 }
 
 /// The name holds the number, which is held.
 pub(crate) fn accept_identity(store: &mut Store, name: Text, number: u32)
-    requires may { MayChange store.old (Change.Named name number) }
-    ensures done { Changes store.old (Change.Named name number) store.new }
+    requires may { MayChange store.old (TableChange.Named name number) }
+    ensures done { Changes store.old (TableChange.Named name number) store.new }
     ensures sets { store.new.cache ≡ store.old.cache }
 {
     store.put_name(name, number);
@@ -82,8 +82,8 @@ pub(crate) fn accept_identity(store: &mut Store, name: Text, number: u32)
 
 /// Takes the name out, and gives its number back.
 pub(crate) fn accept_no_identity(store: &mut Store, name: Text, number: u32)
-    requires may { MayChange store.old (Change.NotNamed name number) }
-    ensures done { Changes store.old (Change.NotNamed name number) store.new }
+    requires may { MayChange store.old (TableChange.NotNamed name number) }
+    ensures done { Changes store.old (TableChange.NotNamed name number) store.new }
     ensures sets { store.new.cache ≡ store.old.cache }
 {
     store.drop_name(name.as_str());

@@ -16,5 +16,5 @@ mod requests;
 pub use change::{accept, withdraw};
 pub use committed::answer;
 pub use error::PrepareError;
-pub use prepared::{Change, Prepared};
+pub use prepared::{Prepared, TableChange};
 pub use requests::prepare;

@@ -17,7 +17,7 @@ ghost use Rattle.pol_store.specs.Store.{StandsFor, StandsForSome};
 ghost use Rattle.pol_requests.specs.declared.prepared.Prepared.{Prepared as OnePrepared};
 
 use crate::error::PrepareError;
-use crate::prepared::{Change, Prepared};
+use crate::prepared::{Prepared, TableChange};
 use pol_data::{Memory, Steps};
 use pol_ident::IdentError;
 use pol_model::{Fault, Stamped};
@@ -127,7 +127,7 @@ pub(crate) fn prepare_policy<L: Ledger>(
     match store.hold_prefixes(new.taken.as_slice(), new.given_up.as_slice(), steps) {
         Ok(plan) => Ok(Prepared {
             plan,
-            change: Change::Policy {
+            change: TableChange::Policy {
                 stamped: new.stamped,
                 key: new.key,
                 taken: new.taken,
@@ -156,7 +156,7 @@ pub(crate) fn prepare_no_policy<L: Ledger>(
     let plan = store.plan_prefixes(old.prefixes.as_slice(), steps)?;
     Ok(Prepared {
         plan,
-        change: Change::NoPolicy(old.key, old.prefixes),
+        change: TableChange::NoPolicy(old.key, old.prefixes),
     })
 }
 
@@ -168,8 +168,8 @@ pub(crate) fn accept_policy(
     taken: Prefixes,
     given_up: Prefixes,
 )
-    requires may { MayChange store.old (Change.Policy new key taken given_up) }
-    ensures done { Changes store.old (Change.Policy new key taken given_up) store.new }
+    requires may { MayChange store.old (TableChange.Policy new key taken given_up) }
+    ensures done { Changes store.old (TableChange.Policy new key taken given_up) store.new }
     ensures selectors { LosesSelectors store.old.cache store.new.cache }
 {
     let old = store.put(new, key);
@@ -179,8 +179,8 @@ pub(crate) fn accept_policy(
 
 /// Takes the policy out, and gives up what it held and referred to.
 pub(crate) fn accept_no_policy(store: &mut Store, key: PolicyKey, given_up: Prefixes)
-    requires may { MayChange store.old (Change.NoPolicy key given_up) }
-    ensures done { Changes store.old (Change.NoPolicy key given_up) store.new }
+    requires may { MayChange store.old (TableChange.NoPolicy key given_up) }
+    ensures done { Changes store.old (TableChange.NoPolicy key given_up) store.new }
     ensures selectors { LosesSelectors store.old.cache store.new.cache }
 {
     let old = store.take_out(&key);

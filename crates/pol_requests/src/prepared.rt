@@ -7,7 +7,7 @@ use pol_selcache::Plan;
 
 /// What a prepared request does to the tables.
 #[derive(Drop)]
-pub enum Change {
+pub enum TableChange {
     /// The endpoint, whose number is held, is placed; the text is its name, for the index.
     Endpoint(Endpoint, Text),
     /// The endpoint of that name goes, and one holder of this number with it.
@@ -39,5 +39,5 @@ pub struct Prepared {
     /// What changes of the sets of the selectors.
     pub plan: Plan,
     /// What changes of the tables.
-    pub change: Change,
+    pub change: TableChange,
 }

@@ -12,7 +12,7 @@ use crate::endpoints::{prepare_endpoint, prepare_no_endpoint};
 use crate::error::PrepareError;
 use crate::identities::{prepare_identity, prepare_no_identity};
 use crate::policies::{prepare_no_policy, prepare_policy};
-use crate::prepared::{Change, Prepared};
+use crate::prepared::{Prepared, TableChange};
 use pol_data::Steps;
 use pol_model::{Mode, Request};
 use pol_store::Store;
@@ -33,7 +33,7 @@ fn prepare_mode<L: Ledger>(
     let plan = store.plan_nothing(steps)?;
     Ok(Prepared {
         plan,
-        change: Change::Mode(mode),
+        change: TableChange::Mode(mode),
     })
 }
 

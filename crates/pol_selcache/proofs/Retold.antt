@@ -10,7 +10,7 @@ use Rattle.pol_data.proofs.Members.{In-from_Contains}
 use Rattle.pol_model.specs.Ascending.{Ascends}
 use Rattle.pol_model.specs.Selects.{set_at}
 use Rattle.pol_sets.specs.declared.sets.Move.{Move}
-use Rattle.pol_change_log.specs.declared.change.Change.{Change}
+use Rattle.pol_change_log.specs.declared.change.SetChange.{SetChange}
 use Rattle.pol_change_log.specs.Ids.{without}
 use Rattle.pol_change_log.specs.Log.{Log, InOrder, is_later_of, newest, newest_of, recorded}
 use Rattle.pol_change_log.specs.Log.{IsSound as IsLog}
@@ -27,28 +27,28 @@ use Rattle.pol_selcache.proofs.Exact.{change_of_own, found_own, is_of}
 use Rattle.pol_selcache.proofs.RowSets.{set_sorted}
 
 -- ---- the horizon
-newest_above : (horizon : ℕ) (cs : List Change) → InOrder horizon cs → horizon ≤ newest_of horizon cs
+newest_above : (horizon : ℕ) (cs : List SetChange) → InOrder horizon cs → horizon ≤ newest_of horizon cs
 newest_above horizon [] in_order = omega arith
 newest_above horizon (c ∷ cs) in_order = let rest = newest_above horizon cs in_order.1 in let first = in_order.0 in omega arith
 
-kept_above : (horizon : ℕ) (cs : List Change) (k : ℕ) (d : Change) → InOrder horizon cs → slice_get cs k ≡ Some d → horizon ≤ d.revision
+kept_above : (horizon : ℕ) (cs : List SetChange) (k : ℕ) (d : SetChange) → InOrder horizon cs → slice_get cs k ≡ Some d → horizon ≤ d.revision
 kept_above horizon [] k d in_order at = absurd (let wrong : ⊥ = cc in wrong)
 kept_above horizon (c ∷ cs) zero d in_order at =
     let rest = newest_above horizon cs in_order.1 in
     let first = in_order.0 in
-    let same : c.revision ≡ d.revision = ap (λ (e : Change). e.revision) (same_Some c d at) in
+    let same : c.revision ≡ d.revision = ap (λ (e : SetChange). e.revision) (same_Some c d at) in
     omega arith
 kept_above horizon (c ∷ cs) (suc k) d in_order at = kept_above horizon cs k d in_order.1 at
 
-pub horizon_rises : (log : Log) (c : Change) (many : ℕ) → IsLog log → log.horizon ≤ option_map_or (λ (d : Change). d.revision) (slice_get (c ∷ log.kept) (suc many)) log.horizon
+pub horizon_rises : (log : Log) (c : SetChange) (many : ℕ) → IsLog log → log.horizon ≤ option_map_or (λ (d : SetChange). d.revision) (slice_get (c ∷ log.kept) (suc many)) log.horizon
 horizon_rises log c many sound = by (slice_get log.kept many) refl
   where
-    by : (o : Option Change) → slice_get log.kept many ≡ o → log.horizon ≤ option_map_or (λ (d : Change). d.revision) o log.horizon
+    by : (o : Option SetChange) → slice_get log.kept many ≡ o → log.horizon ≤ option_map_or (λ (d : SetChange). d.revision) o log.horizon
     by None is = omega arith
     by (Some d) is = kept_above log.horizon log.kept many d sound.in_order is
 
 -- ---- what a change pushes out isn't later than the horizon
-trimmed : (p : Change → Bool) (k : ℕ) (cs : List Change) → length cs ≤ suc k → ((d : Change) → slice_get cs k ≡ Some d → p d ≡ false) → filter p (take k cs) ≡ filter p cs
+trimmed : (p : SetChange → Bool) (k : ℕ) (cs : List SetChange) → length cs ≤ suc k → ((d : SetChange) → slice_get cs k ≡ Some d → p d ≡ false) → filter p (take k cs) ≡ filter p cs
 trimmed p zero [] few fails = refl
 trimmed p zero (c ∷ []) few fails = sym (cond-false (p c) (c ∷ []) [] (fails c refl))
 trimmed p zero (c ∷ d ∷ cs) few fails = absurd (omega arith)
@@ -57,13 +57,13 @@ trimmed p (suc k) (c ∷ cs) few fails =
     let rest = trimmed p k cs (omega arith) (λ d at. fails d at) in
     λ i. cond (p c) (c ∷ rest i) (rest i)
 
-later_recorded : (n revision : ℕ) (log : Log) (c : Change) (many : ℕ) → length log.kept ≤ suc many
-    → option_map_or (λ (d : Change). d.revision) (slice_get (c ∷ log.kept) (suc many)) log.horizon ≤ revision
+later_recorded : (n revision : ℕ) (log : Log) (c : SetChange) (many : ℕ) → length log.kept ≤ suc many
+    → option_map_or (λ (d : SetChange). d.revision) (slice_get (c ∷ log.kept) (suc many)) log.horizon ≤ revision
     → filter (is_later_of n revision) (take (suc many) (c ∷ log.kept)) ≡ cond (is_later_of n revision c) (c ∷ filter (is_later_of n revision) log.kept) (filter (is_later_of n revision) log.kept)
 later_recorded n revision log c many few low =
     trimmed (is_later_of n revision) (suc many) (c ∷ log.kept) (omega arith)
     (λ d at. and_left (nat_lt revision d.revision) (d.selector == n)
-    (le-ltb revision d.revision (subst (λ o. option_map_or (λ (e : Change). e.revision) o log.horizon ≤ revision) at low)))
+    (le-ltb revision d.revision (subst (λ o. option_map_or (λ (e : SetChange). e.revision) o log.horizon ≤ revision) at low)))
 
 -- ---- the changes of a plan, one after another
 module _ (n revision new : ℕ) (newer : revision < new) where
@@ -73,7 +73,7 @@ module _ (n revision new : ℕ) (newer : revision < new) where
       ≡ cons_option (option_map (change_at new) (find (is_of n) changes)) (filter (is_later_of n revision) log.kept))
   later_all [] log sound before ascend low = (low, refl)
   later_all (change ∷ changes) log sound before ascend low =
-      let c : Change = change_at new change in
+      let c : SetChange = change_at new change in
       let next : Log = recorded log c in
       let next_sound : IsLog next = recorded_sound log c sound before in
       let rest = later_all changes next next_sound (omega arith) ascend.1 low in
@@ -98,7 +98,7 @@ module _ (n revision new : ℕ) (newer : revision < new) where
       )
 
 -- ---- one selector's change leads from its set to the next
-leads_on : (before : List ℕ) (older : List Change) (new : ℕ) (s : Live) (set : List ℕ) (o : Option Planned) → change_to set s ≡ o
+leads_on : (before : List ℕ) (older : List SetChange) (new : ℕ) (s : Live) (set : List ℕ) (o : Option Planned) → change_to set s ≡ o
     → IsStrictlySortedBy nat_cmp before → IsStrictlySortedBy nat_cmp set → AllFit before older → after_all before older ≡ s.set
     → AllFit before (cons_option (option_map (change_at new) o) older) × (after_all before (cons_option (option_map (change_at new) o) older) ≡ option_map_or (λ (c : Planned). c.set) o s.set)
 leads_on before older new s set None is before_sorted set_sorted fit leads = (fit, leads)

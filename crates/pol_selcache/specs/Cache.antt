@@ -6,7 +6,7 @@ use Rattle.pol_model.specs.Ascending.{Ascends}
 use Rattle.pol_model.specs.declared.row.IdentityRow.{IdentityRow}
 use Rattle.pol_model.specs.Selects.{set_at}
 use Rattle.pol_model_laws.specs.Holding.{has_row}
-use Rattle.pol_change_log.specs.declared.change.Change.{Change}
+use Rattle.pol_change_log.specs.declared.change.SetChange.{SetChange}
 use Rattle.pol_change_log.specs.Log.{Log, newest, recorded}
 use Rattle.pol_change_log.specs.Log.{IsSound as IsLog}
 use Rattle.pol_change_log.specs.Ids.{has}
@@ -51,7 +51,7 @@ abbrev pub dropped : ℕ → Cache → Cache
 dropped number cache = record cache { live = without_reference number cache.live }
 
 -- a planned change, as the log records it
-abbrev pub change_at : ℕ → Planned → Change
+abbrev pub change_at : ℕ → Planned → SetChange
 change_at revision change =
     record { selector = change.selector; revision = revision; gained = change.gained; lost = change.lost }
 

@@ -4,7 +4,7 @@ use Rattle.std.specs.List.{Contains}
 use Rattle.std.specs.List.Sorted.{IsStrictlySortedBy}
 use Rattle.std.specs.Ordering.{nat_cmp}
 use Rattle.pol_sets.specs.declared.sets.Move.{Move}
-use Rattle.pol_change_log.specs.declared.change.Change.{Change}
+use Rattle.pol_change_log.specs.declared.change.SetChange.{SetChange}
 use Rattle.pol_change_log.specs.Log.{Log, is_later_of, newest, since}
 use Rattle.pol_change_log.specs.Log.{IsSound as IsLog}
 use Rattle.pol_change_log.specs.Net.{after_all}
@@ -14,7 +14,7 @@ use Rattle.pol_selcache.specs.Live.{Live}
 use Rattle.pol_selcache.specs.Plan.{Plan, after_changes}
 
 -- the changes of a selector that are later than a revision, newest first
-abbrev pub changes_after : ℕ → ℕ → Log → List Change
+abbrev pub changes_after : ℕ → ℕ → Log → List SetChange
 changes_after revision number log = filter (is_later_of number revision) log.kept
 
 -- The selector's set was this one at the revision: the log goes back so far, and the later changes lead from it to the

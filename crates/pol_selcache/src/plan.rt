@@ -21,7 +21,7 @@ use crate::ids::{in_both, set_of_slice};
 use crate::judge::selected_of;
 use crate::made::{Made, shared};
 use crate::tried::{headings_of, tried};
-use pol_change_log::Change;
+use pol_change_log::SetChange;
 use pol_data::{Memory, Steps};
 use pol_ident::Identities;
 use pol_selectors::{Row, Selectors};
@@ -254,7 +254,7 @@ impl SelectorCache {
             set,
         } = change;
         let next = self.table.put_set(selector, set, near);
-        self.log.record(Change {
+        self.log.record(SetChange {
             selector,
             revision,
             gained,

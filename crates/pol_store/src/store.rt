@@ -9,13 +9,13 @@ ghost use Rattle.pol_model.specs.Sizes.{IsShortPolicy};
 ghost use Rattle.pol_allocator.specs.Held.{nothing_held};
 ghost use Rattle.pol_store.specs.Store.{StandsFor};
 
-use pol_allocator::Numbers;
+use pol_allocator::Allocator;
 use pol_data::Memory;
 use pol_ident::Identities;
 use pol_kept_filters::KeptFilters;
 use pol_model::{Endpoint, Mode, Stamped};
 use pol_selcache::SelectorCache;
-use pol_tables::{Endpoints, Named, Policies};
+use pol_tables::{EndpointTable, Named, Policies};
 use pol_taken::Addresses;
 use std::alloc::Global;
 use std::marker::Model;
@@ -28,10 +28,10 @@ pub struct Store {
     pub(crate) alloc: Global,
     pub(crate) revision: u64,
     pub(crate) mode: Mode,
-    pub(crate) endpoints: Endpoints,
+    pub(crate) endpoints: EndpointTable,
     pub(crate) named: Named,
     pub(crate) policies: Policies,
-    pub(crate) numbers: Numbers,
+    pub(crate) numbers: Allocator,
     // The filters that were taken for the endpoint of each slot. What a policy or the mode changes is forgotten.
     pub(crate) kept: KeptFilters,
     // What each address is. None where endpoints or prefixes changed since it was made.
@@ -78,10 +78,10 @@ impl Store {
             alloc,
             revision: 0,
             mode,
-            endpoints: Endpoints::new(alloc),
+            endpoints: EndpointTable::new(alloc),
             named: Named::new(alloc),
             policies: Policies::new(alloc),
-            numbers: Numbers::new(alloc)?,
+            numbers: Allocator::new(alloc)?,
             kept: KeptFilters::new(alloc),
             addresses: None,
         })

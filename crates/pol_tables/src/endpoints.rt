@@ -17,14 +17,14 @@ use std::marker::Model;
 
 /// The live endpoints, ascending by slot; no two have one name, address or slot.
 #[derive(Drop)]
-pub struct Endpoints {
+pub struct EndpointTable {
     // In the order of slots.
     by_name: IndexMap<String, Endpoint>,
     // The slot of the endpoint that has the address.
     by_address: IndexMap<Addr, u32>,
 }
 
-impl Model for Endpoints {
+impl Model for EndpointTable {
     ghost use Rattle.pol_tables.specs.Tables.{EndpointTable};
 
     ghost Value = { EndpointTable };
@@ -38,12 +38,12 @@ impl Model for Endpoints {
     ghost invariant = { λ e. IsEndpoints e.by_name.entries e.by_address.entries };
 }
 
-impl Endpoints {
+impl EndpointTable {
     /// No endpoint. It takes no memory.
-    pub fn new(alloc: Global) -> Endpoints
+    pub fn new(alloc: Global) -> EndpointTable
         ensures list { result.list ≡ [] }
     {
-        Endpoints {
+        EndpointTable {
             by_name: IndexMap::new(alloc),
             by_address: IndexMap::new(alloc),
         }

@@ -11,6 +11,6 @@ mod policies;
 mod queue;
 mod slots;
 
-pub use endpoints::Endpoints;
+pub use endpoints::EndpointTable;
 pub use named::Named;
 pub use policies::Policies;

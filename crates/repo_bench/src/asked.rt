@@ -1,6 +1,6 @@
 //! The requests of a run.
 
-use crate::peers::Named;
+use crate::peers::PeersOf;
 use crate::pods::{endpoint, identity, no_endpoint, no_identity};
 use crate::policies::{no_policy, policy};
 use anyhow::Result;
@@ -12,7 +12,7 @@ pub(crate) const BATCH: u32 = 8;
 
 /// What comes and goes.
 #[derive(Clone, Copy)]
-pub(crate) enum Kind {
+pub(crate) enum TimedRequest {
     /// Identities of two selectors: one selects an identity of the same application.
     Identity,
     /// Endpoints of labels that nobody else has, and that one selector selects.
@@ -20,9 +20,9 @@ pub(crate) enum Kind {
     /// Modes.
     Mode,
     /// Policies of ten entries.
-    Policy(Named),
+    Policy(PeersOf),
     /// The policies that the repository was filled with, the oldest first.
-    Oldest(Named),
+    Oldest(PeersOf),
 }
 
 /// What is asked of it.
@@ -42,30 +42,30 @@ static POLICY: [Step; 3] = [Step::Comes, Step::Replaces, Step::Goes];
 static OLDEST: [Step; 2] = [Step::Goes, Step::Comes];
 
 /// What a run asks of a kind, in this order. What was there from the beginning goes first, and comes again.
-pub(crate) fn steps_of(kind: Kind) -> &'static [Step] {
+pub(crate) fn steps_of(kind: TimedRequest) -> &'static [Step] {
     match kind {
-        Kind::Mode => &MODE,
-        Kind::Identity | Kind::Endpoint => &TURN,
-        Kind::Policy(_) => &POLICY,
-        Kind::Oldest(_) => &OLDEST,
+        TimedRequest::Mode => &MODE,
+        TimedRequest::Identity | TimedRequest::Endpoint => &TURN,
+        TimedRequest::Policy(_) => &POLICY,
+        TimedRequest::Oldest(_) => &OLDEST,
     }
 }
 
 /// What the policies are called that the repository is filled with.
-fn family(named: Named) -> &'static str {
+fn family(named: PeersOf) -> &'static str {
     match named {
-        Named::Pods => "pods",
+        PeersOf::Pods => "pods",
         _ => "prefixes",
     }
 }
 
 /// The policy of that number that the repository is filled with: nobody else lists its peers.
-pub(crate) fn filling(alloc: Global, named: Named, number: u32) -> Result<Request> {
+pub(crate) fn filling(alloc: Global, named: PeersOf, number: u32) -> Result<Request> {
     policy(alloc, family(named), number, named, number)
 }
 
 /// A policy. The one that takes its place has the peers that the policy before it had.
-fn policy_request(alloc: Global, step: Step, named: Named, number: u32) -> Result<Request> {
+fn policy_request(alloc: Global, step: Step, named: PeersOf, number: u32) -> Result<Request> {
     match step {
         Step::Comes => policy(alloc, "new", number, named, number.wrapping_add(1)),
         Step::Replaces => policy(alloc, "new", number, named, number),
@@ -73,7 +73,7 @@ fn policy_request(alloc: Global, step: Step, named: Named, number: u32) -> Resul
     }
 }
 
-fn oldest_request(alloc: Global, step: Step, named: Named, number: u32) -> Result<Request> {
+fn oldest_request(alloc: Global, step: Step, named: PeersOf, number: u32) -> Result<Request> {
     match step {
         Step::Goes => no_policy(alloc, family(named), number),
         _ => filling(alloc, named, number),
@@ -103,13 +103,19 @@ fn mode_request(number: u32) -> Request {
 }
 
 /// The request of a number in its run.
-fn request(alloc: Global, kind: Kind, step: Step, run: u32, number: u32) -> Result<Request> {
+fn request(
+    alloc: Global,
+    kind: TimedRequest,
+    step: Step,
+    run: u32,
+    number: u32,
+) -> Result<Request> {
     match kind {
-        Kind::Identity => identity_request(alloc, step, number),
-        Kind::Endpoint => endpoint_request(alloc, step, number),
-        Kind::Mode => Ok(mode_request(number)),
-        Kind::Policy(named) => policy_request(alloc, step, named, number),
-        Kind::Oldest(named) => {
+        TimedRequest::Identity => identity_request(alloc, step, number),
+        TimedRequest::Endpoint => endpoint_request(alloc, step, number),
+        TimedRequest::Mode => Ok(mode_request(number)),
+        TimedRequest::Policy(named) => policy_request(alloc, step, named, number),
+        TimedRequest::Oldest(named) => {
             let own = run.wrapping_mul(BATCH).wrapping_add(number);
             oldest_request(alloc, step, named, own)
         }
@@ -117,7 +123,12 @@ fn request(alloc: Global, kind: Kind, step: Step, run: u32, number: u32) -> Resu
 }
 
 /// The requests of a run.
-pub(crate) fn requests(alloc: Global, kind: Kind, step: Step, run: u32) -> Result<Vec<Request>> {
+pub(crate) fn requests(
+    alloc: Global,
+    kind: TimedRequest,
+    step: Step,
+    run: u32,
+) -> Result<Vec<Request>> {
     let mut list = Vec::with_capacity(alloc, BATCH as usize)?;
     for number in 0..BATCH {
         list.push(request(alloc, kind, step, run, number)?)?;

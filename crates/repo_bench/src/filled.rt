@@ -2,7 +2,7 @@
 ghost use Rattle.std.specs.Prelude.{◌≡◌, None};
 
 use crate::asked::{BATCH, filling};
-use crate::peers::Named;
+use crate::peers::PeersOf;
 use crate::pods::{endpoint, identity};
 use crate::runs::commit;
 use anyhow::Result;
@@ -30,7 +30,7 @@ enum Filling {
     Identities,
     /// They leave the numbers of a run free. Each has the labels of an identity.
     Endpoints,
-    Policies(Named),
+    Policies(PeersOf),
 }
 
 fn filling_request(alloc: Global, filled: Filling, number: u32) -> Result<Request> {
@@ -68,8 +68,8 @@ pub(crate) fn fill<L: Ledger>(
     ensures idle { repo.new.prepared ≡ None }
 {
     let endpoints = sizes.endpoints.saturating_sub(BATCH);
-    let pods = Filling::Policies(Named::Pods);
-    let prefixes = Filling::Policies(Named::Prefixes);
+    let pods = Filling::Policies(PeersOf::Pods);
+    let prefixes = Filling::Policies(PeersOf::Prefixes);
     fill_with(alloc, repo, Filling::Identities, sizes.identities, steps)?;
     fill_with(alloc, repo, pods, sizes.of_pods, steps)?;
     fill_with(alloc, repo, prefixes, sizes.of_prefixes, steps)?;

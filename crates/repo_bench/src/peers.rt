@@ -9,7 +9,7 @@ use std::alloc::Global;
 
 /// What the entries of a policy name as the other side.
 #[derive(Clone, Copy)]
-pub(crate) enum Named {
+pub(crate) enum PeersOf {
     /// The pods of one application: these the repository is filled with.
     Pods,
     /// The same pods by another selector.
@@ -34,22 +34,22 @@ fn cidr(alloc: Global, bits: u32, len: u8) -> Peer
 }
 
 /// The other side of that number.
-pub(crate) fn peer(alloc: Global, named: Named, number: u32) -> Result<Peer> {
+pub(crate) fn peer(alloc: Global, named: PeersOf, number: u32) -> Result<Peer> {
     Ok(match named {
-        Named::Pods => Peer::Labels(pods(alloc, number)?),
-        Named::OtherPods => Peer::Labels(with_account(alloc, number)?),
-        Named::AllBut => Peer::Labels(all_but(alloc, number)?),
-        Named::Prefixes => cidr(
+        PeersOf::Pods => Peer::Labels(pods(alloc, number)?),
+        PeersOf::OtherPods => Peer::Labels(with_account(alloc, number)?),
+        PeersOf::AllBut => Peer::Labels(all_but(alloc, number)?),
+        PeersOf::Prefixes => cidr(
             alloc,
             number.wrapping_mul(1 << 8).wrapping_add(0x1400_0000),
             24,
         ),
-        Named::OtherPrefixes => cidr(
+        PeersOf::OtherPrefixes => cidr(
             alloc,
             number.wrapping_mul(1 << 8).wrapping_add(0x1480_0000),
             24,
         ),
-        Named::Wide => cidr(
+        PeersOf::Wide => cidr(
             alloc,
             number.wrapping_mul(1 << 17).wrapping_add(0x1440_0000),
             15,

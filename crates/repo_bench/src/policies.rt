@@ -1,6 +1,6 @@
 //! The requests by which policies come and go.
 
-use crate::peers::{Named, peer};
+use crate::peers::{PeersOf, peer};
 use crate::pods::pods;
 use anyhow::Result;
 use pol_data::{Memory, Text};
@@ -29,7 +29,7 @@ fn port(number: u32) -> PortSpec {
     }
 }
 
-fn entry(alloc: Global, named: Named, number: u32) -> Result<Entry> {
+fn entry(alloc: Global, named: PeersOf, number: u32) -> Result<Entry> {
     Ok(Entry {
         peers: Peers::Listed(PeerList::one(alloc, peer(alloc, named, number)?)?),
         ports: PortSpecs::one(alloc, port(number))?,
@@ -37,7 +37,7 @@ fn entry(alloc: Global, named: Named, number: u32) -> Result<Entry> {
 }
 
 /// Entries of the other sides from a number on.
-fn entries(alloc: Global, named: Named, first: u32) -> Result<Entries> {
+fn entries(alloc: Global, named: PeersOf, first: u32) -> Result<Entries> {
     let mut list = Vec::new(alloc);
     for i in 0..HALF {
         list.push(entry(alloc, named, first.wrapping_add(i))?)?;
@@ -55,7 +55,7 @@ fn key(alloc: Global, family: &str, number: u32) -> Result<PolicyKey, Memory> {
 }
 
 /// One rule for the pods of an application.
-fn rule(alloc: Global, subject: u32, named: Named, first: u32) -> Result<Rule> {
+fn rule(alloc: Global, subject: u32, named: PeersOf, first: u32) -> Result<Rule> {
     Ok(Rule {
         subject: pods(alloc, subject)?,
         ingress: entries(alloc, named, first)?,
@@ -70,7 +70,7 @@ pub(crate) fn policy(
     alloc: Global,
     family: &str,
     number: u32,
-    named: Named,
+    named: PeersOf,
     ten: u32,
 ) -> Result<Request> {
     let rule = rule(alloc, number % SUBJECTS, named, ten.wrapping_mul(10))?;

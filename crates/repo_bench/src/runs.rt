@@ -1,9 +1,9 @@
 //! Requests committed, and timed.
 ghost use Rattle.std.specs.Prelude.{◌≡◌, None};
 
-use crate::asked::{BATCH, Kind, Step, requests, steps_of};
+use crate::asked::{BATCH, Step, TimedRequest, requests, steps_of};
 use crate::figures::{Figures, none};
-use crate::peers::Named;
+use crate::peers::PeersOf;
 use anyhow::Result;
 use pol_data::Steps;
 use pol_model::{CommitError, Request};
@@ -14,9 +14,9 @@ use std::time::Instant;
 
 /// How many runs of a kind there are; the shortest counts. There are no more policies of a kind than 100 in the least
 /// repository, and each run on the oldest policies takes the next ones.
-fn runs_of(kind: Kind) -> u32 {
+fn runs_of(kind: TimedRequest) -> u32 {
     match kind {
-        Kind::Policy(Named::AllBut) => 3,
+        TimedRequest::Policy(PeersOf::AllBut) => 3,
         _ => 12,
     }
 }
@@ -70,7 +70,7 @@ fn time_all<R: Clock, L: Ledger>(
 fn time_step<R: Clock + AllocGlobal, L: Ledger>(
     rt: &R,
     repo: &mut Repo,
-    kind: Kind,
+    kind: TimedRequest,
     step: Step,
     run: u32,
     steps: &mut Steps<L>,
@@ -87,7 +87,7 @@ fn time_step<R: Clock + AllocGlobal, L: Ledger>(
 fn time_run<R: Clock + AllocGlobal, L: Ledger>(
     rt: &R,
     repo: &mut Repo,
-    kind: Kind,
+    kind: TimedRequest,
     run: u32,
     steps: &mut Steps<L>,
 ) -> Result<Figures>
@@ -105,7 +105,7 @@ fn time_run<R: Clock + AllocGlobal, L: Ledger>(
 pub(crate) fn time_runs<R: Clock + AllocGlobal, L: Ledger>(
     rt: &R,
     repo: &mut Repo,
-    kind: Kind,
+    kind: TimedRequest,
     steps: &mut Steps<L>,
 ) -> Result<Figures>
     requires idle { repo.old.prepared ≡ None }

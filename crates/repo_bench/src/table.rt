@@ -1,25 +1,25 @@
 //! The figures as a table: a line for each kind and step, a column for each count.
 
-use crate::asked::{Kind, Step, steps_of};
+use crate::asked::{Step, TimedRequest, steps_of};
 use crate::figures::{Figures, none};
-use crate::peers::Named;
+use crate::peers::PeersOf;
 use anyhow::Result;
 use pol_data::Memory;
 use std::alloc::Global;
 
 /// What is timed.
-pub(crate) static KINDS: [Kind; 11] = [
-    Kind::Identity,
-    Kind::Endpoint,
-    Kind::Mode,
-    Kind::Policy(Named::Pods),
-    Kind::Policy(Named::Prefixes),
-    Kind::Policy(Named::OtherPods),
-    Kind::Policy(Named::OtherPrefixes),
-    Kind::Policy(Named::Wide),
-    Kind::Policy(Named::AllBut),
-    Kind::Oldest(Named::Pods),
-    Kind::Oldest(Named::Prefixes),
+pub(crate) static KINDS: [TimedRequest; 11] = [
+    TimedRequest::Identity,
+    TimedRequest::Endpoint,
+    TimedRequest::Mode,
+    TimedRequest::Policy(PeersOf::Pods),
+    TimedRequest::Policy(PeersOf::Prefixes),
+    TimedRequest::Policy(PeersOf::OtherPods),
+    TimedRequest::Policy(PeersOf::OtherPrefixes),
+    TimedRequest::Policy(PeersOf::Wide),
+    TimedRequest::Policy(PeersOf::AllBut),
+    TimedRequest::Oldest(PeersOf::Pods),
+    TimedRequest::Oldest(PeersOf::Prefixes),
 ];
 
 /// The figures of one repository, in the order of the kinds.
@@ -30,19 +30,19 @@ pub(crate) struct Column {
     pub(crate) figures: Vec<Figures>,
 }
 
-fn name(kind: Kind) -> &'static str {
+fn name(kind: TimedRequest) -> &'static str {
     match kind {
-        Kind::Identity => "identity",
-        Kind::Endpoint => "endpoint",
-        Kind::Mode => "mode",
-        Kind::Policy(Named::Pods) => "ten known label peers",
-        Kind::Policy(Named::Prefixes) => "ten known prefixes",
-        Kind::Policy(Named::OtherPods) => "ten new label peers",
-        Kind::Policy(Named::OtherPrefixes) => "ten new prefixes",
-        Kind::Policy(Named::Wide) => "ten wide prefixes",
-        Kind::Policy(Named::AllBut) => "ten peers of all pods but one",
-        Kind::Oldest(Named::Pods) => "oldest, of label peers",
-        Kind::Oldest(_) => "oldest, of prefixes",
+        TimedRequest::Identity => "identity",
+        TimedRequest::Endpoint => "endpoint",
+        TimedRequest::Mode => "mode",
+        TimedRequest::Policy(PeersOf::Pods) => "ten known label peers",
+        TimedRequest::Policy(PeersOf::Prefixes) => "ten known prefixes",
+        TimedRequest::Policy(PeersOf::OtherPods) => "ten new label peers",
+        TimedRequest::Policy(PeersOf::OtherPrefixes) => "ten new prefixes",
+        TimedRequest::Policy(PeersOf::Wide) => "ten wide prefixes",
+        TimedRequest::Policy(PeersOf::AllBut) => "ten peers of all pods but one",
+        TimedRequest::Oldest(PeersOf::Pods) => "oldest, of label peers",
+        TimedRequest::Oldest(_) => "oldest, of prefixes",
     }
 }
 
@@ -103,7 +103,7 @@ fn step_line(
     alloc: Global,
     columns: &[Column],
     index: usize,
-    kind: Kind,
+    kind: TimedRequest,
     step: Step,
 ) -> Result<String, Memory> {
     let name = name(kind);
@@ -118,7 +118,7 @@ fn tell_kind<R: Eprint + AllocGlobal>(
     rt: &R,
     columns: &[Column],
     index: usize,
-    kind: Kind,
+    kind: TimedRequest,
 ) -> Result<()> {
     for step in steps_of(kind) {
         let line = step_line(rt.alloc(), columns, index, kind, *step)?;

@@ -3,7 +3,7 @@ use Rattle.std.proofs.lemmas.Bool.{false_from_ne_true}
 use Rattle.pol_model.specs.Fault.{is_exhausted}
 use Rattle.pol_model.specs.declared.answer.Fault.TheVariants as fault
 use Rattle.pol_model.specs.declared.request.Request.TheVariants.{AddEndpoint}
-use Rattle.pol_requests.specs.declared.prepared.Change.TheVariants as change
+use Rattle.pol_requests.specs.declared.prepared.TableChange.TheVariants as change
 use Rattle.pol_requests.specs.Causes.{endpoint_fault}
 use Rattle.pol_store.specs.Store.{Rooms, Stored}
 use Rattle.pol_requests.proofs.Faults.{endpoint_exhausted, endpoint_first}

@@ -3,7 +3,7 @@ use Rattle.std.proofs.lemmas.Bool.{false_from_ne_true}
 use Rattle.pol_model.specs.Fault.{has_reserved, is_exhausted}
 use Rattle.pol_model.specs.declared.request.Request.TheVariants.{AddIdentity}
 use Rattle.pol_tables.specs.Tables.{number_named}
-use Rattle.pol_requests.specs.declared.prepared.Change.TheVariants as change
+use Rattle.pol_requests.specs.declared.prepared.TableChange.TheVariants as change
 use Rattle.pol_store.specs.Store.{Rooms, Stored}
 use Rattle.pol_requests.proofs.Faults.{not_some}
 use Rattle.pol_requests.proofs.HeldLabels.{identity_prepared}

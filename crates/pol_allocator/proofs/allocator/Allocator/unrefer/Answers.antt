@@ -1,0 +1,14 @@
+use Rattle.std.proofs.Common.{sym, subst}
+use Rattle.pol_selcache.specs.Live.{AreExact}
+use Rattle.pol_peers.specs.Listed.{listed_peers}
+use Rattle.pol_peers.specs.References.{HasRefs}
+use Rattle.pol_allocator.specs.Held.{Held}
+use Rattle.pol_allocator.proofs.allocator.Allocator.unrefer.Goals as goal
+
+pub drop_peers-requires : goal.drop_peers-requires
+drop_peers-requires c = record {
+  held = subst (λ (held : Held). HasRefs (listed_peers c.args.policy.now) held.cache.live) (sym c.self.view_is) c.requires.referred;
+}
+
+pub returns-clause-exact : goal.returns-clause-exact
+returns-clause-exact c = λ rows exact. c.drop_peers.ensures.exact rows (subst (λ (held : Held). AreExact rows held.cache.live) (sym c.self.view_is) exact)
