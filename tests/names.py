@@ -14,7 +14,6 @@ TWICE = {
     "Hints": "pol_pool pol_trie",
     "Kind": "pol_mapkey pol_sanitize",
     "Node": "pol_arena pol_lpm pol_node pol_trie",
-    "Reading": "pol_map_dump pol_parallel_lines pol_phases",
     "Slot": "pol_arena pol_lpm pol_node",
 }
 

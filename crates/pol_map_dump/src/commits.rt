@@ -10,12 +10,9 @@ ghost use Rattle.pol_map_dump.specs.AtEnd.{state_left};
 use pol_data::{Memory, Steps};
 use pol_model::{CommitError, Committed, Request};
 use pol_repo::Repo;
-use pol_script::{Command, LineFault};
+use pol_script::{Command, Reading};
 use std::marker::Brand;
 use std::sync::ledger::{Blank, Ledger};
-
-/// What a line reads as.
-pub(crate) type Reading = Result<Command, LineFault>;
 
 /// Commits the requests of the lines, in order. What is refused, and what isn't a request, is passed over.
 pub(crate) fn commit_all(repo: &mut Repo, readings: Vec<Reading>) -> Result<(), Memory>

@@ -2,12 +2,12 @@
 ghost use Rattle.std.specs.Prelude.{◌≡◌, [], None, IfOk, is_some};
 ghost use Rattle.pol_map_dump.specs.AtEnd.{endpoint_after, is_live, map_text, map_text_after};
 
-use crate::commits::{Reading, commit_all};
+use crate::commits::commit_all;
 use crate::map::{MapText, map_of};
 use pol_data::Memory;
 use pol_model::Options;
 use pol_repo::Repo;
-use pol_script::read_script;
+use pol_script::{Reading, read_script};
 use std::alloc::Global;
 
 /// What is written of the map of the endpoint of that name at the end of a script. The requests of the script are committed

@@ -8,4 +8,4 @@ mod print;
 mod read;
 
 pub use print::print_answers;
-pub use read::{Reading, read_lines};
+pub use read::read_lines;

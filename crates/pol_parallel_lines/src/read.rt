@@ -5,12 +5,9 @@ ghost use Rattle.pol_script.specs.Reading.{reading_of};
 
 use crate::halves::{cut_at_line, halvings};
 use pol_data::Memory;
-use pol_script::{Command, LineFault, read_script};
+use pol_script::{Reading, read_script};
 use std::alloc::Global;
 use std::thread::{Threads, join};
-
-/// What a line reads as.
-pub type Reading = Result<Command, LineFault>;
 
 /// How many bytes are worth a thread.
 const BLOCK: usize = 65_536;

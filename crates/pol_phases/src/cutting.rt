@@ -5,10 +5,10 @@ ghost use Rattle.pol_run.specs.Spots.{Reading as OneReading};
 ghost use Rattle.pol_phases.specs.Marks.{IsCut, IsOfSession, mark_of};
 
 use crate::commands::Commands;
-use crate::mark::{Mark, Reading};
+use crate::mark::Mark;
 use crate::rooms::{Rooms, session_of};
 use pol_data::{Items, Memory};
-use pol_script::Command;
+use pol_script::{Command, Reading};
 use std::alloc::Global;
 use std::mem::replace;
 

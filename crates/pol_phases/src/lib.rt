@@ -17,4 +17,4 @@ pub use answers::Answers;
 pub use back::put_back;
 pub use commands::Commands;
 pub use cutting::{CutScript, cut};
-pub use mark::{Mark, Reading};
+pub use mark::Mark;

@@ -1,8 +1,5 @@
 //! What is kept of a line whose command was handed out.
-use pol_script::{Command, LineFault};
-
-/// What a line reads as.
-pub type Reading = Result<Command, LineFault>;
+use pol_script::LineFault;
 
 /// What the answer to a line needs of it, beside what its session was told.
 #[derive(Debug, Drop)]

@@ -2,9 +2,8 @@
 ghost use Rattle.std.specs.Prelude.{◌≡◌, Ok};
 ghost use Rattle.pol_run.specs.Spots.{session_of};
 
-use crate::mark::Reading;
 use pol_data::Memory;
-use pol_script::Command;
+use pol_script::{Command, Reading};
 use std::alloc::Global;
 use std::collections::VecDeque;
 use std::mem::replace;

@@ -22,4 +22,4 @@ mod query;
 pub use command::Command;
 pub use line::read_line;
 pub use line_fault::{LineError, LineFault};
-pub use lines::{count_lines, read_script};
+pub use lines::{Reading, count_lines, read_script};

@@ -8,6 +8,9 @@ use memchr::memchr;
 use pol_data::Memory;
 use std::alloc::Global;
 
+/// What a line reads as: its command, or its first fault.
+pub type Reading = Result<Command, LineFault>;
+
 /// The first line, without its newline, and the bytes behind it; none where there is no line.
 fn split_line(bytes: &[u8]) -> Option<(&[u8], &[u8])>
     ensures none { IfNone result (lines_of bytes.now ≡ []) }
@@ -40,7 +43,7 @@ pub fn count_lines(bytes: &[u8]) -> usize
     count
 }
 
-fn reading_of(alloc: Global, line: &[u8]) -> Result<Result<Command, LineFault>, Memory>
+fn reading_of(alloc: Global, line: &[u8]) -> Result<Reading, Memory>
     ensures { IfOk result (λ reading. reading ≡ reading_of line.now) }
 {
     match read_line(alloc, line) {
@@ -50,9 +53,9 @@ fn reading_of(alloc: Global, line: &[u8]) -> Result<Result<Command, LineFault>, 
     }
 }
 
-/// What each line of a script reads as, in order: its command, or its first fault.
+/// What each line of a script reads as, in order.
 /// The one error is want of memory.
-pub fn read_script(alloc: Global, bytes: &[u8]) -> Result<Vec<Result<Command, LineFault>>, Memory>
+pub fn read_script(alloc: Global, bytes: &[u8]) -> Result<Vec<Reading>, Memory>
     ensures readings { IfOk result (λ readings. readings.items ≡ map reading_of (lines_of bytes.now)) }
 {
     let mut readings = Vec::with_capacity(alloc, count_lines(bytes))?;
