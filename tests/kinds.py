@@ -20,7 +20,7 @@ import rooms
 
 PAGE = program.TOP / "docs" / "ARCHITECTURE.md"
 BLOCK = re.compile(r"(?ms)^```kinds\n(.*?)^```$")
-TYPES = ("Peer", "Entity", "Proto", "KeyProto", "Answer", "Fault", "LineFault", "DocFault")
+TYPES = ("Peer", "Entity", "Proto", "KeyProto", "Answer", "Fault", "LineFault", "DocFault", "RuleCause")
 
 
 def searched():

@@ -1,8 +1,9 @@
 -- The text of each answer is one line.
-use Rattle.std.proofs.Common.{◌≡◌, ℕ, zero, suc, ◌+◌, ◌/◌, ◌%◌, ◌≤◌, Bool, true, false, cond, not, ◌&&◌, ◌==◌, nat_le, nat_lt, List, [], ◌∷◌, ◌++◌, map, Option, Some, None, IsTrue, refl, ap, ◌∙◌, arith}
+use Rattle.std.proofs.Common.{◌≡◌, ℕ, zero, suc, ◌+◌, ◌/◌, ◌%◌, ◌≤◌, Bool, true, false, cond, codes, not, ◌&&◌, ◌==◌, nat_le, nat_lt, List, [], ◌∷◌, ◌++◌, map, Option, Some, None, IsTrue, refl, ap, ◌∙◌, arith}
 use Rattle.std.specs.Cmp.Derive.{both_true}
 use Rattle.std.specs.Fmt.{digits, digits_onto, digit_glyph, decimal}
 use Rattle.std.specs.List.{flat_map, list_all}
+use Rattle.std.specs.Option.{option_map_or}
 use Rattle.std.proofs.lemmas.Bool.{leb-true}
 use Rattle.std.proofs.lemmas.List.Folds.{list_all-append}
 use Rattle.pol_json.specs.Texts.{printable}
@@ -14,10 +15,13 @@ use Rattle.pol_model.specs.declared.answer.Fault.{Fault}
 use Rattle.pol_model.specs.declared.answer.Fault.TheVariants as fault
 use Rattle.pol_model.specs.declared.answer.FullSlot.{FullSlot}
 use Rattle.pol_model.specs.declared.answer.Trace.{Trace}
+use Rattle.pol_rule.specs.Causes.{cause_of}
+use Rattle.pol_rule.specs.declared.cause.RuleCause.{RuleCause}
+use Rattle.pol_rule.specs.declared.cause.RuleCause.TheVariants as rule
 use Rattle.pol_rule.specs.declared.policy.Place.{Place}
 use Rattle.pol_rule.specs.declared.policy.Section.{Section}
 use Rattle.pol_rule.specs.declared.policy.Section.TheVariants as section
-use Rattle.pol_answer.specs.Faults.{fault_name, doc_fault_name, rule_fault_name, line_fault_name}
+use Rattle.pol_answer.specs.Faults.{fault_name, doc_fault_name, cause_name, line_fault_name}
 use Rattle.pol_script.specs.Lines.{lines_of, ended, is_newline, is_one_line}
 use Rattle.pol_answer.specs.Text.{word_text, section_text, at_text, entry_text, place_text, more_places, places_text, full_slot_text, full_text, fault_place_text, doc_detail, line_detail, identity_text, trace_text, answer_words, texts_of, has_plain_key, has_plain_name, has_plain_names}
 use Rattle.pol_answer.specs.declared.answer.Answer.{Answer}
@@ -30,10 +34,6 @@ use Rattle.pol_script.proofs.ScriptLaws.{both_parts, is_other, again}
 
 join : (a b : List ℕ) → is_one_line a ≡ true → is_one_line b ≡ true → is_one_line (a ++ b) ≡ true
 join a b one two = list_all-append (λ byte. not (is_newline byte)) a b ∙ both_true one two
-
-choose : (b : Bool) (x y : List ℕ) → is_one_line x ≡ true → is_one_line y ≡ true → is_one_line (cond b x y) ≡ true
-choose true x y one two = one
-choose false x y one two = two
 
 above : (byte : ℕ) → 11 ≤ byte → not (is_newline byte) ≡ true
 above byte high = rw (is_other byte (is_newline byte) refl (λ e. absurd (omega (arith, e)))) refl
@@ -138,11 +138,24 @@ doc_line (doc.UnknownMember path) = refl
 doc_line (doc.Unsupported name) = refl
 doc_line (doc.WrongShape path) = refl
 
-rule_line : (number : ℕ) → is_one_line (rule_fault_name number) ≡ true
-rule_line number =
-    choose (number == 15) _ _ refl (choose (number == 16) _ _ refl (choose (number == 17) _ _ refl (choose (number == 18) _ _ refl
-    (choose (number == 19) _ _ refl (choose (number == 20) _ _ refl (choose (number == 21) _ _ refl (choose (number == 22) _ _ refl
-    (choose (number == 23) _ _ refl (choose (number == 26) _ _ refl (choose (number == 27) _ _ refl (choose (number == 28) _ _ refl refl)))))))))))
+cause_line : (cause : RuleCause) → is_one_line (cause_name cause) ≡ true
+cause_line rule.NoSelector = refl
+cause_line rule.Combining = refl
+cause_line rule.BadSelector = refl
+cause_line rule.BadCidr = refl
+cause_line rule.ExceptOutside = refl
+cause_line rule.UnknownEntity = refl
+cause_line rule.BadPort = refl
+cause_line rule.BadProtocol = refl
+cause_line rule.TooManyPorts = refl
+cause_line rule.EmptyPorts = refl
+cause_line rule.BadPolicyType = refl
+cause_line rule.BadPeer = refl
+cause_line rule.BadEndPort = refl
+
+told_line : (cause : Option RuleCause) → is_one_line (option_map_or cause_name cause (codes "0 no-such-fault")) ≡ true
+told_line None = refl
+told_line (Some cause) = cause_line cause
 
 name_line : (f : LineFault) → is_one_line (line_fault_name f) ≡ true
 name_line line.Json = refl
@@ -150,7 +163,7 @@ name_line line.NoOp = refl
 name_line (line.BadField member) = refl
 name_line (line.UnknownField member) = refl
 name_line (line.Doc f) = doc_line f
-name_line (line.Rule f) = rule_line f.number
+name_line (line.Rule f) = told_line (cause_of f.number)
 name_line line.BadLabel = refl
 name_line line.DuplicateLabelKey = refl
 name_line line.BadAddress = refl

@@ -1,9 +1,10 @@
 -- Each answer is read again from its text, but for the bytes that are printed as `?`.
-use Rattle.std.proofs.Common.{◌≡◌, ◌≢◌, codes, ne_eqb, ℕ, suc, ◌<◌, ◌≤◌, Bool, true, false, cond, ◌&&◌, ◌||◌, ◌==◌, nat_le, List, [], ◌∷◌, ◌++◌, length, drop, Option, Some, None, IsTrue, refl, sym, ap, subst, ◌∙◌, arith, append_assoc, length-append, eqb-true}
+use Rattle.std.proofs.Common.{◌≡◌, ◌≢◌, codes, ne_eqb, ℕ, suc, ◌<◌, ◌≤◌, Bool, true, false, cond, ◌&&◌, ◌==◌, nat_le, List, [], ◌∷◌, ◌++◌, length, drop, Option, Some, None, is_some, IsTrue, refl, sym, ap, subst, ◌∙◌, arith, append_assoc, length-append, eqb-true}
 use Rattle.std.specs.Fmt.{decimal}
 use Rattle.std.specs.List.{flat_map, list_all}
-use Rattle.std.proofs.lemmas.Bool.{eqb-false, false≢true, leb-true}
+use Rattle.std.proofs.lemmas.Bool.{false≢true}
 use Rattle.std.proofs.lemmas.List.{append-nil, append_cancel_right}
+use Rattle.std.proofs.lemmas.Option.{none-some, same_Some}
 use Rattle.pol_json.specs.declared.fault.DocFault.{DocFault}
 use Rattle.pol_json.specs.declared.fault.DocFault.TheVariants as doc
 use Rattle.pol_json.specs.Texts.{has_name_length, is_digit, is_dns_byte, is_dns_name, is_letter, is_name, is_name_byte, printable, printable_byte}
@@ -13,6 +14,9 @@ use Rattle.pol_model.specs.declared.answer.Fault.{Fault}
 use Rattle.pol_model.specs.declared.answer.Fault.TheVariants as fault
 use Rattle.pol_model.specs.declared.answer.FullSlot.{FullSlot}
 use Rattle.pol_model.specs.declared.answer.Trace.{Trace}
+use Rattle.pol_rule.specs.Causes.{cause_of, number_of}
+use Rattle.pol_rule.specs.declared.cause.RuleCause.{RuleCause}
+use Rattle.pol_rule.specs.declared.cause.RuleCause.TheVariants as rule
 use Rattle.pol_rule.specs.declared.policy.Place.{Place}
 use Rattle.pol_rule.specs.declared.policy.Section.{Section}
 use Rattle.pol_rule.specs.declared.policy.Section.TheVariants as section
@@ -23,7 +27,7 @@ use Rattle.pol_script.specs.declared.line_fault.LineFault.TheVariants as line
 use Rattle.pol_script.specs.Lines.{newline}
 use Rattle.pol_script.specs.Names.{is_applied_name}
 use Rattle.pol_answer.specs.Faults.{fault_name, rule_fault_name}
-use Rattle.pol_answer.specs.Shown.{shown, shown_fault, shown_document, is_u64, is_applied_key, is_read_place, is_read_slot, is_read_entry, is_read_fault, is_read_identity, is_rule_number, has_read_parts}
+use Rattle.pol_answer.specs.Shown.{shown, shown_fault, shown_document, is_u64, is_applied_key, is_read_place, is_read_slot, is_read_entry, is_read_fault, is_read_identity, has_read_parts}
 use Rattle.pol_answer.specs.Text.{line_fault_text, trace_text, word_text, section_text, entry_text, at_text, place_text, more_places, places_text, full_slot_text, full_text, identity_text, fault_place_text, answer_words, text_of}
 use Rattle.pol_answer.specs.declared.answer.Answer.{Answer}
 use Rattle.pol_answer.specs.declared.answer.Answer.TheVariants as answer
@@ -220,46 +224,61 @@ rule_at n rule (Some at) small ok =
     let which = section_is at.0 (91 ∷ at_entry) refl in
     rw (number_is rule (46 ∷ at_section) small refl, past_number_is rule (46 ∷ at_section) small refl, which.0, which.1, number_is at.1 (93 ∷ []) ok refl) refl
 
--- a number from one to another is one of those between
-one_more_number : (P : ℕ → Type 0) (k n : ℕ) → P k → (k < n → P n) → k ≤ n → P n
-one_more_number P k n here later low = by (k == n) refl
+-- the cause of a number has that number
+abbrev IsCauseOf : ℕ → Option RuleCause → Type 0
+IsCauseOf n found = (cause : RuleCause) → found ≡ Some cause → n ≡ number_of cause
+
+cause_or : (n : ℕ) (cause : RuleCause) (rest : Option RuleCause) → IsCauseOf n rest → IsCauseOf n (cond (n == number_of cause) (Some cause) rest)
+cause_or n cause rest later = by (n == number_of cause) refl
   where
-    by : (b : Bool) → (k == n) ≡ b → P n
-    by true e = subst P (eqb-true k n e) here
-    by false e = later (omega (arith, low, λ (same : k ≡ n). eqb-false k n e same))
+    by : (b : Bool) → (n == number_of cause) ≡ b → IsCauseOf n (cond b (Some cause) rest)
+    by true e = λ one is. eqb-true n (number_of cause) e ∙ ap number_of (same_Some cause one is)
+    by false e = later
+
+no_cause : (n : ℕ) → IsCauseOf n None
+no_cause n = λ cause is. absurd (none-some cause is)
+
+cause_is : (n : ℕ) → IsCauseOf n (cause_of n)
+cause_is n =
+    cause_or n rule.NoSelector _
+    (cause_or n rule.Combining _
+    (cause_or n rule.BadSelector _
+    (cause_or n rule.BadCidr _
+    (cause_or n rule.ExceptOutside _
+    (cause_or n rule.UnknownEntity _
+    (cause_or n rule.BadPort _
+    (cause_or n rule.BadProtocol _
+    (cause_or n rule.TooManyPorts _
+    (cause_or n rule.EmptyPorts _
+    (cause_or n rule.BadPolicyType _
+    (cause_or n rule.BadPeer _
+    (cause_or n rule.BadEndPort _
+    (no_cause n)))))))))))))
 
 abbrev OfRule : List ℕ → ℕ → Type 0
 OfRule place n = read_refused (rule_fault_name n ++ 32 ∷ 35 ∷ place) ≡ answer.BadLine (line.Rule (read_rule n place))
 
-of_any_policy : (place : List ℕ) (n : ℕ) → 15 ≤ n → n ≤ 24 → OfRule place n
-of_any_policy place n low high =
-    let P = OfRule place in
-    one_more_number P 15 n refl (λ above15.
-    one_more_number P 16 n refl (λ above16.
-    one_more_number P 17 n refl (λ above17.
-    one_more_number P 18 n refl (λ above18.
-    one_more_number P 19 n refl (λ above19.
-    one_more_number P 20 n refl (λ above20.
-    one_more_number P 21 n refl (λ above21.
-    one_more_number P 22 n refl (λ above22.
-    one_more_number P 23 n refl (λ above23.
-    let last : n ≡ 24 = omega arith in subst P (sym last) refl) (omega arith)) (omega arith)) (omega arith)) (omega arith)) (omega arith)) (omega arith)) (omega arith)) (omega arith)) low
+of_cause : (place : List ℕ) (cause : RuleCause) → OfRule place (number_of cause)
+of_cause place rule.NoSelector = refl
+of_cause place rule.Combining = refl
+of_cause place rule.BadSelector = refl
+of_cause place rule.BadCidr = refl
+of_cause place rule.ExceptOutside = refl
+of_cause place rule.UnknownEntity = refl
+of_cause place rule.BadPort = refl
+of_cause place rule.BadProtocol = refl
+of_cause place rule.TooManyPorts = refl
+of_cause place rule.EmptyPorts = refl
+of_cause place rule.BadPolicyType = refl
+of_cause place rule.BadPeer = refl
+of_cause place rule.BadEndPort = refl
 
-of_network : (place : List ℕ) (n : ℕ) → 26 ≤ n → n ≤ 28 → OfRule place n
-of_network place n low high =
-    let P = OfRule place in
-    one_more_number P 26 n refl (λ above26.
-    one_more_number P 27 n refl (λ above27.
-    let last : n ≡ 28 = omega arith in subst P (sym last) refl) (omega arith)) low
-
-of_rule_where : (any : Bool) (place : List ℕ) (n : ℕ) → (nat_le 15 n && nat_le n 24) ≡ any → (any || (nat_le 26 n && nat_le n 28)) ≡ true → OfRule place n
-of_rule_where true place n of_any is =
-    let bounds = both_parts (nat_le 15 n) (nat_le n 24) of_any in of_any_policy place n (leb-true 15 n bounds.0) (leb-true n 24 bounds.1)
-of_rule_where false place n of_any is =
-    let bounds = both_parts (nat_le 26 n) (nat_le n 28) is in of_network place n (leb-true 26 n bounds.0) (leb-true n 28 bounds.1)
-
-of_rule : (place : List ℕ) (n : ℕ) → is_rule_number n ≡ true → OfRule place n
-of_rule place n is = of_rule_where (nat_le 15 n && nat_le n 24) place n refl is
+of_rule : (place : List ℕ) (n : ℕ) → is_some (cause_of n) ≡ true → OfRule place n
+of_rule place n is = by (cause_of n) (cause_is n) is
+  where
+    by : (found : Option RuleCause) → IsCauseOf n found → is_some found ≡ true → OfRule place n
+    by None known is = absurd (false≢true is)
+    by (Some cause) known is = subst (OfRule place) (sym (known cause refl)) (of_cause place cause)
 
 -- ---- answers
 
@@ -320,8 +339,8 @@ fault_is (line.Doc (doc.UnknownMember path)) ok = refl
 fault_is (line.Doc (doc.Unsupported name)) ok = refl
 fault_is (line.Doc (doc.WrongShape path)) ok = refl
 fault_is (line.Rule g) ok =
-    let last = both_parts (is_rule_number g.number && is_u64 g.rule) (is_read_entry g.«at») ok in
-    let numbers = both_parts (is_rule_number g.number) (is_u64 g.rule) last.0 in
+    let last = both_parts (is_some (cause_of g.number) && is_u64 g.rule) (is_read_entry g.«at») ok in
+    let numbers = both_parts (is_some (cause_of g.number)) (is_u64 g.rule) last.0 in
     rw (rule_shape g.rule g.«at»)
     (of_rule (rule_place g.rule g.«at») g.number numbers.0
     ∙ ap (λ fault. answer.BadLine (line.Rule fault)) (rule_at g.number g.rule g.«at» numbers.1 last.1))

@@ -1,9 +1,13 @@
 -- The numbers and names of faults, as answers print them ('profile').
-use Rattle.std.specs.Prelude.{ℕ, ◌==◌, if◌then◌else◌, List, codes}
+use Rattle.std.specs.Prelude.{ℕ, List, codes}
+use Rattle.std.specs.Option.{option_map_or}
 use Rattle.pol_json.specs.declared.fault.DocFault.{DocFault}
 use Rattle.pol_json.specs.declared.fault.DocFault.TheVariants as doc
 use Rattle.pol_model.specs.declared.answer.Fault.{Fault}
 use Rattle.pol_model.specs.declared.answer.Fault.TheVariants as fault
+use Rattle.pol_rule.specs.Causes.{cause_of}
+use Rattle.pol_rule.specs.declared.cause.RuleCause.{RuleCause}
+use Rattle.pol_rule.specs.declared.cause.RuleCause.TheVariants as rule
 use Rattle.pol_script.specs.declared.line_fault.LineFault.{LineFault}
 use Rattle.pol_script.specs.declared.line_fault.LineFault.TheVariants as line
 
@@ -29,22 +33,25 @@ doc_fault_name (doc.UnknownMember path) = codes "13 unknown-member"
 doc_fault_name (doc.Unsupported name) = codes "14 unsupported"
 doc_fault_name (doc.WrongShape path) = codes "25 wrong-shape"
 
--- a rule's fault, by its number: 15 to 23 and, of a NetworkPolicy alone, 26 to 28; and every other number as 24
+-- a rule's fault, by its cause
+abbrev pub cause_name : RuleCause → List ℕ
+cause_name rule.NoSelector = codes "15 no-selector"
+cause_name rule.Combining = codes "16 combining"
+cause_name rule.BadSelector = codes "17 bad-selector"
+cause_name rule.BadCidr = codes "18 bad-cidr"
+cause_name rule.ExceptOutside = codes "19 except-outside"
+cause_name rule.UnknownEntity = codes "20 unknown-entity"
+cause_name rule.BadPort = codes "21 bad-port"
+cause_name rule.BadProtocol = codes "22 bad-protocol"
+cause_name rule.TooManyPorts = codes "23 too-many-ports"
+cause_name rule.EmptyPorts = codes "24 empty-ports"
+cause_name rule.BadPolicyType = codes "26 bad-policy-type"
+cause_name rule.BadPeer = codes "27 bad-peer"
+cause_name rule.BadEndPort = codes "28 bad-end-port"
+
+-- and by its number, which reading gives no other than those of the causes
 abbrev pub rule_fault_name : ℕ → List ℕ
-rule_fault_name number =
-    if number == 15 then codes "15 no-selector"
-    else (if number == 16 then codes "16 combining"
-    else (if number == 17 then codes "17 bad-selector"
-    else (if number == 18 then codes "18 bad-cidr"
-    else (if number == 19 then codes "19 except-outside"
-    else (if number == 20 then codes "20 unknown-entity"
-    else (if number == 21 then codes "21 bad-port"
-    else (if number == 22 then codes "22 bad-protocol"
-    else (if number == 23 then codes "23 too-many-ports"
-    else (if number == 26 then codes "26 bad-policy-type"
-    else (if number == 27 then codes "27 bad-peer"
-    else (if number == 28 then codes "28 bad-end-port"
-    else codes "24 empty-ports")))))))))))
+rule_fault_name number = option_map_or cause_name (cause_of number) (codes "0 no-such-fault")
 
 -- a line's fault
 abbrev pub line_fault_name : LineFault → List ℕ

@@ -1,11 +1,12 @@
 -- What the text of an answer tells: all of it, but for the bytes of names that are printed as `?`. And which answers
 -- have names, keys and fault numbers such as reading gives, and numbers of 64 bits.
-use Rattle.std.specs.Prelude.{ℕ, ◌^◌, ◌==◌, ◌&&◌, ◌||◌, nat_le, nat_lt, Bool, true, if◌then◌else◌, length, Option, None, Some}
+use Rattle.std.specs.Prelude.{ℕ, ◌^◌, ◌==◌, ◌&&◌, nat_lt, Bool, true, if◌then◌else◌, length, Option, None, Some, is_some}
 use Rattle.std.specs.List.{list_all}
 use Rattle.pol_json.specs.Texts.{is_name, is_dns_name, printable}
 use Rattle.pol_json.specs.declared.fault.DocFault.{DocFault}
 use Rattle.pol_json.specs.declared.fault.DocFault.TheVariants as doc
 use Rattle.pol_model.specs.declared.answer.FullSlot.{FullSlot}
+use Rattle.pol_rule.specs.Causes.{cause_of}
 use Rattle.pol_rule.specs.declared.fault.RuleFault.{RuleFault}
 use Rattle.pol_rule.specs.declared.policy.Place.{Place}
 use Rattle.pol_rule.specs.declared.policy.PolicyKey.{PolicyKey}
@@ -62,12 +63,9 @@ abbrev pub is_read_entry : Option (Section × ℕ) → Bool
 is_read_entry None = true
 is_read_entry (Some at) = is_u64 at.1
 
--- the number of a rule's fault: 15 to 24 and, of a NetworkPolicy alone, 26 to 28
-abbrev pub is_rule_number : ℕ → Bool
-is_rule_number number = (nat_le 15 number && nat_le number 24) || (nat_le 26 number && nat_le number 28)
-
+-- the number is one that a cause has
 abbrev pub is_read_rule_fault : RuleFault → Bool
-is_read_rule_fault fault = is_rule_number fault.number && is_u64 fault.rule && is_read_entry fault.«at»
+is_read_rule_fault fault = is_some (cause_of fault.number) && is_u64 fault.rule && is_read_entry fault.«at»
 
 abbrev pub is_read_fault : LineFault → Bool
 is_read_fault (line.Rule fault) = is_read_rule_fault fault

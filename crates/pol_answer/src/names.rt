@@ -1,12 +1,12 @@
 //! The words of answers, and the numbers and names of faults ('profile').
 ghost use Rattle.std.specs.Prelude.{◌≡◌};
-ghost use Rattle.pol_answer.specs.Faults.{fault_name, doc_fault_name, rule_fault_name, line_fault_name};
+ghost use Rattle.pol_answer.specs.Faults.{fault_name, doc_fault_name, cause_name, rule_fault_name, line_fault_name};
 ghost use Rattle.pol_answer.specs.Text.{word_text, section_text};
 
 use pol_json::DocFault;
 use pol_mapkey::Word;
 use pol_model::Fault;
-use pol_rule::Section;
+use pol_rule::{RuleCause, Section};
 use pol_script::LineFault;
 
 /// The word of a verdict.
@@ -64,24 +64,34 @@ fn doc_fault_name(fault: &DocFault) -> &'static str
     }
 }
 
-/// The number and name of a rule's fault.
+/// The number and name of a rule's fault, by its cause.
+fn cause_name(cause: RuleCause) -> &'static str
+    ensures { result.now ≡ cause_name cause }
+{
+    match cause {
+        RuleCause::NoSelector => "15 no-selector",
+        RuleCause::Combining => "16 combining",
+        RuleCause::BadSelector => "17 bad-selector",
+        RuleCause::BadCidr => "18 bad-cidr",
+        RuleCause::ExceptOutside => "19 except-outside",
+        RuleCause::UnknownEntity => "20 unknown-entity",
+        RuleCause::BadPort => "21 bad-port",
+        RuleCause::BadProtocol => "22 bad-protocol",
+        RuleCause::TooManyPorts => "23 too-many-ports",
+        RuleCause::EmptyPorts => "24 empty-ports",
+        RuleCause::BadPolicyType => "26 bad-policy-type",
+        RuleCause::BadPeer => "27 bad-peer",
+        RuleCause::BadEndPort => "28 bad-end-port",
+    }
+}
+
+/// The number and name of a rule's fault, by its number. Reading gives no number that no cause has.
 fn rule_fault_name(number: u8) -> &'static str
     ensures { result.now ≡ rule_fault_name number }
 {
-    match number {
-        15 => "15 no-selector",
-        16 => "16 combining",
-        17 => "17 bad-selector",
-        18 => "18 bad-cidr",
-        19 => "19 except-outside",
-        20 => "20 unknown-entity",
-        21 => "21 bad-port",
-        22 => "22 bad-protocol",
-        23 => "23 too-many-ports",
-        26 => "26 bad-policy-type",
-        27 => "27 bad-peer",
-        28 => "28 bad-end-port",
-        _ => "24 empty-ports",
+    match RuleCause::of_number(number) {
+        Some(cause) => cause_name(cause),
+        None => "0 no-such-fault",
     }
 }
 

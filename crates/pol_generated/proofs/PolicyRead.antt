@@ -18,6 +18,7 @@ use Rattle.pol_labels.specs.declared.requirement.Requirement.{Requirement}
 use Rattle.pol_ports.specs.PortRange.{range_from}
 use Rattle.pol_ports.specs.declared.PortRange.{PortRange}
 use Rattle.pol_ports.specs.declared.Proto.TheVariants.{Tcp}
+use Rattle.pol_rule.specs.declared.cause.RuleCause.TheVariants as rule
 use Rattle.pol_rule.specs.declared.policy.Entry.{Entry}
 use Rattle.pol_rule.specs.declared.policy.Peer.TheVariants.{Labels}
 use Rattle.pol_rule.specs.declared.policy.Peers.TheVariants.{Listed}
@@ -33,7 +34,7 @@ use Rattle.pol_rule.specs.declared.raw.RawPort.{RawPort}
 use Rattle.pol_rule.specs.declared.raw.RawPortItem.{RawPortItem}
 use Rattle.pol_rule.specs.declared.raw.RawRule.{RawRule}
 use Rattle.pol_rule.specs.declared.raw.RawSelector.{RawSelector}
-use Rattle.pol_sanitize.specs.Faults.{cause, entry_causes, fault_at, first_number, of_entry}
+use Rattle.pol_sanitize.specs.Faults.{cause, entry_causes, fault_at, first_cause, of_entry}
 use Rattle.pol_sanitize.specs.Ports.{is_number_text, number_to, port_max, port_of, ports_of, protocol_of, range_of, range_to}
 use Rattle.pol_sanitize.specs.Sanitized.{judged, sanitized_of}
 use Rattle.pol_sanitize.specs.Sanitized.{policy_of as policy_said}
@@ -132,9 +133,9 @@ pub record Written (n : Numbers) (first last : ℕ) : Type 0 where
 range_there : (n : Numbers) (first last : ℕ) → Written n first last → range_of (raw_port n.first last) ≡ Some (range_from first last)
 range_there n first last w = ap (λ t. range_of (raw_port t last)) w.is_first ∙ range_read first last w.some w.low w.high
 
-entry_right : (n : Numbers) (first last : ℕ) → Written n first last → first_number (entry_causes (raw_entry n last)) ≡ None
+entry_right : (n : Numbers) (first last : ℕ) → Written n first last → first_cause (entry_causes (raw_entry n last)) ≡ None
 entry_right n first last w =
-    ap (λ (o : Option PortRange). first_number (cause 21 (is_none o || false) ∷ cause 22 false ∷ cause 23 false ∷ cause 24 false ∷ []))
+    ap (λ (o : Option PortRange). first_cause (cause rule.BadPort (is_none o || false) ∷ cause rule.BadProtocol false ∷ cause rule.TooManyPorts false ∷ cause rule.EmptyPorts false ∷ []))
     (range_there n first last w)
 
 abbrev specs_of : ℕ → ℕ → List PortSpec
@@ -167,7 +168,7 @@ said true n last = refl
 said false n last = refl
 
 right_at : (at : Section) (n : Numbers) (first last : ℕ) → Written n first last
-    → option_or (option_or (option_or (option_map (fault_at (of_entry 0 at 0)) (first_number (entry_causes (raw_entry n last)))) None) None) None ≡ None
+    → option_or (option_or (option_or (option_map (fault_at (of_entry 0 at 0)) (first_cause (entry_causes (raw_entry n last)))) None) None) None ≡ None
 right_at at n first last w =
     ap (λ o. option_or (option_or (option_or (option_map (fault_at (of_entry 0 at 0)) o) None) None) None) (entry_right n first last w)
 

@@ -11,6 +11,7 @@ use Rattle.pol_ports.specs.declared.Direction.{Direction}
 use Rattle.pol_ports.specs.declared.Direction.TheVariants.{Ingress, Egress}
 use Rattle.pol_ports.specs.declared.Proto.{Proto}
 use Rattle.pol_rule.specs.Covers.{entry_covers, has_effect, has_ports, peers_take, ports_cover}
+use Rattle.pol_rule.specs.declared.cause.RuleCause.{RuleCause}
 use Rattle.pol_rule.specs.declared.fault.RuleFault.{RuleFault}
 use Rattle.pol_rule.specs.declared.policy.Entry.{Entry}
 use Rattle.pol_rule.specs.declared.policy.Peer.{Peer}
@@ -18,7 +19,7 @@ use Rattle.pol_rule.specs.declared.policy.Policy.{Policy}
 use Rattle.pol_rule.specs.declared.policy.Section.{Section}
 use Rattle.pol_rule.specs.declared.policy.Section.TheVariants as section
 use Rattle.pol_rule.specs.declared.raw.RawSelector.{RawSelector}
-use Rattle.pol_sanitize.specs.Faults.{first_number}
+use Rattle.pol_sanitize.specs.Faults.{first_cause}
 use Rattle.pol_sanitize.specs.Sanitized.{judged}
 use Rattle.pol_sanitize.specs.Selectors.{is_in_namespace}
 use Rattle.pol_sanitize.proofs.Wholeness.{all_faultless, no_cause}
@@ -48,15 +49,15 @@ no_or : {X : Type 0} (o p : Option X) → option_or o p ≡ None → (o ≡ None
 no_or None p none = (refl, none)
 no_or (Some x) p none = cc
 
-no_number : (at : Option (Section × ℕ)) (o : Option ℕ) → option_map (fault_at at) o ≡ None → o ≡ None
-no_number at None none = refl
-no_number at (Some number) none = cc
+none_there : (at : Option (Section × ℕ)) (o : Option RuleCause) → option_map (fault_at at) o ≡ None → o ≡ None
+none_there at None none = refl
+none_there at (Some cause) none = cc
 
 record Fine (entry : RawNetEntry) : Type 0 where
   peers : list_any asks_badly entry.peers ≡ false
   ports : all_fine entry.ports
 
-entry_fine : (entry : RawNetEntry) → first_number (entry_causes entry) ≡ None → Fine entry
+entry_fine : (entry : RawNetEntry) → first_cause (entry_causes entry) ≡ None → Fine entry
 entry_fine entry none =
     let (peers, n1) = no_cause _ (list_any asks_badly entry.peers) _ none in
     let (cidrs, n2) = no_cause _ (list_any has_bad_cidr entry.peers) _ n1 in
@@ -69,7 +70,7 @@ entry_fine entry none =
 
 section_fine : (s : Section) (entries : List RawNetEntry) → section_fault s entries ≡ None → All Fine entries
 section_fine s entries none =
-    all_faultless Fine (entry_fault s) (λ n entry fine. entry_fine entry (no_number _ (first_number (entry_causes entry)) fine)) 0 entries none
+    all_faultless Fine (entry_fault s) (λ n entry fine. entry_fine entry (none_there _ (first_cause (entry_causes entry)) fine)) 0 entries none
 
 -- ---- an entry
 module _ (own : List ℕ) (rows : List IdentityRow) (number : ℕ) (proto : Proto) (port : ℕ) (low : port ≤ 65535) where
@@ -189,7 +190,7 @@ subject_there : (raw : RawNetworkPolicy) (o : Option RawSelector) → raw.subjec
 subject_there raw None is some fine = absurd (true≢false some)
 subject_there raw (Some selector) is some fine = (selector, is, fine)
 
-subject_fine : (raw : RawNetworkPolicy) → first_number (subject_causes raw) ≡ None → Subject raw
+subject_fine : (raw : RawNetworkPolicy) → first_cause (subject_causes raw) ≡ None → Subject raw
 subject_fine raw none =
     let (some, n1) = no_cause _ (is_none raw.subject) _ none in
     let (fine, n2) = no_cause _ (has_bad_selector raw.subject) _ n1 in
@@ -200,7 +201,7 @@ keeps raw policy is =
     let (none, same) = accepted raw policy (first_fault raw) is in
     let (subject, n1) = no_or (subject_fault raw) _ none in
     let (ingress, egress) = no_or (section_fault section.Ingress raw.ingress) _ n1 in
-    let (selector, there, fine) = subject_fine raw (no_number _ (first_number (subject_causes raw)) subject) in (
+    let (selector, there, fine) = subject_fine raw (none_there _ (first_cause (subject_causes raw)) subject) in (
       ap (λ (p : Policy). p.key) (sym same),
       rule raw selector there,
       ap (λ (p : Policy). p.rules) (sym same) ∙ ap (λ o. cons_option o []) (subject_read raw selector there fine),

@@ -7,13 +7,16 @@ use Rattle.std.specs.Option.{option_map_or, option_or}
 use Rattle.std.specs.Str.{bytes_eq}
 use Rattle.pol_labels.specs.LabelText.{is_colon}
 use Rattle.pol_labels.specs.WellFormed.{takes_values}
+use Rattle.pol_rule.specs.Causes.{number_of}
+use Rattle.pol_rule.specs.declared.cause.RuleCause.{RuleCause}
+use Rattle.pol_rule.specs.declared.cause.RuleCause.TheVariants as rule
 use Rattle.pol_rule.specs.declared.fault.RuleFault.{RuleFault}
 use Rattle.pol_rule.specs.declared.policy.Section.{Section}
 use Rattle.pol_rule.specs.declared.policy.Section.TheVariants as section
 use Rattle.pol_rule.specs.declared.raw.RawExpression.{RawExpression}
 use Rattle.pol_rule.specs.declared.raw.RawPair.{RawPair}
 use Rattle.pol_rule.specs.declared.raw.RawSelector.{RawSelector}
-use Rattle.pol_sanitize.specs.Faults.{Cause, cause, first_number, first_of}
+use Rattle.pol_sanitize.specs.Faults.{Cause, cause, first_cause, first_of}
 use Rattle.pol_sanitize.specs.Peers.{has_outside_exception, is_bad_set}
 use Rattle.pol_sanitize.specs.Ports.{port_max}
 use Rattle.pol_sanitize.specs.Selectors.{operator_of}
@@ -93,33 +96,33 @@ is_bad_type text = not (bytes_eq text (codes "Ingress") || bytes_eq text (codes 
 
 abbrev pub subject_causes : RawNetworkPolicy → List Cause
 subject_causes raw =
-    cause 15 (is_none raw.subject)
-    ∷ cause 17 (has_bad_selector raw.subject)
-    ∷ cause 26 (list_any is_bad_type raw.types)
+    cause rule.NoSelector (is_none raw.subject)
+    ∷ cause rule.BadSelector (has_bad_selector raw.subject)
+    ∷ cause rule.BadPolicyType (list_any is_bad_type raw.types)
     ∷ []
 
 abbrev pub entry_causes : RawNetEntry → List Cause
 entry_causes entry =
-    cause 17 (list_any asks_badly entry.peers)
-    ∷ cause 18 (list_any has_bad_cidr entry.peers)
-    ∷ cause 19 (list_any excepts_outside entry.peers)
-    ∷ cause 21 (list_any is_bad_port entry.ports)
-    ∷ cause 22 (list_any is_bad_protocol entry.ports)
-    ∷ cause 27 (list_any is_bad_peer entry.peers)
-    ∷ cause 28 (list_any is_bad_end entry.ports)
+    cause rule.BadSelector (list_any asks_badly entry.peers)
+    ∷ cause rule.BadCidr (list_any has_bad_cidr entry.peers)
+    ∷ cause rule.ExceptOutside (list_any excepts_outside entry.peers)
+    ∷ cause rule.BadPort (list_any is_bad_port entry.ports)
+    ∷ cause rule.BadProtocol (list_any is_bad_protocol entry.ports)
+    ∷ cause rule.BadPeer (list_any is_bad_peer entry.peers)
+    ∷ cause rule.BadEndPort (list_any is_bad_end entry.ports)
     ∷ []
 
 -- ---- the first fault
 
 -- a NetworkPolicy is one rule
-abbrev pub fault_at : Option (Section × ℕ) → ℕ → RuleFault
-fault_at at number = record { number = number; rule = 0; at = at }
+abbrev pub fault_at : Option (Section × ℕ) → RuleCause → RuleFault
+fault_at at cause = record { number = number_of cause; rule = 0; at = at }
 
 abbrev pub subject_fault : RawNetworkPolicy → Option RuleFault
-subject_fault raw = option_map (fault_at None) (first_number (subject_causes raw))
+subject_fault raw = option_map (fault_at None) (first_cause (subject_causes raw))
 
 abbrev pub entry_fault : Section → ℕ → RawNetEntry → Option RuleFault
-entry_fault section place entry = option_map (fault_at (Some (section, place))) (first_number (entry_causes entry))
+entry_fault section place entry = option_map (fault_at (Some (section, place))) (first_cause (entry_causes entry))
 
 abbrev pub section_fault : Section → List RawNetEntry → Option RuleFault
 section_fault section entries = first_of (entry_fault section) entries

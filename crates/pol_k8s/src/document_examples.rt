@@ -3,6 +3,7 @@
 ghost use Rattle.std.specs.Prelude.{◌≡◌, ◌∷◌, [], true, codes, None, Some, Ok, Err};
 ghost use Rattle.serde_json.specs.Data.{boolean, null, number, string, unsigned};
 ghost use Rattle.pol_json.specs.declared.fault.DocFault.TheVariants as fault;
+ghost use Rattle.pol_rule.specs.declared.cause.RuleCause.TheVariants as rule;
 ghost use Rattle.pol_rule.specs.declared.policy.Section.TheVariants as section;
 ghost use Rattle.pol_k8s.specs.Document.{netpol_of, read_document};
 ghost use Rattle.pol_k8s.specs.Examples.{deny, lets_all_in, web_to_db};
@@ -30,7 +31,7 @@ pub fn heads_are_told()
     ensures of_cilium { netpol_of (headed (codes "cilium.io/v2") (codes "NetworkPolicy") named_np []) ≡ Err (Doc fault.NotPolicy) }
     ensures kind { netpol_of (headed (codes "networking.k8s.io/v1") (codes "CiliumNetworkPolicy") (fields []) []) ≡ Err (Doc fault.NotPolicy) }
     ensures no_name { netpol_of (headed (codes "networking.k8s.io/v1") (codes "NetworkPolicy") (fields []) []) ≡ Err (Doc fault.NoName) }
-    ensures no_selector { netpol_of (network []) ≡ Err (Rule (fault_at None 15)) }
+    ensures no_selector { netpol_of (network []) ≡ Err (Rule (fault_at None rule.NoSelector)) }
 {}
 
 /// What a document is refused for by a member, and that this comes before what its object is refused for ('profile').
@@ -43,5 +44,5 @@ pub fn members_are_told()
     ensures no_cidr { netpol_of (with_peer ((codes "ipBlock", fields []) ∷ [])) ≡ Err (Doc (fault.WrongShape (codes "spec.ingress[0].from[0].ipBlock.cidr"))) }
     ensures other_family { netpol_of (with_peer ((codes "ipBlock", fields ((codes "cidr", string (codes "::/0")) ∷ [])) ∷ [])) ≡ Err (Doc (fault.Unsupported (codes "ipv6"))) }
     ensures document_first { netpol_of (network ((codes "x", items []) ∷ [])) ≡ Err (Doc (fault.UnknownMember (codes "spec.x"))) }
-    ensures no_member { netpol_of (with_peer []) ≡ Err (Rule (fault_at (Some (section.Ingress, 0)) 27)) }
+    ensures no_member { netpol_of (with_peer []) ≡ Err (Rule (fault_at (Some (section.Ingress, 0)) rule.BadPeer)) }
 {}

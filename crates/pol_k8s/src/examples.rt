@@ -7,6 +7,7 @@ ghost use Rattle.pol_ports.specs.declared.Direction.TheVariants.{Egress, Ingress
 ghost use Rattle.pol_ports.specs.declared.Proto.TheVariants.{Tcp, Udp};
 ghost use Rattle.pol_rule.specs.Covers.{entry_covers};
 ghost use Rattle.pol_rule.specs.declared.policy.Peers.TheVariants.{Every};
+ghost use Rattle.pol_rule.specs.declared.cause.RuleCause.TheVariants as rule;
 ghost use Rattle.pol_rule.specs.declared.policy.Section.TheVariants as section;
 ghost use Rattle.pol_k8s.specs.Examples.{anything, asking, bare, block, deny, entry, namespaces, net, object, lets_all_in, pod, pod_of_team, pods, pods_in, port, port_with, row, web_to_db, word_at};
 ghost use Rattle.pol_k8s.specs.Faults.{fault_at, first_fault};
@@ -62,15 +63,15 @@ pub fn ports_have_defaults()
 
 /// Each fault of an object.
 pub fn objects_are_refused()
-    ensures no_subject { first_fault (record deny { subject = None }) ≡ Some (fault_at None 15) }
-    ensures bad_selector { first_fault (object (asking (codes "k8s:app") (codes "db")) [] [] []) ≡ Some (fault_at None 17) }
-    ensures bad_type { first_fault (object anything (codes "ingress" ∷ []) [] []) ≡ Some (fault_at None 26) }
-    ensures no_member { first_fault (object anything [] (entry (bare ∷ []) [] ∷ []) []) ≡ Some (fault_at (Some (section.Ingress, 0)) 27) }
-    ensures bad_protocol { first_fault (object anything [] [] (entry [] [] ∷ entry [] (port_with (codes "tcp") 80 ∷ []) ∷ [])) ≡ Some (fault_at (Some (section.Egress, 1)) 22) }
-    ensures port_zero { first_fault (object anything [] (entry [] (port (Some 0) None ∷ []) ∷ []) []) ≡ Some (fault_at (Some (section.Ingress, 0)) 21) }
-    ensures end_below { first_fault (object anything [] (entry [] (port (Some 80) (Some 79) ∷ []) ∷ []) []) ≡ Some (fault_at (Some (section.Ingress, 0)) 28) }
-    ensures end_alone { first_fault (object anything [] (entry [] (port None (Some 79) ∷ []) ∷ []) []) ≡ Some (fault_at (Some (section.Ingress, 0)) 28) }
-    ensures by_number { first_fault (object anything [] (entry (bare ∷ []) (port (Some 0) None ∷ []) ∷ []) []) ≡ Some (fault_at (Some (section.Ingress, 0)) 21) }
+    ensures no_subject { first_fault (record deny { subject = None }) ≡ Some (fault_at None rule.NoSelector) }
+    ensures bad_selector { first_fault (object (asking (codes "k8s:app") (codes "db")) [] [] []) ≡ Some (fault_at None rule.BadSelector) }
+    ensures bad_type { first_fault (object anything (codes "ingress" ∷ []) [] []) ≡ Some (fault_at None rule.BadPolicyType) }
+    ensures no_member { first_fault (object anything [] (entry (bare ∷ []) [] ∷ []) []) ≡ Some (fault_at (Some (section.Ingress, 0)) rule.BadPeer) }
+    ensures bad_protocol { first_fault (object anything [] [] (entry [] [] ∷ entry [] (port_with (codes "tcp") 80 ∷ []) ∷ [])) ≡ Some (fault_at (Some (section.Egress, 1)) rule.BadProtocol) }
+    ensures port_zero { first_fault (object anything [] (entry [] (port (Some 0) None ∷ []) ∷ []) []) ≡ Some (fault_at (Some (section.Ingress, 0)) rule.BadPort) }
+    ensures end_below { first_fault (object anything [] (entry [] (port (Some 80) (Some 79) ∷ []) ∷ []) []) ≡ Some (fault_at (Some (section.Ingress, 0)) rule.BadEndPort) }
+    ensures end_alone { first_fault (object anything [] (entry [] (port None (Some 79) ∷ []) ∷ []) []) ≡ Some (fault_at (Some (section.Ingress, 0)) rule.BadEndPort) }
+    ensures by_number { first_fault (object anything [] (entry (bare ∷ []) (port (Some 0) None ∷ []) ∷ []) []) ≡ Some (fault_at (Some (section.Ingress, 0)) rule.BadPort) }
     ensures none { first_fault web_to_db ≡ None }
 {}
 

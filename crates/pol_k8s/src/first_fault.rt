@@ -1,7 +1,7 @@
 //! The first fault of a NetworkPolicy.
 ghost use Rattle.std.specs.Prelude.{◌≡◌, IfOk, IfErr};
 ghost use Rattle.pol_sanitize.specs.Answers.{Finds};
-ghost use Rattle.pol_sanitize.specs.Faults.{first_number};
+ghost use Rattle.pol_sanitize.specs.Faults.{first_cause};
 ghost use Rattle.pol_k8s.specs.Faults.{entry_causes, entry_fault, fault_at, first_fault, section_fault, subject_causes, subject_fault};
 ghost use Rattle.pol_sanitize.specs.declared.fault.SanitizeError.TheVariants.{Fault as Refused};
 
@@ -10,34 +10,15 @@ use crate::check::{
     have_bad_peer, have_bad_port, have_bad_protocol,
 };
 use crate::raw::{RawNetEntry, RawNetworkPolicy};
-use pol_rule::{RuleFault, Section};
+use pol_rule::{RuleCause, RuleFault, Section};
 use pol_sanitize::SanitizeError;
 
-/// The object has no `podSelector`.
-const NO_SELECTOR: u8 = 15;
-/// A selector is bad.
-const BAD_SELECTOR: u8 = 17;
-/// A text isn't one of an IPv4 prefix.
-const BAD_CIDR: u8 = 18;
-/// An exception isn't inside its range.
-const EXCEPT_OUTSIDE: u8 = 19;
-/// A port isn't 1 to 65535, or an `endPort` is above 65535.
-const BAD_PORT: u8 = 21;
-/// A protocol isn't TCP, UDP or SCTP.
-const BAD_PROTOCOL: u8 = 22;
-/// A policy type isn't Ingress or Egress.
-const BAD_POLICY_TYPE: u8 = 26;
-/// A peer has none of its members, or `ipBlock` beside another.
-const BAD_PEER: u8 = 27;
-/// An `endPort` stands without a port, or below it.
-const BAD_END_PORT: u8 = 28;
-
-/// The fault of this number. A NetworkPolicy is one rule.
-fn fault_at(at: Option<(Section, u32)>, number: u8) -> SanitizeError
-    ensures { result ≡ Refused (fault_at at number) }
+/// The fault of this cause. A NetworkPolicy is one rule.
+fn fault_at(at: Option<(Section, u32)>, cause: RuleCause) -> SanitizeError
+    ensures { result ≡ Refused (fault_at at cause) }
 {
     SanitizeError::Fault(RuleFault {
-        number,
+        number: cause.number(),
         rule: 0,
         at,
     })
@@ -54,41 +35,41 @@ fn place(index: usize) -> Result<u32, SanitizeError>
     }
 }
 
-/// The number of the first fault of the subject and the policy types.
-fn subject_number(raw: &RawNetworkPolicy) -> Option<u8>
-    ensures { result ≡ first_number (subject_causes raw.now) }
+/// The first cause of the subject and the policy types that holds.
+fn subject_cause(raw: &RawNetworkPolicy) -> Option<RuleCause>
+    ensures { result ≡ first_cause (subject_causes raw.now) }
 {
     if raw.subject.is_none() {
-        Some(NO_SELECTOR)
+        Some(RuleCause::NoSelector)
     } else if has_bad_selector(&raw.subject) {
-        Some(BAD_SELECTOR)
+        Some(RuleCause::BadSelector)
     } else if has_bad_type(raw.types.as_slice()) {
-        Some(BAD_POLICY_TYPE)
+        Some(RuleCause::BadPolicyType)
     } else {
         None
     }
 }
 
-/// The number of the first fault of an entry.
-fn entry_number(entry: &RawNetEntry) -> Option<u8>
-    ensures { result ≡ first_number (entry_causes entry.now) }
+/// The first cause of an entry that holds.
+fn entry_cause(entry: &RawNetEntry) -> Option<RuleCause>
+    ensures { result ≡ first_cause (entry_causes entry.now) }
 {
     let peers = entry.peers.as_slice();
     let ports = entry.ports.as_slice();
     if ask_badly(peers) {
-        Some(BAD_SELECTOR)
+        Some(RuleCause::BadSelector)
     } else if have_bad_cidr(peers) {
-        Some(BAD_CIDR)
+        Some(RuleCause::BadCidr)
     } else if except_outside(peers) {
-        Some(EXCEPT_OUTSIDE)
+        Some(RuleCause::ExceptOutside)
     } else if have_bad_port(ports) {
-        Some(BAD_PORT)
+        Some(RuleCause::BadPort)
     } else if have_bad_protocol(ports) {
-        Some(BAD_PROTOCOL)
+        Some(RuleCause::BadProtocol)
     } else if have_bad_peer(peers) {
-        Some(BAD_PEER)
+        Some(RuleCause::BadPeer)
     } else if have_bad_end(ports) {
-        Some(BAD_END_PORT)
+        Some(RuleCause::BadEndPort)
     } else {
         None
     }
@@ -97,18 +78,18 @@ fn entry_number(entry: &RawNetEntry) -> Option<u8>
 fn check_subject(raw: &RawNetworkPolicy) -> Result<(), SanitizeError>
     ensures { Finds (subject_fault raw.now) result }
 {
-    match subject_number(raw) {
+    match subject_cause(raw) {
         None => Ok(()),
-        Some(number) => Err(fault_at(None, number)),
+        Some(cause) => Err(fault_at(None, cause)),
     }
 }
 
 fn check_entry(section: Section, index: usize, entry: &RawNetEntry) -> Result<(), SanitizeError>
     ensures { Finds (entry_fault section index entry.now) result }
 {
-    match entry_number(entry) {
+    match entry_cause(entry) {
         None => Ok(()),
-        Some(number) => Err(fault_at(Some((section, place(index)?)), number)),
+        Some(cause) => Err(fault_at(Some((section, place(index)?)), cause)),
     }
 }
 

@@ -17,13 +17,13 @@ use Rattle.pol_rule.specs.declared.raw.RawEntry.{RawEntry}
 use Rattle.pol_rule.specs.declared.raw.RawPolicy.{RawPolicy}
 use Rattle.pol_rule.specs.declared.raw.RawRule.{RawRule}
 use Rattle.pol_rule.specs.declared.raw.RawSelector.{RawSelector}
-use Rattle.pol_sanitize.specs.Faults.{entry_causes, entry_fault, first_fault, first_number, rule_fault, section_fault}
+use Rattle.pol_sanitize.specs.Faults.{entry_causes, entry_fault, first_fault, first_cause, rule_fault, section_fault}
 use Rattle.pol_sanitize.specs.Peers.{cidr_peer, combines_kinds, endpoint_peer, entity_of, entity_peer, exceptions_of, has_no_peer_member, listed, listed_peers, peers_of, set_peer}
 use Rattle.pol_sanitize.specs.Sanitized.{entry_of, rule_of, rule_with, sanitized_of, section_of}
 use Rattle.pol_sanitize.specs.Selectors.{is_bad_selector, peer_selector, subject_selector}
 use Rattle.pol_sanitize.specs.Whole.{IsWellFormedEntry, IsWellFormedPeer, IsWellFormedRule}
 use Rattle.pol_sanitize.proofs.Bound.{peer_formed, subject_formed}
-use Rattle.pol_sanitize.proofs.Wholeness.{accepted_faultless, all_faultless, all_filter_map, all_where, asked_formed, endpoints_read, no_cause, no_number, parts_faultless, subject_where}
+use Rattle.pol_sanitize.proofs.Wholeness.{accepted_faultless, all_faultless, all_filter_map, all_where, asked_formed, endpoints_read, no_cause, none_located, parts_faultless, subject_where}
 
 each_mapped : {X Y : Type 0} (P : Y → Type 0) (f : X → Y) → ((x : X) → P (f x)) → (o : Option X) → IfSome (option_map f o) P
 each_mapped P f each None = tt
@@ -55,7 +55,7 @@ peers_formed key entry fine =
     (all_filter_map P set_peer (listed entry.cidr_sets) (λ k d within. set_formed (get_or (listed entry.cidr_sets) k d))))
     (all_filter_map P entity_peer (listed entry.entities) (λ k d within. entity_formed (get_or (listed entry.entities) k d)))
 
-entry_formed : (key : PolicyKey) (entry : RawEntry) → first_number (entry_causes entry) ≡ None → IsWellFormedEntry (peers_of key entry)
+entry_formed : (key : PolicyKey) (entry : RawEntry) → first_cause (entry_causes entry) ≡ None → IsWellFormedEntry (peers_of key entry)
 entry_formed key entry none =
     let (kinds, n1) = no_cause _ (combines_kinds entry) _ none in
     let (selectors, n2) = no_cause _ (list_any is_bad_selector (listed entry.endpoints)) _ n1 in
@@ -67,7 +67,7 @@ entry_formed key entry none =
 section_formed : (key : PolicyKey) (rule : ℕ) (s : Section) (entries : List RawEntry) → section_fault rule s entries ≡ None → All (λ (entry : Entry). IsWellFormedEntry entry.peers) (section_of key entries)
 section_formed key rule s entries none =
     All-map (λ (entry : Entry). IsWellFormedEntry entry.peers) (entry_of key) entries
-    (all_faultless (λ entry. IsWellFormedEntry (peers_of key entry)) (entry_fault rule s) (λ n entry fine. entry_formed key entry (no_number _ (first_number (entry_causes entry)) fine)) 0 entries none)
+    (all_faultless (λ entry. IsWellFormedEntry (peers_of key entry)) (entry_fault rule s) (λ n entry fine. entry_formed key entry (none_located _ (first_cause (entry_causes entry)) fine)) 0 entries none)
 
 some_mapped_so : {X Y : Type 0} (P : Y → Type 0) (f : X → Y) (o : Option X) → IsSomeAnd o (λ x. P (f x)) → IfSome (option_map f o) P
 some_mapped_so P f None some = tt

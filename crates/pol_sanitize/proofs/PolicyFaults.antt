@@ -3,6 +3,8 @@ use Rattle.std.proofs.Common.{◌≡◌, ℕ, zero, suc, ◌+◌, ◌<◌, ◌�
 use Rattle.std.proofs.lemmas.Bool.{and_parts, both_ways, cases_lt, false_from_ne_true, leb-true, or_cases, or_left, or_right, true≢false}
 use Rattle.std.specs.List.{slice_get}
 use Rattle.std.specs.Option.{option_map_or, option_or}
+use Rattle.pol_rule.specs.Causes.{number_of}
+use Rattle.pol_rule.specs.declared.cause.RuleCause.{RuleCause}
 use Rattle.pol_rule.specs.declared.fault.RuleFault.{RuleFault}
 use Rattle.pol_rule.specs.declared.policy.Policy.{Policy}
 use Rattle.pol_rule.specs.declared.policy.Section.{Section}
@@ -11,7 +13,7 @@ use Rattle.pol_rule.specs.declared.raw.RawEntry.{RawEntry}
 use Rattle.pol_rule.specs.declared.raw.RawPolicy.{RawPolicy}
 use Rattle.pol_rule.specs.declared.raw.RawRule.{RawRule}
 use Rattle.pol_rule.specs.declared.raw.RawSelector.{RawSelector}
-use Rattle.pol_sanitize.specs.Faults.{Cause, entry_causes, entry_fault, first_fault, first_number, located, of_entry, of_subject, rule_fault, section_fault, subject_causes, subject_fault}
+use Rattle.pol_sanitize.specs.Faults.{Cause, entry_causes, entry_fault, first_fault, first_cause, located, of_entry, of_subject, rule_fault, section_fault, subject_causes, subject_fault}
 use Rattle.pol_sanitize.specs.Order.{causes_in, comes_before, entry_rank, has_cause, is_fault_of, place_rank, raw_section, section_rank}
 use Rattle.pol_sanitize.specs.Sanitized.{judged, policy_of, sanitized_of}
 use Rattle.pol_sanitize.specs.declared.fault.Location.{Location}
@@ -20,59 +22,59 @@ use Rattle.pol_sanitize.proofs.FirstFaults.{At, Best, best_or, best_same, first_
 -- ---- one place: the least number
 abbrev ascends : ℕ → List Cause → Bool
 ascends n [] = true
-ascends n (c ∷ causes) = leb n c.number && ascends c.number causes
+ascends n (c ∷ causes) = leb n (number_of c.what) && ascends (number_of c.what) causes
 
 above : (n : ℕ) (causes : List Cause) (k : ℕ) → ascends n causes ≡ true → has_cause k causes ≡ true → n ≤ k
 above n [] k up has = absurd (true≢false (sym has))
 above n (c ∷ causes) k up has =
-    let (here, rest) = and_parts (leb n c.number) (ascends c.number causes) up in
-    let within = leb-true n c.number here in
-    elim (or_cases (c.number == k && c.holds) (has_cause k causes) has) [
-      | inl this ↦ omega (arith, within, eqb-true c.number k (and_parts (c.number == k) c.holds this).0)
-      | inr one ↦ omega (arith, within, above c.number causes k rest one)
+    let (here, rest) = and_parts (leb n (number_of c.what)) (ascends (number_of c.what) causes) up in
+    let within = leb-true n (number_of c.what) here in
+    elim (or_cases (number_of c.what == k && c.holds) (has_cause k causes) has) [
+      | inl this ↦ omega (arith, within, eqb-true (number_of c.what) k (and_parts (number_of c.what == k) c.holds this).0)
+      | inr one ↦ omega (arith, within, above (number_of c.what) causes k rest one)
     ]
 
--- the number of a cause that holds, at most each other such number
-abbrev Least : Option ℕ → List Cause → Type 0
+-- a cause that holds, whose number is at most that of each other such cause
+abbrev Least : Option RuleCause → List Cause → Type 0
 Least None causes = (k : ℕ) → has_cause k causes ≡ true → ⊥
-Least (Some m) causes = (has_cause m causes ≡ true) × ((k : ℕ) → has_cause k causes ≡ true → m ≤ k)
+Least (Some m) causes = (has_cause (number_of m) causes ≡ true) × ((k : ℕ) → has_cause k causes ≡ true → number_of m ≤ k)
 
 -- a cause that doesn't hold changes nothing
 rest_has : (c : Cause) (causes : List Cause) (k : ℕ) → c.holds ≡ false → has_cause k (c ∷ causes) ≡ true → has_cause k causes ≡ true
 rest_has c causes k fails has =
-    elim (or_cases (c.number == k && c.holds) (has_cause k causes) has) [
-      | inl this ↦ absurd (both_ways c.holds fails (and_parts (c.number == k) c.holds this).1)
+    elim (or_cases (number_of c.what == k && c.holds) (has_cause k causes) has) [
+      | inl this ↦ absurd (both_ways c.holds fails (and_parts (number_of c.what == k) c.holds this).1)
       | inr one ↦ one
     ]
 
-passed : (c : Cause) (causes : List Cause) (o : Option ℕ) → c.holds ≡ false → Least o causes → Least o (c ∷ causes)
+passed : (c : Cause) (causes : List Cause) (o : Option RuleCause) → c.holds ≡ false → Least o causes → Least o (c ∷ causes)
 passed c causes None fails none = λ k has. none k (rest_has c causes k fails has)
-passed c causes (Some m) fails (one, least) = (or_right (c.number == m && c.holds) (has_cause m causes) one, λ k has. least k (rest_has c causes k fails has))
+passed c causes (Some m) fails (one, least) = (or_right (number_of c.what == number_of m && c.holds) (has_cause (number_of m) causes) one, λ k has. least k (rest_has c causes k fails has))
 
-least_of : (n : ℕ) (causes : List Cause) → ascends n causes ≡ true → Least (first_number causes) causes
+least_of : (n : ℕ) (causes : List Cause) → ascends n causes ≡ true → Least (first_cause causes) causes
 least_of n [] up = λ k has. true≢false (sym has)
 least_of n (c ∷ causes) up =
-    let (here, rest) = and_parts (leb n c.number) (ascends c.number causes) up in
-    let least = least_of c.number causes rest in
-    elim c.holds as (λ b. c.holds ≡ b → Least (cond b (Some c.number) (first_number causes)) (c ∷ causes)) [
+    let (here, rest) = and_parts (leb n (number_of c.what)) (ascends (number_of c.what) causes) up in
+    let least = least_of (number_of c.what) causes rest in
+    elim c.holds as (λ b. c.holds ≡ b → Least (cond b (Some c.what) (first_cause causes)) (c ∷ causes)) [
       | true ↦ λ holds. (
-        or_left (c.number == c.number && c.holds) (has_cause c.number causes) (ap (λ b. b && c.holds) (eq-eqb c.number c.number refl) ∙ holds),
-        λ k has. elim (or_cases (c.number == k && c.holds) (has_cause k causes) has) [
-          | inl this ↦ omega (arith, eqb-true c.number k (and_parts (c.number == k) c.holds this).0)
-          | inr one ↦ above c.number causes k rest one
+        or_left (number_of c.what == number_of c.what && c.holds) (has_cause (number_of c.what) causes) (ap (λ b. b && c.holds) (eq-eqb (number_of c.what) (number_of c.what) refl) ∙ holds),
+        λ k has. elim (or_cases (number_of c.what == k && c.holds) (has_cause k causes) has) [
+          | inl this ↦ omega (arith, eqb-true (number_of c.what) k (and_parts (number_of c.what == k) c.holds this).0)
+          | inr one ↦ above (number_of c.what) causes k rest one
         ],
       )
-      | false ↦ λ fails. passed c causes (first_number causes) fails least
+      | false ↦ λ fails. passed c causes (first_cause causes) fails least
     ] refl
 
 -- a fault at the location
 abbrev Here : Location → List Cause → RuleFault → Type 0
 Here location causes f = (f.rule ≡ location.rule) × (f.at ≡ location.at) × (has_cause f.number causes ≡ true)
 
-best_here : (location : Location) (causes : List Cause) (o : Option ℕ) → Least o causes → Best (located location o) (Here location causes)
+best_here : (location : Location) (causes : List Cause) (o : Option RuleCause) → Least o causes → Best (located location o) (Here location causes)
 best_here location causes None none = λ f (rule, at, has). none f.number has
 best_here location causes (Some m) (one, least) =
-    ((refl, refl, one), λ f (rule, at, has). later_number (record { number = m; rule = location.rule; at = location.at }) f (sym rule) (sym at) (least f.number has))
+    ((refl, refl, one), λ f (rule, at, has). later_number (record { number = number_of m; rule = location.rule; at = location.at }) f (sym rule) (sym at) (least f.number has))
 
 subject_ascends : (subject : Option RawSelector) → ascends 0 (subject_causes subject) ≡ true
 subject_ascends None = refl
@@ -83,7 +85,7 @@ abbrev EntryFault : ℕ → Section → ℕ → RawEntry → RuleFault → Type 
 EntryFault rule s n entry f = Here (of_entry rule s n) (entry_causes entry) f
 
 entry_best : (rule : ℕ) (s : Section) (n : ℕ) (entry : RawEntry) → Best (entry_fault rule s n entry) (EntryFault rule s n entry)
-entry_best rule s n entry = best_here (of_entry rule s n) (entry_causes entry) (first_number (entry_causes entry)) (least_of 0 (entry_causes entry) refl)
+entry_best rule s n entry = best_here (of_entry rule s n) (entry_causes entry) (first_cause (entry_causes entry)) (least_of 0 (entry_causes entry) refl)
 
 entries_ordered : (rule : ℕ) (s : Section) (m n : ℕ) (x y : RawEntry) (f g : RuleFault) → m < n → EntryFault rule s m x f → EntryFault rule s n y g → comes_before g f ≡ false
 entries_ordered rule s m n x y f g less (rule_f, at_f, has_f) (rule_g, at_g, has_g) =
@@ -154,7 +156,7 @@ part_subject rule raw f (Some (t, i)) is is_rule rank has = absurd (omega (arith
 subject_best : (rule : ℕ) (raw : RawRule) → Best (subject_fault rule raw) (Part rule raw 0)
 subject_best rule raw =
     best_same (subject_fault rule raw) (Here (of_subject rule) (subject_causes raw.subject)) (Part rule raw 0)
-    (best_here (of_subject rule) (subject_causes raw.subject) (first_number (subject_causes raw.subject)) (least_of 0 (subject_causes raw.subject) (subject_ascends raw.subject)))
+    (best_here (of_subject rule) (subject_causes raw.subject) (first_cause (subject_causes raw.subject)) (least_of 0 (subject_causes raw.subject) (subject_ascends raw.subject)))
     (subject_part rule raw)
     (λ f (is_rule, rank, has). part_subject rule raw f f.at refl is_rule rank has)
 

@@ -6,6 +6,7 @@ use Rattle.std.specs.List.{cons_option, list_any}
 use Rattle.std.specs.Option.{option_or}
 use Rattle.pol_addr.specs.Prefix.{read_prefix}
 use Rattle.pol_labels.specs.WellFormed.{all_well_formed}
+use Rattle.pol_rule.specs.declared.cause.RuleCause.{RuleCause}
 use Rattle.pol_rule.specs.declared.fault.RuleFault.{RuleFault}
 use Rattle.pol_rule.specs.declared.policy.Peer.TheVariants as peer
 use Rattle.pol_rule.specs.declared.policy.Policy.{Policy}
@@ -18,7 +19,7 @@ use Rattle.pol_rule.specs.declared.raw.RawPolicy.{RawPolicy}
 use Rattle.pol_rule.specs.declared.raw.RawPort.{RawPort}
 use Rattle.pol_rule.specs.declared.raw.RawRule.{RawRule}
 use Rattle.pol_rule.specs.declared.raw.RawSelector.{RawSelector}
-use Rattle.pol_sanitize.specs.Faults.{entry_causes, entry_fault, first_fault, first_from, first_number, located, rule_fault, section_fault, subject_causes, subject_fault}
+use Rattle.pol_sanitize.specs.Faults.{entry_causes, entry_fault, first_fault, first_from, first_cause, located, rule_fault, section_fault, subject_causes, subject_fault}
 use Rattle.pol_sanitize.specs.Peers.{cidr_peer, combines_kinds, endpoint_peer, entity_of, entity_peer, has_outside_exception, is_bad_cidr, is_bad_set, is_unknown_entity, listed, set_peer}
 use Rattle.pol_sanitize.specs.Ports.{all_items, is_bad_port, is_bad_protocol, protocol_of, range_of, spec_of}
 use Rattle.pol_sanitize.specs.Sanitized.{judged, policy_of, rule_of, sanitized_of}
@@ -64,17 +65,17 @@ all_filter_map P read (x ∷ xs) each =
     all_cons_option P (read x) (filter_map read xs) (All-head (λ x. IfSome (read x) P) x xs each) (all_filter_map P read xs (All-tail (λ x. IfSome (read x) P) x xs each))
 
 -- ---- no fault
-pub no_cause : (number : ℕ) (holds : Bool) (rest : Option ℕ) → cond holds (Some number) rest ≡ None → (holds ≡ false) × (rest ≡ None)
-no_cause number true rest none = cc
-no_cause number false rest none = (refl, none)
+pub no_cause : (cause : RuleCause) (holds : Bool) (rest : Option RuleCause) → cond holds (Some cause) rest ≡ None → (holds ≡ false) × (rest ≡ None)
+no_cause cause true rest none = cc
+no_cause cause false rest none = (refl, none)
 
 no_or : {X : Type 0} (o p : Option X) → option_or o p ≡ None → (o ≡ None) × (p ≡ None)
 no_or None p none = (refl, none)
 no_or (Some x) p none = cc
 
-pub no_number : (location : Location) (o : Option ℕ) → located location o ≡ None → o ≡ None
-no_number location None none = refl
-no_number location (Some number) none = cc
+pub none_located : (location : Location) (o : Option RuleCause) → located location o ≡ None → o ≡ None
+none_located location None none = refl
+none_located location (Some cause) none = cc
 
 pub all_faultless : {X : Type 0} (P : X → Type 0) (fault : ℕ → X → Option RuleFault) → ((n : ℕ) (x : X) → fault n x ≡ None → P x) → (n : ℕ) (xs : List X) → first_from fault n xs ≡ None → All P xs
 all_faultless P fault fine n [] none = All-nil P
@@ -121,7 +122,7 @@ port_read port fine =
     let (range, protocol) = or_parts (is_bad_port port) (is_bad_protocol port) fine in
     both (λ range proto. record { proto = proto; range = range }) (range_of port) (protocol_of port.protocol) range protocol
 
-entry_whole : (key : PolicyKey) (entry : RawEntry) → first_number (entry_causes entry) ≡ None → IsWholeEntry key entry
+entry_whole : (key : PolicyKey) (entry : RawEntry) → first_cause (entry_causes entry) ≡ None → IsWholeEntry key entry
 entry_whole key entry none =
     let (kinds, n1) = no_cause _ (combines_kinds entry) _ none in
     let (selectors, n2) = no_cause _ (list_any is_bad_selector (listed entry.endpoints)) _ n1 in
@@ -144,16 +145,16 @@ entry_whole key entry none =
 -- ---- rules
 section_whole : (key : PolicyKey) (rule : ℕ) (s : Section) (entries : List RawEntry) → section_fault rule s entries ≡ None → All (IsWholeEntry key) entries
 section_whole key rule s entries none =
-    all_faultless (IsWholeEntry key) (entry_fault rule s) (λ n entry fine. entry_whole key entry (no_number _ (first_number (entry_causes entry)) fine)) 0 entries none
+    all_faultless (IsWholeEntry key) (entry_fault rule s) (λ n entry fine. entry_whole key entry (none_located _ (first_cause (entry_causes entry)) fine)) 0 entries none
 
 -- what holds of each selector that isn't bad holds of the subject
-pub subject_where : (P : RawSelector → Type 0) → ((selector : RawSelector) → is_bad_selector selector ≡ false → P selector) → (subject : Option RawSelector) → first_number (subject_causes subject) ≡ None → IsSomeAnd subject P
+pub subject_where : (P : RawSelector → Type 0) → ((selector : RawSelector) → is_bad_selector selector ≡ false → P selector) → (subject : Option RawSelector) → first_cause (subject_causes subject) ≡ None → IsSomeAnd subject P
 subject_where P fine None none = cc
 subject_where P fine (Some selector) none = fine selector (no_cause _ (is_bad_selector selector) None none).0
 
 -- the parts of a rule without fault
 pub record IsFaultless (rule : ℕ) (raw : RawRule) : Type 0 where
-  pub subject : first_number (subject_causes raw.subject) ≡ None
+  pub subject : first_cause (subject_causes raw.subject) ≡ None
   pub ingress : section_fault rule section.Ingress raw.ingress ≡ None
   pub ingress_deny : section_fault rule section.IngressDeny raw.ingress_deny ≡ None
   pub egress : section_fault rule section.Egress raw.egress ≡ None
@@ -166,7 +167,7 @@ parts_faultless rule raw none =
     let (ingress_deny, n3) = no_or (section_fault rule section.IngressDeny raw.ingress_deny) _ n2 in
     let (egress, egress_deny) = no_or (section_fault rule section.Egress raw.egress) _ n3 in
     record {
-      subject = no_number _ (first_number (subject_causes raw.subject)) subject;
+      subject = none_located _ (first_cause (subject_causes raw.subject)) subject;
       ingress = ingress;
       ingress_deny = ingress_deny;
       egress = egress;

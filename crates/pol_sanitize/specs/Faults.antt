@@ -3,6 +3,9 @@
 use Rattle.std.specs.Prelude.{ℕ, ◌+◌, Bool, true, if◌then◌else◌, List, [], ◌∷◌, ◌++◌, Option, None, Some, option_map}
 use Rattle.std.specs.List.{list_any}
 use Rattle.std.specs.Option.{option_or}
+use Rattle.pol_rule.specs.Causes.{number_of}
+use Rattle.pol_rule.specs.declared.cause.RuleCause.{RuleCause}
+use Rattle.pol_rule.specs.declared.cause.RuleCause.TheVariants as rule
 use Rattle.pol_rule.specs.declared.fault.RuleFault.{RuleFault}
 use Rattle.pol_rule.specs.declared.policy.Section.{Section}
 use Rattle.pol_rule.specs.declared.policy.Section.TheVariants as section
@@ -19,52 +22,53 @@ use Rattle.pol_sanitize.specs.declared.fault.Location.{Location}
 
 -- ---- what is wrong in one place
 
--- the number of a fault, and whether its cause holds
+-- a cause of a fault, and whether it holds
 pub record Cause : Type 0 where
-  pub number : ℕ
+  pub what : RuleCause
   pub holds : Bool
 
-abbrev pub cause : ℕ → Bool → Cause
-cause number holds = record { number = number; holds = holds }
+abbrev pub cause : RuleCause → Bool → Cause
+cause what holds = record { what = what; holds = holds }
 
--- the number of the first whose cause holds
-abbrev pub first_number : List Cause → Option ℕ
-first_number [] = None
-first_number (c ∷ causes) = if c.holds then Some c.number else first_number causes
+-- the first that holds
+abbrev pub first_cause : List Cause → Option RuleCause
+first_cause [] = None
+first_cause (c ∷ causes) = if c.holds then Some c.what else first_cause causes
 
 abbrev pub subject_causes : Option RawSelector → List Cause
-subject_causes None = cause 15 true ∷ []
-subject_causes (Some selector) = cause 17 (is_bad_selector selector) ∷ []
+subject_causes None = cause rule.NoSelector true ∷ []
+subject_causes (Some selector) = cause rule.BadSelector (is_bad_selector selector) ∷ []
 
 abbrev pub set_causes : List RawCidrSet → List Cause
 set_causes sets =
-    cause 18 (list_any is_bad_set sets) ∷ cause 19 (list_any has_outside_exception sets) ∷ []
+    cause rule.BadCidr (list_any is_bad_set sets) ∷ cause rule.ExceptOutside (list_any has_outside_exception sets) ∷ []
 
 abbrev pub peer_causes : RawEntry → List Cause
 peer_causes entry =
-    cause 17 (list_any is_bad_selector (listed entry.endpoints))
-    ∷ cause 18 (list_any is_bad_cidr (listed entry.cidrs))
-    ∷ (set_causes (listed entry.cidr_sets) ++ cause 20 (list_any is_unknown_entity (listed entry.entities)) ∷ [])
+    cause rule.BadSelector (list_any is_bad_selector (listed entry.endpoints))
+    ∷ cause rule.BadCidr (list_any is_bad_cidr (listed entry.cidrs))
+    ∷ (set_causes (listed entry.cidr_sets) ++ cause rule.UnknownEntity (list_any is_unknown_entity (listed entry.entities)) ∷ [])
 
 abbrev pub port_causes : List RawPortItem → List Cause
 port_causes items =
-    cause 21 (list_any is_bad_port (all_items items))
-    ∷ cause 22 (list_any is_bad_protocol (all_items items))
-    ∷ cause 23 (list_any has_too_many_ports items)
-    ∷ cause 24 (list_any has_no_ports items)
+    cause rule.BadPort (list_any is_bad_port (all_items items))
+    ∷ cause rule.BadProtocol (list_any is_bad_protocol (all_items items))
+    ∷ cause rule.TooManyPorts (list_any has_too_many_ports items)
+    ∷ cause rule.EmptyPorts (list_any has_no_ports items)
     ∷ []
 
 abbrev pub entry_causes : RawEntry → List Cause
-entry_causes entry = cause 16 (combines_kinds entry) ∷ (peer_causes entry ++ port_causes entry.ports)
+entry_causes entry = cause rule.Combining (combines_kinds entry) ∷ (peer_causes entry ++ port_causes entry.ports)
 
 -- ---- where it is wrong
 
-abbrev pub fault_at : Location → ℕ → RuleFault
-fault_at location number = record { number = number; rule = location.rule; at = location.at }
+-- the fault of a cause: users are told its number
+abbrev pub fault_at : Location → RuleCause → RuleFault
+fault_at location cause = record { number = number_of cause; rule = location.rule; at = location.at }
 
 -- the fault at this location, if there is one
-abbrev pub located : Location → Option ℕ → Option RuleFault
-located location number = option_map (fault_at location) number
+abbrev pub located : Location → Option RuleCause → Option RuleFault
+located location cause = option_map (fault_at location) cause
 
 abbrev pub of_subject : ℕ → Location
 of_subject rule = record { rule = rule; at = None }
@@ -72,9 +76,9 @@ of_subject rule = record { rule = rule; at = None }
 abbrev pub of_entry : ℕ → Section → ℕ → Location
 of_entry rule section entry = record { rule = rule; at = Some (section, entry) }
 
--- a number, where its cause holds
-abbrev pub found : ℕ → Bool → Option ℕ
-found number holds = if holds then Some number else None
+-- a cause, where it holds
+abbrev pub found : RuleCause → Bool → Option RuleCause
+found cause holds = if holds then Some cause else None
 
 -- ---- the first fault
 
@@ -87,10 +91,10 @@ abbrev pub first_of : {X : Type 0} → (ℕ → X → Option RuleFault) → List
 first_of fault items = first_from fault 0 items
 
 abbrev pub subject_fault : ℕ → RawRule → Option RuleFault
-subject_fault rule raw = located (of_subject rule) (first_number (subject_causes raw.subject))
+subject_fault rule raw = located (of_subject rule) (first_cause (subject_causes raw.subject))
 
 abbrev pub entry_fault : ℕ → Section → ℕ → RawEntry → Option RuleFault
-entry_fault rule section entry raw = located (of_entry rule section entry) (first_number (entry_causes raw))
+entry_fault rule section entry raw = located (of_entry rule section entry) (first_cause (entry_causes raw))
 
 abbrev pub section_fault : ℕ → Section → List RawEntry → Option RuleFault
 section_fault rule section entries = first_of (entry_fault rule section) entries

@@ -3,6 +3,7 @@
 use Rattle.std.specs.Prelude.{ℕ, Bool, false, ◌&&◌, ◌||◌, ◌==◌, nat_lt, List, [], Option, None, Some}
 use Rattle.std.specs.List.{list_any, slice_get}
 use Rattle.std.specs.Option.{option_map_or}
+use Rattle.pol_rule.specs.Causes.{number_of}
 use Rattle.pol_rule.specs.declared.fault.RuleFault.{RuleFault}
 use Rattle.pol_rule.specs.declared.policy.Section.{Section}
 use Rattle.pol_rule.specs.declared.policy.Section.TheVariants as section
@@ -21,7 +22,7 @@ raw_section section.EgressDeny rule = rule.egress_deny
 
 -- a cause of this number holds
 abbrev pub has_cause : ℕ → List Cause → Bool
-has_cause number causes = list_any (λ (c : Cause). c.number == number && c.holds) causes
+has_cause number causes = list_any (λ (c : Cause). number_of c.what == number && c.holds) causes
 
 -- what may be wrong with the subject of a rule, or with an entry that it has
 abbrev pub causes_in : RawRule → Option (Section × ℕ) → List Cause

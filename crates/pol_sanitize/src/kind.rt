@@ -11,7 +11,8 @@ use std::alloc::Global;
 
 /// A kind of part, and how one is read.
 pub(crate) trait Kind {
-    ghost use Rattle.std.specs.Prelude.{ℕ, Bool, Option};
+    ghost use Rattle.std.specs.Prelude.{Bool, Option};
+    ghost use Rattle.pol_rule.specs.declared.cause.RuleCause.{RuleCause};
     ghost use Rattle.pol_rule.specs.declared.policy.PolicyKey.{PolicyKey};
 
     /// A part as it was written.
@@ -20,8 +21,8 @@ pub(crate) trait Kind {
     /// What a part says.
     type Part: Drop;
 
-    /// The number of the fault of a part that is bad.
-    ghost number: { ℕ };
+    /// What a part that is bad is refused for.
+    ghost cause: { RuleCause };
 
     /// Whether a part is bad.
     ghost bad: { Self.Raw → Bool };
@@ -36,7 +37,7 @@ pub(crate) trait Kind {
         location: Location,
         raw: &Self::Raw,
     ) -> Result<Option<Self::Part>, SanitizeError>
-        ensures fault { Finds (located location (found number (bad raw.now))) result }
+        ensures fault { Finds (located location (found cause (bad raw.now))) result }
         ensures part { IfOk result (λ said. said ≡ part key.now raw.now) };
 }
 
@@ -48,7 +49,7 @@ pub(crate) fn push_each<K: Kind>(
     raws: &[K::Raw],
     parts: &mut Vec<K::Part>,
 ) -> Result<(), SanitizeError>
-    ensures fault { Finds (located location (found K.number (list_any K.bad raws.now))) result }
+    ensures fault { Finds (located location (found K.cause (list_any K.bad raws.now))) result }
     ensures parts { OnOk result (parts.new.items ≡ parts.old.items ++ filter_map (K.part key.now) raws.now) }
 {
     for raw in raws {

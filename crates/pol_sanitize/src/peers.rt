@@ -1,19 +1,21 @@
 //! The peers of an entry.
 ghost use Rattle.std.specs.Prelude.{◌≡◌, ◌++◌, ◌∷◌, [], nat_lt, count_by, filter_map, IfOk, OnOk};
 ghost use Rattle.std.specs.List.{cons_option};
+ghost use Rattle.pol_rule.specs.declared.cause.RuleCause.TheVariants as rule;
 ghost use Rattle.pol_sanitize.specs.Answers.{Finds};
-ghost use Rattle.pol_sanitize.specs.Faults.{first_number, found, located, peer_causes, set_causes};
+ghost use Rattle.pol_sanitize.specs.Faults.{first_cause, found, located, peer_causes, set_causes};
 ghost use Rattle.pol_sanitize.specs.Peers.{cidr_peer, combines_kinds, endpoint_peer, entity_of, entity_peer, exceptions_of, has_no_peer_member, has_outside_exception, is_bad_cidr, is_bad_set, is_unknown_entity, kind_lengths, leaves, listed, listed_peers, peers_of, set_peer};
 ghost use Rattle.pol_sanitize.specs.Selectors.{is_bad_selector};
 
 use crate::SanitizeError;
-use crate::fault::{BAD_CIDR, BAD_SELECTOR, EXCEPT_OUTSIDE, Location, UNKNOWN_ENTITY};
+use crate::fault::Location;
 use crate::kind::{Kind, push_each};
 use crate::selectors::peer_selector;
 use pol_addr::Prefix;
 use pol_data::{Items, Text};
 use pol_rule::{
     Entity, Peer, PeerList, Peers, PolicyKey, Prefixes, RawCidrSet, RawEntry, RawSelector,
+    RuleCause,
 };
 use std::alloc::Global;
 
@@ -25,7 +27,7 @@ impl Kind for Endpoints {
 
     type Part = Peer;
 
-    ghost number = { 17 };
+    ghost cause = { rule.BadSelector };
 
     ghost bad = { is_bad_selector };
 
@@ -50,7 +52,7 @@ impl Kind for Cidrs {
 
     type Part = Peer;
 
-    ghost number = { 18 };
+    ghost cause = { rule.BadCidr };
 
     ghost bad = { is_bad_cidr };
 
@@ -63,7 +65,7 @@ impl Kind for Cidrs {
         text: &Text,
     ) -> Result<Option<Peer>, SanitizeError> {
         let Some(prefix) = Prefix::parse(text.as_str()) else {
-            return Err(location.fault(BAD_CIDR));
+            return Err(location.fault(RuleCause::BadCidr));
         };
         Ok(Some(Peer::Cidr {
             prefix,
@@ -82,7 +84,7 @@ impl Kind for Exceptions {
 
     type Part = Prefix;
 
-    ghost number = { 18 };
+    ghost cause = { rule.BadCidr };
 
     ghost bad = { is_bad_cidr };
 
@@ -96,7 +98,7 @@ impl Kind for Exceptions {
     ) -> Result<Option<Prefix>, SanitizeError> {
         match Prefix::parse(text.as_str()) {
             Some(prefix) => Ok(Some(prefix)),
-            None => Err(location.fault(BAD_CIDR)),
+            None => Err(location.fault(RuleCause::BadCidr)),
         }
     }
 }
@@ -127,7 +129,7 @@ impl Kind for Entities {
 
     type Part = Peer;
 
-    ghost number = { 20 };
+    ghost cause = { rule.UnknownEntity };
 
     ghost bad = { is_unknown_entity };
 
@@ -141,7 +143,7 @@ impl Kind for Entities {
     ) -> Result<Option<Peer>, SanitizeError> {
         match entity_of(text.as_str()) {
             Some(entity) => Ok(Some(Peer::Entity(entity))),
-            None => Err(location.fault(UNKNOWN_ENTITY)),
+            None => Err(location.fault(RuleCause::UnknownEntity)),
         }
     }
 }
@@ -163,12 +165,12 @@ fn push_set(
     set: &RawCidrSet,
     peers: &mut Vec<Peer>,
 ) -> Result<bool, SanitizeError>
-    ensures fault { Finds (located location (found BAD_CIDR (is_bad_set set.now))) result }
+    ensures fault { Finds (located location (found rule.BadCidr (is_bad_set set.now))) result }
     ensures outside { IfOk result (λ outside. outside ≡ has_outside_exception set.now) }
     ensures peers { OnOk result (peers.new.items ≡ peers.old.items ++ cons_option (set_peer set.now) []) }
 {
     let Some(prefix) = Prefix::parse(set.cidr.as_str()) else {
-        return Err(location.fault(BAD_CIDR));
+        return Err(location.fault(RuleCause::BadCidr));
     };
     let mut except = Vec::new(alloc);
     push_each::<Exceptions>(alloc, key, location, set.except.as_slice(), &mut except)?;
@@ -189,7 +191,7 @@ fn push_sets(
     sets: &[RawCidrSet],
     peers: &mut Vec<Peer>,
 ) -> Result<(), SanitizeError>
-    ensures fault { Finds (located location (first_number (set_causes sets.now))) result }
+    ensures fault { Finds (located location (first_cause (set_causes sets.now))) result }
     ensures peers { OnOk result (peers.new.items ≡ peers.old.items ++ filter_map set_peer sets.now) }
 {
     let mut outside = false;
@@ -198,7 +200,7 @@ fn push_sets(
         outside = outside || found;
     }
     if outside {
-        return Err(location.fault(EXCEPT_OUTSIDE));
+        return Err(location.fault(RuleCause::ExceptOutside));
     }
     Ok(())
 }
@@ -255,7 +257,7 @@ fn listed_peers(
     location: Location,
     entry: &RawEntry,
 ) -> Result<PeerList, SanitizeError>
-    ensures fault { Finds (located location (first_number (peer_causes entry.now))) result }
+    ensures fault { Finds (located location (first_cause (peer_causes entry.now))) result }
     ensures peers { IfOk result (λ peers. peers ≡ listed_peers key.now entry.now) }
 {
     let mut peers = Vec::new(alloc);
@@ -273,7 +275,7 @@ pub(crate) fn peers_of(
     location: Location,
     entry: &RawEntry,
 ) -> Result<Peers, SanitizeError>
-    ensures fault { Finds (located location (first_number (peer_causes entry.now))) result }
+    ensures fault { Finds (located location (first_cause (peer_causes entry.now))) result }
     ensures peers { IfOk result (λ peers. peers ≡ peers_of key.now entry.now) }
 {
     let peers = listed_peers(alloc, key, location, entry)?;

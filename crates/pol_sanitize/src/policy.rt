@@ -1,12 +1,12 @@
 //! Policies, rule by rule and entry by entry.
 ghost use Rattle.std.specs.Prelude.{◌≡◌, Ok, Some, option_map, filter_map, IfOk, IfErr};
 ghost use Rattle.pol_sanitize.specs.Answers.{Finds, Refuses};
-ghost use Rattle.pol_sanitize.specs.Faults.{entry_causes, first_number, first_of, located, of_entry, of_subject, rule_fault, section_fault, subject_causes};
+ghost use Rattle.pol_sanitize.specs.Faults.{entry_causes, first_cause, first_of, located, of_entry, of_subject, rule_fault, section_fault, subject_causes};
 ghost use Rattle.pol_sanitize.specs.Sanitized.{entry_of, rule_of, sanitized_of, section_of};
 ghost use Rattle.pol_sanitize.specs.Selectors.{subject_selector};
 
 use crate::SanitizeError;
-use crate::fault::{COMBINING, Location, NO_SELECTOR};
+use crate::fault::Location;
 use crate::peers::{combines_kinds, peers_of};
 use crate::ports::ports_of;
 use crate::selectors::subject_selector;
@@ -14,7 +14,7 @@ use pol_data::Items;
 use pol_labels::Selector;
 use pol_rule::{
     Entries, Entry, Policy, PolicyKey, RawEntries, RawEntry, RawPolicy, RawRule, RawSelector, Rule,
-    Rules, Section,
+    RuleCause, Rules, Section,
 };
 use std::alloc::Global;
 
@@ -36,11 +36,11 @@ fn entry_of(
     location: Location,
     entry: &RawEntry,
 ) -> Result<Entry, SanitizeError>
-    ensures fault { Finds (located location (first_number (entry_causes entry.now))) result }
+    ensures fault { Finds (located location (first_cause (entry_causes entry.now))) result }
     ensures entry { IfOk result (λ said. said ≡ entry_of key.now entry.now) }
 {
     if combines_kinds(entry) {
-        return Err(location.fault(COMBINING));
+        return Err(location.fault(RuleCause::Combining));
     }
     let peers = peers_of(alloc, key, location, entry)?;
     let ports = ports_of(alloc, location, entry.ports.as_slice())?;
@@ -76,13 +76,13 @@ fn subject_of(
     rule: u32,
     subject: &Option<RawSelector>,
 ) -> Result<Selector, SanitizeError>
-    ensures fault { Finds (located (of_subject rule) (first_number (subject_causes subject.now))) result }
+    ensures fault { Finds (located (of_subject rule) (first_cause (subject_causes subject.now))) result }
     ensures subject { IfOk result (λ selector. Some selector ≡ option_map (subject_selector key.now) subject.now) }
 {
     let location = Location { rule, at: None };
     match subject {
         Some(selector) => subject_selector(alloc, key, location, selector),
-        None => Err(location.fault(NO_SELECTOR)),
+        None => Err(location.fault(RuleCause::NoSelector)),
     }
 }
 
@@ -114,7 +114,7 @@ fn rules_of(alloc: Global, key: &PolicyKey, rules: &[RawRule]) -> Result<Rules, 
 
 /// What a policy says (Cilium, Network Policy, "Rule Basics" and "Deny Policies"), or its first fault.
 ///
-/// `Fault` comes exactly where a part of the policy has one of the faults 15 to 24, which `RuleFault`
+/// `Fault` comes exactly where a part of the policy has one of the faults 15 to 24, which `RuleCause`
 /// names. The first comes: by rule, then the subject before the sections in the order ingress,
 /// ingressDeny, egress, egressDeny, then the entry, then the number ('profile'). `Memory` is want of
 /// memory, which a list of 2^32 rules or entries is taken for.

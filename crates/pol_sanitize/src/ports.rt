@@ -3,15 +3,16 @@ ghost use Rattle.std.specs.Prelude.{◌≡◌, ◌++◌, filter_map, IfOk, OnOk}
 ghost use Rattle.std.specs.Char.{is_ascii_digit};
 ghost use Rattle.std.specs.List.{list_all, list_any};
 ghost use Rattle.std.specs.Str.{str_eq_ignore_ascii_case};
+ghost use Rattle.pol_rule.specs.declared.cause.RuleCause.TheVariants as rule;
 ghost use Rattle.pol_sanitize.specs.Answers.{Finds};
-ghost use Rattle.pol_sanitize.specs.Faults.{first_number, found, located, port_causes};
+ghost use Rattle.pol_sanitize.specs.Faults.{first_cause, found, located, port_causes};
 ghost use Rattle.pol_sanitize.specs.Ports.{all_items, end_of, has_no_ports, has_too_many_ports, is_any_protocol, is_bad_port, is_bad_protocol, is_number_text, port_of, ports_of, proto_of, protocol_of, range_of, range_to, spec_of};
 
 use crate::SanitizeError;
-use crate::fault::{BAD_PORT, BAD_PROTOCOL, EMPTY_PORTS, Location, TOO_MANY_PORTS};
+use crate::fault::Location;
 use pol_data::Items;
 use pol_ports::{PortRange, Proto};
-use pol_rule::{PortSpec, PortSpecs, RawPort, RawPortItem};
+use pol_rule::{PortSpec, PortSpecs, RawPort, RawPortItem, RuleCause};
 use std::alloc::Global;
 
 /// The greatest number of ports in a port item (Cilium, Network Policy, "Layer 4 Examples").
@@ -115,14 +116,14 @@ fn push_ports(
     ports: &[RawPort],
     specs: &mut Vec<PortSpec>,
 ) -> Result<bool, SanitizeError>
-    ensures fault { Finds (located location (found BAD_PORT (list_any is_bad_port ports.now))) result }
+    ensures fault { Finds (located location (found rule.BadPort (list_any is_bad_port ports.now))) result }
     ensures unknown { IfOk result (λ unknown. unknown ≡ list_any is_bad_protocol ports.now) }
     ensures specs { OnOk result (specs.new.items ≡ specs.old.items ++ filter_map spec_of ports.now) }
 {
     let mut unknown = false;
     for port in ports {
         let Some(range) = range_of(port) else {
-            return Err(location.fault(BAD_PORT));
+            return Err(location.fault(RuleCause::BadPort));
         };
         match protocol_of(port.protocol.as_str()) {
             Some(proto) => specs.push(PortSpec { proto, range })?,
@@ -138,7 +139,7 @@ fn push_items(
     items: &[RawPortItem],
     specs: &mut Vec<PortSpec>,
 ) -> Result<bool, SanitizeError>
-    ensures fault { Finds (located location (found BAD_PORT (list_any is_bad_port (all_items items.now)))) result }
+    ensures fault { Finds (located location (found rule.BadPort (list_any is_bad_port (all_items items.now)))) result }
     ensures unknown { IfOk result (λ unknown. unknown ≡ list_any is_bad_protocol (all_items items.now)) }
     ensures specs { OnOk result (specs.new.items ≡ specs.old.items ++ ports_of items.now) }
 {
@@ -168,19 +169,19 @@ pub(crate) fn ports_of(
     location: Location,
     items: &[RawPortItem],
 ) -> Result<PortSpecs, SanitizeError>
-    ensures fault { Finds (located location (first_number (port_causes items.now))) result }
+    ensures fault { Finds (located location (first_cause (port_causes items.now))) result }
     ensures ports { IfOk result (λ ports. ports ≡ ports_of items.now) }
 {
     let mut specs = Vec::new(alloc);
     let unknown = push_items(location, items, &mut specs)?;
     if unknown {
-        return Err(location.fault(BAD_PROTOCOL));
+        return Err(location.fault(RuleCause::BadProtocol));
     }
     if has_too_many_ports(items) {
-        return Err(location.fault(TOO_MANY_PORTS));
+        return Err(location.fault(RuleCause::TooManyPorts));
     }
     if has_no_ports(items) {
-        return Err(location.fault(EMPTY_PORTS));
+        return Err(location.fault(RuleCause::EmptyPorts));
     }
     Ok(Items::from_vec(specs))
 }

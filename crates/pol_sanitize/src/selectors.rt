@@ -1,20 +1,21 @@
 //! What selectors ask, and how the namespace of their policy binds them.
 ghost use Rattle.std.specs.Prelude.{◌≡◌, ◌∷◌, [], not, IfOk, OnOk};
 ghost use Rattle.pol_labels.specs.WellFormed.{all_well_formed};
+ghost use Rattle.pol_rule.specs.declared.cause.RuleCause.TheVariants as rule;
 ghost use Rattle.pol_sanitize.specs.Answers.{Finds};
 ghost use Rattle.pol_sanitize.specs.Faults.{found, located};
 ghost use Rattle.pol_sanitize.specs.Keys.{requirement_of};
 ghost use Rattle.pol_sanitize.specs.Selectors.{bound_subject, expression_requirement, has_bad_member, has_namespace, is_bad_expression, is_bad_label, is_bad_selector, is_in_namespace, label_requirement, operator_of, other_requirement, peer_selector, requirements_of, subject_selector};
 
 use crate::SanitizeError;
-use crate::fault::{BAD_SELECTOR, Location};
+use crate::fault::Location;
 use crate::keys::{
     ANY_SOURCE, K8S_SOURCE, NAMESPACE_KEY, OnInit, SaysNamespace, has_key, is_namespace, split_key,
 };
 use crate::kind::{Kind, push_each};
 use pol_data::{Items, Memory, Text, Texts};
 use pol_labels::{Operator, Requirement, Selector, SelectorError};
-use pol_rule::{PolicyKey, RawExpression, RawPair, RawSelector};
+use pol_rule::{PolicyKey, RawExpression, RawPair, RawSelector, RuleCause};
 use std::alloc::Global;
 
 // ---- requirements
@@ -67,7 +68,7 @@ impl Kind for Labels {
 
     type Part = Requirement;
 
-    ghost number = { 17 };
+    ghost cause = { rule.BadSelector };
 
     ghost bad = { is_bad_label };
 
@@ -81,7 +82,7 @@ impl Kind for Labels {
     ) -> Result<Option<Requirement>, SanitizeError> {
         let (source, name) = split_key(pair.key.as_str());
         if source.is_empty() {
-            return Err(location.fault(BAD_SELECTOR));
+            return Err(location.fault(RuleCause::BadSelector));
         }
         let values = one_text(alloc, &pair.value)?;
         let requirement = requirement_of(alloc, source, name, Operator::OneOf, values)?;
@@ -97,7 +98,7 @@ impl Kind for OtherLabels {
 
     type Part = Requirement;
 
-    ghost number = { 17 };
+    ghost cause = { rule.BadSelector };
 
     ghost bad = { is_bad_label };
 
@@ -111,7 +112,7 @@ impl Kind for OtherLabels {
     ) -> Result<Option<Requirement>, SanitizeError> {
         let (source, name) = split_key(pair.key.as_str());
         if source.is_empty() {
-            return Err(location.fault(BAD_SELECTOR));
+            return Err(location.fault(RuleCause::BadSelector));
         }
         if is_namespace(source, name) {
             return Ok(None);
@@ -130,7 +131,7 @@ impl Kind for Expressions {
 
     type Part = Requirement;
 
-    ghost number = { 17 };
+    ghost cause = { rule.BadSelector };
 
     ghost bad = { is_bad_expression };
 
@@ -144,10 +145,10 @@ impl Kind for Expressions {
     ) -> Result<Option<Requirement>, SanitizeError> {
         let (source, name) = split_key(expression.key.as_str());
         if source.is_empty() {
-            return Err(location.fault(BAD_SELECTOR));
+            return Err(location.fault(RuleCause::BadSelector));
         }
         let Some(op) = operator_of(expression.operator.as_str()) else {
-            return Err(location.fault(BAD_SELECTOR));
+            return Err(location.fault(RuleCause::BadSelector));
         };
         let values = expression.values.copy(alloc)?;
         let requirement = requirement_of(alloc, source, name, op, values)?;
@@ -190,7 +191,7 @@ fn requirements_of(
     location: Location,
     selector: &RawSelector,
 ) -> Result<Vec<Requirement>, SanitizeError>
-    ensures fault { Finds (located location (found BAD_SELECTOR (has_bad_member selector.now))) result }
+    ensures fault { Finds (located location (found rule.BadSelector (has_bad_member selector.now))) result }
     ensures requirements { IfOk result (λ requirements. requirements.items ≡ requirements_of selector.now) }
 {
     let mut requirements = Vec::new(alloc);
@@ -208,7 +209,7 @@ fn bound_subject(
     location: Location,
     selector: &RawSelector,
 ) -> Result<Vec<Requirement>, SanitizeError>
-    ensures fault { Finds (located location (found BAD_SELECTOR (has_bad_member selector.now))) result }
+    ensures fault { Finds (located location (found rule.BadSelector (has_bad_member selector.now))) result }
     ensures requirements { IfOk result (λ requirements. requirements.items ≡ bound_subject key.now.namespace selector.now) }
 {
     let mut requirements = Vec::new(alloc);
@@ -226,7 +227,7 @@ fn subject_requirements(
     location: Location,
     selector: &RawSelector,
 ) -> Result<Vec<Requirement>, SanitizeError>
-    ensures fault { Finds (located location (found BAD_SELECTOR (has_bad_member selector.now))) result }
+    ensures fault { Finds (located location (found rule.BadSelector (has_bad_member selector.now))) result }
     ensures requirements { IfOk result (λ requirements. requirements.items ≡ subject_selector key.now selector.now) }
 {
     if key.cluster_wide || has_key::<OnInit>(selector) {
@@ -261,12 +262,12 @@ fn selector_from(
     location: Location,
     requirements: Vec<Requirement>,
 ) -> Result<Selector, SanitizeError>
-    ensures fault { Finds (located location (found BAD_SELECTOR (not (all_well_formed requirements.items)))) result }
+    ensures fault { Finds (located location (found rule.BadSelector (not (all_well_formed requirements.items)))) result }
     ensures selector { IfOk result (λ selector. selector ≡ requirements.items) }
 {
     match Selector::from_requirements(alloc, requirements) {
         Ok(selector) => Ok(selector),
-        Err(SelectorError::Bad) => Err(location.fault(BAD_SELECTOR)),
+        Err(SelectorError::Bad) => Err(location.fault(RuleCause::BadSelector)),
         Err(SelectorError::Memory) => Err(SanitizeError::Memory),
     }
 }
@@ -278,7 +279,7 @@ pub(crate) fn subject_selector(
     location: Location,
     selector: &RawSelector,
 ) -> Result<Selector, SanitizeError>
-    ensures fault { Finds (located location (found BAD_SELECTOR (is_bad_selector selector.now))) result }
+    ensures fault { Finds (located location (found rule.BadSelector (is_bad_selector selector.now))) result }
     ensures selector { IfOk result (λ made. made ≡ subject_selector key.now selector.now) }
 {
     let requirements = subject_requirements(alloc, key, location, selector)?;
@@ -292,7 +293,7 @@ pub(crate) fn peer_selector(
     location: Location,
     selector: &RawSelector,
 ) -> Result<Selector, SanitizeError>
-    ensures fault { Finds (located location (found BAD_SELECTOR (is_bad_selector selector.now))) result }
+    ensures fault { Finds (located location (found rule.BadSelector (is_bad_selector selector.now))) result }
     ensures selector { IfOk result (λ made. made ≡ peer_selector key.now selector.now) }
 {
     let mut requirements = requirements_of(alloc, key, location, selector)?;
