@@ -2,3 +2,4 @@ pub mod SameRows
 pub mod Given
 pub mod Staying
 pub mod Standing
+pub mod Unmoved

@@ -36,3 +36,10 @@ pub record AllListed (P : Peer → Type 0) (filters : Filters) : Type 0 where
 pub record IsWorkOf (filters : Filters) (rows : List SetRow) (work : WorkOf) : Type 0 where
   pub same : work.filters ≡ filters
   pub agrees : AllListed (λ p. set_given work.rows p ≡ set_given rows p) filters
+
+-- all but the filters is the same
+pub record HasSameModes (one other : Filters) : Type 0 where
+  pub never : one.never ≡ other.never
+  pub ingress : one.ingress_enforced ≡ other.ingress_enforced
+  pub egress : one.egress_enforced ≡ other.egress_enforced
+  pub localhost : one.localhost ≡ other.localhost

@@ -9,6 +9,7 @@ mod copies;
 mod givers;
 mod giving;
 pub mod laws;
+mod still;
 mod turned;
 mod work;
 

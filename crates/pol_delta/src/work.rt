@@ -30,8 +30,8 @@ use std::sync::Arc;
 #[derive(Drop)]
 pub struct Work {
     alloc: Global,
-    filters: Arc<Filters>,
-    sets: Sets,
+    pub(crate) filters: Arc<Filters>,
+    pub(crate) sets: Sets,
     size: u64,
     tally: Tally,
 }

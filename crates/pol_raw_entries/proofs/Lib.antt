@@ -4,3 +4,4 @@ pub mod Balanced
 pub mod FirstRow
 pub mod SideBySide
 pub mod PeerStays
+pub mod OneMore

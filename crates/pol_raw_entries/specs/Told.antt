@@ -28,7 +28,11 @@ PeersTold was is moves (Listed peers) = AllByRecursion (IsTold was is moves) pee
 abbrev pub StandsAt : Filter → Filter → Type 0
 StandsAt one other = (one.place ≡ other.place) × (one.stamp ≡ other.stamp)
 
--- a filter of the one list that has the place and the stamp of one of the other is that one, and its peers have their moves
+-- a filter of the one list that has the place and the stamp of one of the other is that one
+abbrev pub NamesOne : List Filter → List Filter → Type 0
+NamesOne was is = (one other : Filter) → Contains was one → Contains is other → StandsAt one other → one ≡ other
+
+-- the same, and its peers have their moves
 abbrev pub Stays : List SetRow → List SetRow → List Move → List Filter → List Filter → Type 0
 Stays was_rows is_rows moves was is =
     (one other : Filter) → Contains was one → Contains is other → StandsAt one other → (one ≡ other) × PeersTold was_rows is_rows moves other.peers

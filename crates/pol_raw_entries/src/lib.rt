@@ -9,9 +9,13 @@ mod keys;
 mod moves;
 mod pairs;
 mod rows;
+mod standing;
 mod staying;
 mod turns;
 
 pub use entries::given;
+pub use moves::all_still;
+pub use rows::sets_ascend;
+pub use standing::all_filters_stand;
 pub use staying::Moved;
 pub use turns::{moved, replaced};

@@ -34,7 +34,7 @@ fn is_still(one: &Move) -> bool
 }
 
 /// Whether no move moves anything.
-fn all_still(moves: &[Move]) -> bool
+pub fn all_still(moves: &[Move]) -> bool
     ensures { IsTrue result → AllByRecursion IsStill moves.now }
 {
     for one in moves {

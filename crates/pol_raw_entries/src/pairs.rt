@@ -11,6 +11,7 @@ ghost use Rattle.pol_raw_entries.specs.Told.{PeersTold, StandsAt, Stays};
 use crate::entries::{push_filter, push_filters};
 use crate::moves::PeerMoves;
 use crate::rows::PeerRows;
+use crate::standing::stands_at;
 use crate::staying::{Moved, stays};
 use pol_data::Memory;
 use pol_l4::Filter;
@@ -27,27 +28,6 @@ fn newest(filters: &[Filter]) -> u64 {
         }
     }
     newest
-}
-
-/// Whether both have one place and one stamp.
-fn stands_at(one: &Filter, other: &Filter) -> bool
-    ensures { IsTrue result → StandsAt one.now other.now }
-{
-    one.stamp == other.stamp && one.place == other.place
-}
-
-/// Whether each filter stands where the other list has one, so that none comes or goes. It tells what is worth a table; no
-/// proof needs it.
-pub(crate) fn all_stand(old: &[Filter], new: &[Filter]) -> bool {
-    if old.len() != new.len() {
-        return false;
-    }
-    for i in 0..old.len() {
-        if i >= new.len() || !stands_at(&old[i], &new[i]) {
-            return false;
-        }
-    }
-    true
 }
 
 /// Appends the entries of the filters from this one on that have a greater stamp, and tells where they end.

@@ -120,7 +120,7 @@ impl<'a> PeerRows<'a> {
 }
 
 /// It does nothing: each set's numbers ascend.
-pub(crate) fn sets_ascend(rows: &[SetRow])
+pub fn sets_ascend(rows: &[SetRow])
     ensures { AllByRecursion Ascend rows.now }
 {
     for row in rows {

@@ -12,8 +12,9 @@ ghost use Rattle.pol_raw_entries.specs.Told.{Stays};
 use crate::entries::given;
 use crate::keys::every_key;
 use crate::moves::PeerMoves;
-use crate::pairs::{all_stand, walk};
+use crate::pairs::walk;
 use crate::rows::{PeerRows, sets_ascend};
+use crate::standing::all_filters_stand;
 use crate::staying::Moved;
 use pol_data::Memory;
 use pol_l4::Filters;
@@ -122,12 +123,6 @@ pub fn replaced(
     })
 }
 
-/// Whether no filter comes or goes. It tells what is worth a table; no proof needs it.
-fn stand_both(was: &Filters, is: &Filters) -> bool {
-    all_stand(was.ingress.as_slice(), is.ingress.as_slice())
-        && all_stand(was.egress.as_slice(), is.egress.as_slice())
-}
-
 /// Whether the new rows are asked for: where a filter comes, or a move isn't empty.
 fn asks_new(stand: bool, moves: &PeerMoves<'_>) -> bool {
     !stand || !moves.are_still()
@@ -149,7 +144,7 @@ fn walked(
     sets_ascend(was_rows);
     sets_ascend(is_rows);
     let told = PeerMoves::new(moves);
-    let stand = stand_both(was, is);
+    let stand = all_filters_stand(was, is);
     let old = PeerRows::new(alloc, was_rows, &[], !stand)?;
     let new = PeerRows::new(alloc, is_rows, moves, asks_new(stand, &told))?;
     let mut out = Moved {

@@ -1,10 +1,12 @@
 //! What a slot keeps of the endpoint that it follows.
-ghost use Rattle.std.specs.Prelude.{◌≡◌, ◌≢◌, ◌⊎◌, IfOk, None, OnErr, OnOk, Some, map};
+ghost use Rattle.std.specs.Prelude.{◌≡◌, ◌≢◌, ◌⊎◌, IfOk, IsTrue, None, OnErr, OnOk, Some, map};
 ghost use Rattle.std.specs.Arc.{arc_value};
+ghost use Rattle.std.specs.List.{AllByRecursion};
 ghost use Rattle.pol_delta.specs.Lists.{told};
 ghost use Rattle.pol_delta.specs.Work.{IsWorkOf, map_of};
 ghost use Rattle.pol_distill.specs.Distilled.{distilled};
 ghost use Rattle.pol_distill.specs.Sorted.{HaveSets};
+ghost use Rattle.pol_raw_entries.specs.PeerRow.{Ascend};
 ghost use Rattle.pol_slot_map.specs.Follow.{GoesOn, IsShown, IsStartOf, MayApply, Stays};
 
 use pol_change_list::ChangeList;
@@ -55,6 +57,15 @@ fn rows_copy(alloc: Global, rows: &[TakenRow]) -> Result<Sets, Memory>
         copies.push(row_copy(alloc, row)?)?;
     }
     Ok(Sets::from_vec(copies))
+}
+
+/// It does nothing: each set's numbers ascend.
+fn sets_ascend(rows: &[TakenRow])
+    ensures { AllByRecursion Ascend rows.now }
+{
+    for row in rows {
+        let _ = row.set().iter();
+    }
 }
 
 /// The work of what was taken.
@@ -164,9 +175,32 @@ impl Followed {
         (taken, went)
     }
 
+    /// Whether what was taken leaves the map as it is. It may be false though nothing differs.
+    fn stays_by(&self, taken: &Taken) -> bool
+        ensures work { IsTrue result → MayApply self.now.work (arc_value taken.now.filters) taken.now.sets taken.now.moves
+            → IsWorkOf (arc_value taken.now.filters) taken.now.sets self.now.work }
+        ensures map { IsTrue result → MayApply self.now.work (arc_value taken.now.filters) taken.now.sets taken.now.moves
+            → map_of self.now.work ≡ distilled (arc_value taken.now.filters) taken.now.sets }
+    {
+        sets_ascend(taken.sets.as_slice());
+        self.work.stays_by(&taken.filters, &taken.moves)
+    }
+
+    /// Goes on to a later revision, at which the map is that of these filters and rows as it is. The one error is want of
+    /// memory, and then it has gone on all the same.
+    fn stay_until(&mut self, alloc: Global, taken: &Taken) -> Result<(), Memory>
+        requires work { IsWorkOf (arc_value taken.now.filters) taken.now.sets self.old.work }
+        requires map { map_of self.old.work ≡ distilled (arc_value taken.now.filters) taken.now.sets }
+        ensures joined { OnOk result (self.new.behind ≡ None) }
+        ensures went { GoesOn (arc_value taken.now.filters) taken.now.sets taken.now.revision self.old self.new }
+    {
+        self.kept = taken.revision;
+        self.join(alloc)
+    }
+
     /// Goes on to what was taken of the same endpoint later, and gives that back, also after the one error, which is want of
-    /// memory. Where it is of the revision that is kept, nothing is made. After the error the work is as before, or has gone
-    /// on, and what is kept leads to its map all the same.
+    /// memory. Where it is of the revision that is kept, or leaves the map as it is, nothing is made. After the error the work
+    /// is as before, or has gone on, and what is kept leads to its map all the same.
     pub fn try_go_on(&mut self, alloc: Global, taken: Taken) -> (Taken, Result<(), Memory>)
         requires may { self.old.kept ≢ taken.revision → MayApply self.old.work (arc_value taken.filters) taken.sets taken.moves }
         ensures same { result.0 ≡ taken }
@@ -177,6 +211,10 @@ impl Followed {
         if self.kept == taken.revision {
             let joined = self.join(alloc);
             return (taken, joined);
+        }
+        if self.stays_by(&taken) {
+            let stayed = self.stay_until(alloc, &taken);
+            return (taken, stayed);
         }
         let copied = rows_copy(alloc, taken.sets.as_slice());
         match copied {
