@@ -5,3 +5,4 @@ pub mod FirstRow
 pub mod SideBySide
 pub mod PeerStays
 pub mod OneMore
+pub mod OneId

@@ -26,7 +26,7 @@ pub(crate) fn every_key(dir: Direction, id: u32) -> MapKey
 }
 
 /// The key of an identity for a protocol and a port prefix.
-fn port_key(dir: Direction, id: u32, proto: Proto, port: PortPrefix) -> MapKey
+pub(crate) fn port_key(dir: Direction, id: u32, proto: Proto, port: PortPrefix) -> MapKey
     ensures { result ≡ port_key dir id proto port }
 {
     MapKey {

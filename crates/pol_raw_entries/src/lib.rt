@@ -7,6 +7,7 @@
 mod entries;
 mod keys;
 mod moves;
+mod one_id;
 mod pairs;
 mod rows;
 mod standing;

@@ -11,6 +11,7 @@ ghost use Rattle.pol_raw_entries.specs.Told.{IsTold, PeersTold};
 use crate::entries::{kind_of, push_ids};
 use crate::keys::ports_keys;
 use crate::moves::PeerMoves;
+use crate::one_id::push_id;
 use crate::rows::PeerRows;
 use pol_data::Memory;
 use pol_l4::Filter;
@@ -18,7 +19,7 @@ use pol_mapkey::{Kind, MapKey};
 use pol_model::selects_every_number;
 use pol_ports::Direction;
 use pol_rule::{Peer, Peers};
-use pol_sets::Move;
+use pol_sets::{IdSet, Move};
 use std::alloc::Global;
 
 /// Entries that come into a map, and entries that go, each as often as it does.
@@ -28,6 +29,39 @@ pub struct Moved {
     pub come: Vec<(MapKey, Kind)>,
     /// What goes.
     pub gone: Vec<(MapKey, Kind)>,
+}
+
+/// Appends the entries that a filter gives several numbers.
+fn push_several(
+    alloc: Global,
+    out: &mut Vec<(MapKey, Kind)>,
+    dir: Direction,
+    one: &Filter,
+    ids: &IdSet,
+) -> Result<(), Memory>
+    ensures { OnOk result (out.new.items ≡ out.old.items ++ of_numbers dir one.now ids.now) }
+{
+    if ids.is_empty() {
+        return Ok(());
+    }
+    let keys = ports_keys(alloc, dir, one.ports.as_slice())?;
+    push_ids(out, &keys, kind_of(one), ids)
+}
+
+/// Appends the entries that a filter gives these numbers. One number, which is what moves most often, takes no list of keys.
+fn push_numbers(
+    alloc: Global,
+    out: &mut Vec<(MapKey, Kind)>,
+    dir: Direction,
+    one: &Filter,
+    ids: &IdSet,
+) -> Result<(), Memory>
+    ensures { OnOk result (out.new.items ≡ out.old.items ++ of_numbers dir one.now ids.now) }
+{
+    match ids.only() {
+        Some(id) => push_id(alloc, out, dir, kind_of(one), id, one.ports.as_slice()),
+        None => push_several(alloc, out, dir, one, ids),
+    }
 }
 
 /// Appends the entries of the numbers that a peer of a filter gained and lost.
@@ -41,13 +75,8 @@ fn push_move(
     ensures come { OnOk result (out.new.come.items ≡ out.old.come.items ++ of_numbers dir one.now change.now.gained) }
     ensures gone { OnOk result (out.new.gone.items ≡ out.old.gone.items ++ of_numbers dir one.now change.now.lost) }
 {
-    if change.gained.is_empty() && change.lost.is_empty() {
-        return Ok(());
-    }
-    let kind = kind_of(one);
-    let keys = ports_keys(alloc, dir, one.ports.as_slice())?;
-    push_ids(&mut out.come, &keys, kind, &change.gained)?;
-    push_ids(&mut out.gone, &keys, kind, &change.lost)
+    push_numbers(alloc, &mut out.come, dir, one, &change.gained)?;
+    push_numbers(alloc, &mut out.gone, dir, one, &change.lost)
 }
 
 /// A move of a peer's first row.
