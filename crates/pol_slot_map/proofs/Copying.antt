@@ -1,6 +1,5 @@
 -- Changes of rows may be applied by copies of these, and lead on as they do.
-use Rattle.std.proofs.Common.{◌≡◌, ℕ, Bool, cond, true, false, List, [], ◌∷◌, map, find, Option, None, Some, option_map, IfSome, OnOk, OnErr, Result, Ok, Err, ◌⊎◌, inl, inr, Unit, refl, sym, ap, ◌∙◌, subst}
-use Rattle.std.specs.List.{AllByRecursion, Contains}
+use Rattle.std.proofs.Common.{◌≡◌, ℕ, Bool, cond, true, false, List, [], ◌∷◌, map, find, Option, None, Some, option_map, IfSome, OnOk, OnErr, Result, Ok, Err, ◌⊎◌, inl, inr, refl, sym, ap, ◌∙◌, subst}
 use Rattle.std.proofs.lemmas.Option.{same_Some}
 use Rattle.pol_data.proofs.Every.{every-weaker}
 use Rattle.pol_rule.specs.contracts.policy.PeerPartialEq.TheImpl as peer

@@ -1,19 +1,22 @@
-use Rattle.std.proofs.Common.{◌≤◌, IfSome, subst, sym}
+use Rattle.std.proofs.Common.{◌∙◌, ◌≤◌, IfSome, ap, subst, sym}
 use Rattle.pol_history.specs.declared.machine.Event.TheVariants as step
 use Rattle.pol_history.specs.Machine.{Machine, endpoint_in}
 use Rattle.pol_repo.specs.Repository.{Repository, state_in}
 use Rattle.pol_core.specs.Parts.{Takes, by_slot}
-use Rattle.pol_core.specs.Rows.{by_name, since_of}
+use Rattle.pol_core.specs.Rows.{since_of}
 use Rattle.pol_core.specs.Stands.{Kept, Stands, StandsForSome, StepsTo, Stored, kept_of, options_in, options_of}
 use Rattle.pol_core.proofs.Begun.{stands_after}
 use Rattle.pol_core.proofs.Taking.{since_within, take_steps}
 use Rattle.pol_core.proofs.machine.Machine.take.Goals as goal
 
+pub take-requires-clause-idle : goal.take-requires-clause-idle
+take-requires-clause-idle c = ap (λ (r : Repository). r.prepared) c.refresh.ensures.same ∙ c.self.invariant.stands.at.idle
+
 pub take-requires-clause-kept : goal.take-requires-clause-kept
 take-requires-clause-kept c =
     let i = c.self.inside in
     let k : Kept = kept_of (record { limit = i.limit; repo = i.repo; rows = i.rows.entries; takes = i.takes.entries }) in
-    subst (λ (r : Repository). IfSome (since_of (by_name i.rows.entries) (endpoint_in c.args.slot (state_in r).endpoints)) (λ revision. revision ≤ (state_in r).revision)) (sym c.refresh.ensures.same)
+    subst (λ (r : Repository). IfSome (since_of k.rows (endpoint_in c.args.slot (state_in r).endpoints)) (λ revision. revision ≤ (state_in r).revision)) (sym c.refresh.ensures.same)
     (since_within k c.self.invariant.machine c.self.invariant.stands (endpoint_in c.args.slot (state_in i.repo).endpoints))
 
 pub invariant_of-self : goal.invariant_of-self
