@@ -41,7 +41,7 @@ const VERDICT: &str =
     "{\"op\":\"verdict\",\"endpoint\":\"a\",\"direction\":\"ingress\",\"identity\":2,\"protocol\":\"TCP\",\"port\":80}";
 
 /// The endpoint comes.
-fn endpoint(alloc: Global) -> Result<Request, Memory> {
+pub(crate) fn endpoint(alloc: Global) -> Result<Request, Memory> {
     match read_line(alloc, ENDPOINT.as_bytes()) {
         Ok(
             Command::Commit {
@@ -54,7 +54,7 @@ fn endpoint(alloc: Global) -> Result<Request, Memory> {
 }
 
 /// What is asked again and again.
-fn query(alloc: Global) -> Result<Query, Memory> {
+pub(crate) fn query(alloc: Global) -> Result<Query, Memory> {
     match read_line(alloc, VERDICT.as_bytes()) {
         Ok(Command::Look { session: _, query }) => Ok(query),
         _ => Err(Memory),
@@ -239,7 +239,7 @@ fn looks<N: NodeName, W: Wait, R: Wait + Drop>(
 }
 
 /// Commits the request and publishes the map. The revision of the map, if it was published.
-fn turn<N: NodeName, W: Wait, R: Wait + Drop, L: Ledger>(
+pub(crate) fn turn<N: NodeName, W: Wait, R: Wait + Drop, L: Ledger>(
     rt: &W,
     alloc: Global,
     desk: &Mutex<Desk<N, R>>,

@@ -1,4 +1,5 @@
-//! What no clause says: that sessions run at the same time, and workers, and that a worker that stalls changes no answer.
+//! What no clause says: that sessions run at the same time, and workers, that a session that is held holds no other, and that
+//! a worker that stalls changes no answer.
 use super::play::play_gated;
 use super::status::Status;
 use super::tests::{ANSWERS, SCRIPT};
@@ -22,6 +23,47 @@ const TWO_SESSIONS: &[u8] =
 const ONE_SESSION: &[u8] =
     b"{\"op\":\"endpoint\",\"name\":\"a\",\"labels\":[\"k8s:a=1\"],\"address\":\"10.0.0.1\"}\n\
 {\"op\":\"endpoint\",\"name\":\"b\",\"labels\":[\"k8s:b=1\"],\"address\":\"10.0.0.2\"}\n\
+";
+
+// Two sessions of one phase, which do the same with an endpoint each and the mode. Each has three commits.
+const TWO_ALIKE: &[u8] =
+    b"{\"op\":\"endpoint\",\"name\":\"a\",\"labels\":[\"k8s:a=1\"],\"address\":\"10.0.0.1\"}\n\
+{\"op\":\"endpoint\",\"name\":\"b\",\"labels\":[\"k8s:b=1\"],\"address\":\"10.0.0.2\",\"session\":2}\n\
+{\"op\":\"sync\"}\n\
+{\"op\":\"sync\",\"session\":2}\n\
+{\"op\":\"verdict\",\"endpoint\":\"a\",\"direction\":\"ingress\",\"identity\":2,\"protocol\":\"TCP\",\"port\":80}\n\
+{\"op\":\"verdict\",\"endpoint\":\"b\",\"direction\":\"ingress\",\"identity\":2,\"protocol\":\"TCP\",\"port\":80,\"session\":2}\n\
+{\"op\":\"mode\",\"enable\":\"always\"}\n\
+{\"op\":\"mode\",\"enable\":\"always\",\"session\":2}\n\
+{\"op\":\"identity\",\"name\":\"x\",\"labels\":[\"k8s:x=1\"]}\n\
+{\"op\":\"identity\",\"name\":\"y\",\"labels\":[\"k8s:y=1\"],\"session\":2}\n\
+";
+
+// What they are told where the first of them is held until the other has committed its last line: all commits of the other
+// come first, and the mode that it has set denies what the first one asks.
+const FIRST_HELD: &[u8] = b"ok 4 identity 258\n\
+ok 1 identity 256\n\
+synced 4\n\
+synced 1\n\
+denied-by-default at 4\n\
+allowed at 1\n\
+ok 5\n\
+ok 2\n\
+ok 6 identity 259\n\
+ok 3 identity 257\n\
+";
+
+// The same where the second is held.
+const SECOND_HELD: &[u8] = b"ok 1 identity 256\n\
+ok 4 identity 258\n\
+synced 1\n\
+synced 4\n\
+allowed at 1\n\
+denied-by-default at 4\n\
+ok 2\n\
+ok 5\n\
+ok 3 identity 257\n\
+ok 6 identity 259\n\
 ";
 
 // Waits until the sign is set, for so many turns at most.
@@ -84,6 +126,31 @@ impl Gate for FirstWaits {
     }
 }
 
+// A session waits at its start for the call that is hinted by the other's last commit. A commit hints at the endpoints that
+// there are: of those that come before it there is one, so its third commit hints at the third call.
+#[derive(Drop)]
+struct OneHeld {
+    held: u32,
+    others_last: AtomicBool,
+    saw: AtomicBool,
+}
+
+impl Gate for OneHeld {
+    fn start<R: Wait>(&self, _rt: &R, session: u32) {
+        if session == self.held && sees(&self.others_last) {
+            self.saw.store(true, Ordering::SeqCst);
+        }
+    }
+
+    fn enter<R: Wait>(&self, _rt: &R, call: u32) {
+        if call == 3 {
+            self.others_last.store(true, Ordering::SeqCst);
+        }
+    }
+
+    fn leave<R: Wait>(&self, _rt: &R, _call: u32) {}
+}
+
 // The first call of a worker takes long.
 #[derive(Drop)]
 struct Stalls {
@@ -132,6 +199,29 @@ fn two_sessions_are_at_work_at_once(rt: HostRuntime) -> Result<(), Fail> {
     };
     let (status, _) = run(&rt, rt.alloc(), "0", TWO_SESSIONS, b"", &gate)?;
     assert!(rt; status == Status::Clean && gate.seen.load(Ordering::SeqCst) == 2);
+    Ok(())
+}
+
+// Whether the run ends while that session is held, and its answers are these.
+fn ends_held<R: Threads + Wait + Sync>(
+    rt: &R,
+    alloc: Global,
+    held: u32,
+    answers: &[u8],
+) -> Result<bool, Memory> {
+    let gate = OneHeld {
+        held,
+        others_last: AtomicBool::new(false),
+        saw: AtomicBool::new(false),
+    };
+    let (status, same) = run(rt, alloc, "1", TWO_ALIKE, answers, &gate)?;
+    Ok(status == Status::Clean && same && gate.saw.load(Ordering::SeqCst))
+}
+
+#[test]
+fn a_session_that_is_held_holds_no_other(rt: HostRuntime) -> Result<(), Fail> {
+    assert!(rt; ends_held(&rt, rt.alloc(), 1, FIRST_HELD)?);
+    assert!(rt; ends_held(&rt, rt.alloc(), 2, SECOND_HELD)?);
     Ok(())
 }
 
