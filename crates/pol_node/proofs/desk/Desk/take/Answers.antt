@@ -60,9 +60,9 @@ returns-clause-map g c =
     IfOk-weaker c.take.result (λ (t : Taken). distilled (arc_value t.filters) t.sets ≡ policy_map repo.options (state_in repo) t.endpoint)
     (λ (t : Taken). distilled (arc_value t.filters) t.sets ≡ policy_map options (state_now options history) t.endpoint)
     (λ t is.
-        is
-        ∙ ap (λ (o : Options). policy_map o (state_in repo) t.endpoint) at.options_same
-        ∙ ap (λ (s : State). policy_map options s t.endpoint) (state_at options history repo at)) c.take.ensures.map
+    is
+    ∙ ap (λ (o : Options). policy_map o (state_in repo) t.endpoint) at.options_same
+    ∙ ap (λ (s : State). policy_map options s t.endpoint) (state_at options history repo at)) c.take.ensures.map
 
 pub returns-clause-gone : goal.returns-clause-gone
 returns-clause-gone g c =
