@@ -1,5 +1,5 @@
 -- What calls on the keys by direction and identity make of the map.
-use Rattle.std.proofs.Common.{◌≡◌, Bool, true, false, ◌&&◌, not, cond, if◌then◌else◌, List, [], ◌∷◌, Option, Some, None, is_some, is_none, option_and_then, option_map, OnErr, refl, sym, ap, ◌∙◌}
+use Rattle.std.proofs.Common.{◌≡◌, Bool, true, false, ◌&&◌, not, cond, if◌then◌else◌, List, [], ◌∷◌, Option, Some, None, is_some, is_none, option_and_then, OnErr, refl, sym, ap, ◌∙◌}
 use Rattle.std.specs.FinMap as finite
 use Rattle.std.specs.Bool.{Decides}
 use Rattle.std.specs.List.{IsDistinct, AllZip}
@@ -13,9 +13,7 @@ use Rattle.pol_ports.specs.PortPrefix.{same_prefix}
 use Rattle.pol_ports.proofs.Equality.{direction_eq-Decides}
 use Rattle.pol_mapkey.specs.declared.KeyProto.{KeyProto}
 use Rattle.pol_mapkey.specs.declared.Kind.{Kind}
-use Rattle.pol_mapkey.specs.declared.Kind.TheVariants.{Allow, Deny}
 use Rattle.pol_mapkey.specs.declared.MapKey.{MapKey}
-use Rattle.pol_mapkey.specs.Entries.{Entry, word_of}
 use Rattle.pol_mapkey.specs.KeyProto.{same_key_proto}
 use Rattle.pol_mapkey.specs.MapKey.{key_cmp}
 use Rattle.pol_mapkey.proofs.KeyOrder.{key_cmp_total, key_cmp-same}

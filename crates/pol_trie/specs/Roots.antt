@@ -1,5 +1,5 @@
 -- How a policy map is kept: the keys of each direction and identity. No public clause cites this module.
-use Rattle.std.specs.Prelude.{◌≡◌, ℕ, ◌+◌, List, [], ◌∷◌, ◌++◌, map, Bool, false, ◌||◌, is_some, if◌then◌else◌, Option, Some, None, option_and_then, flat_map}
+use Rattle.std.specs.Prelude.{◌≡◌, ℕ, ◌+◌, List, [], ◌∷◌, ◌++◌, map, Bool, is_some, Option, Some, None, option_and_then, flat_map}
 use Rattle.std.specs.FinMap as finite
 use Rattle.std.specs.Map.{lookup}
 use Rattle.pol_ports.specs.declared.Direction.{Direction}
@@ -9,9 +9,7 @@ use Rattle.pol_ports.specs.declared.Proto.TheVariants.{Tcp, Udp, Sctp}
 use Rattle.pol_mapkey.specs.declared.Kind.{Kind}
 use Rattle.pol_mapkey.specs.declared.MapKey.{MapKey}
 use Rattle.pol_mapkey.specs.MapKey.{every_key, port_key}
-use Rattle.pol_mapkey.specs.declared.Word.{Word}
-use Rattle.pol_mapkey.specs.declared.Word.TheVariants.{Allowed, DeniedByRule, DeniedByDefault}
-use Rattle.pol_mapkey.specs.Entries.{Entry, is_deny}
+use Rattle.pol_mapkey.specs.Entries.{Entry}
 use Rattle.pol_trie.specs.declared.root.Root.{Root}
 use Rattle.pol_trie.specs.declared.root.Zeros.{Zeros}
 use Rattle.pol_trie.specs.declared.key_set.KeySet.{KeySet}
