@@ -16,14 +16,20 @@ pub(crate) struct Hints {
     places: Vec<u32>,
 }
 
+/// The slots of identity 0, which every look seeks. They are the first, and no other identity has them.
+const OF_ZERO: usize = 2;
+
 /// The slot of a direction and an identity among so many. Identities that follow one another have slots of their own.
 fn slot_of(root: Root, slots: usize) -> usize {
-    let number = 2 * (root.id as usize)
-        + match root.dir {
-            Direction::Ingress => 0,
-            Direction::Egress => 1,
-        };
-    number & slots.wrapping_sub(1)
+    let side = match root.dir {
+        Direction::Ingress => 0,
+        Direction::Egress => 1,
+    };
+    if root.id == 0 {
+        return side;
+    }
+    let number = 2 * (root.id as usize) + side;
+    OF_ZERO + (number & slots.wrapping_sub(OF_ZERO + 1))
 }
 
 impl Hints {
@@ -60,11 +66,12 @@ impl Hints {
     /// Makes slots for twice as many, where there are fewer than two for each of the table's keys. Where there is no memory
     /// for them it goes on with those that there are.
     fn make_room(&mut self, alloc: Global, roots: &IndexMap<Root, KeySet>) {
-        if roots.len() <= self.places.len() / 2 {
+        let slots = self.places.len().saturating_sub(OF_ZERO);
+        if roots.len() <= slots / 2 {
             return;
         }
         let mut places = Vec::new(alloc);
-        if places.resize((2 * self.places.len()).max(16), 0).is_ok() {
+        if places.resize(OF_ZERO + (2 * slots).max(16), 0).is_ok() {
             self.places = places;
             self.note_all(roots);
         }
