@@ -55,22 +55,25 @@ impl KeySet {
         }
     }
 
-    /// Gives a key this kind. The one error is want of memory, where the key has no kind yet, and then all is as before.
-    pub(crate) fn set(&mut self, key: &MapKey, kind: Kind) -> Result<(), Memory>
+    /// Gives a key this kind. Gives the one that it had. The one error is want of memory, where the key has no kind yet, and
+    /// then all is as before.
+    pub(crate) fn set(&mut self, key: &MapKey, kind: Kind) -> Result<Option<Kind>, Memory>
         ensures ok { OnOk result (HasKind self.old self.new key.now.proto key.now.port (Some kind)) }
+        ensures had { IfOk result (λ had. had ≡ kind_of self.old key.now.proto key.now.port) }
         ensures err { OnErr result (self.new ≡ self.old) }
         ensures absent { OnErr result (kind_of self.old key.now.proto key.now.port ≡ None) }
     {
         match key.proto {
             KeyProto::Every => {
                 let _ = first_port(&key.port);
+                let had = self.every;
                 self.every = Some(kind);
+                Ok(had)
             }
-            KeyProto::Tcp => self.tcp.set(key.port, kind)?,
-            KeyProto::Udp => self.udp.set(key.port, kind)?,
-            KeyProto::Sctp => self.sctp.set(key.port, kind)?,
+            KeyProto::Tcp => Ok(self.tcp.set(key.port, kind)?),
+            KeyProto::Udp => Ok(self.udp.set(key.port, kind)?),
+            KeyProto::Sctp => Ok(self.sctp.set(key.port, kind)?),
         }
-        Ok(())
     }
 
     /// Takes a key out. It takes no memory.

@@ -39,7 +39,7 @@ impl Model for PortTrie {
     ghost invariant = { λ t. IsTrie t.nodes t.root };
 }
 
-/// Makes room for a prefix, if it has no kind yet.
+/// Makes room for a prefix, if it has no kind yet. Whether it has one is asked only where there is no memory.
 fn make_room(nodes: &mut Pool<Node>, root: Option<u32>, port: &PortPrefix) -> Result<(), Memory>
     requires { IsTrie nodes.old root }
     ensures trie { IsTrie nodes.new root }
@@ -49,10 +49,15 @@ fn make_room(nodes: &mut Pool<Node>, root: Option<u32>, port: &PortPrefix) -> Re
     ensures err { OnErr result (map.get (ports_of nodes.old root) port.now ≡ None) }
 {
     let _ = first_port(port);
-    if kind_at(nodes, root, port).is_none() {
-        nodes.reserve(2)?;
+    match nodes.reserve(2) {
+        Ok(()) => Ok(()),
+        Err(error) => {
+            if kind_at(nodes, root, port).is_none() {
+                return Err(error);
+            }
+            Ok(())
+        }
     }
-    Ok(())
 }
 
 impl PortTrie {
@@ -73,16 +78,18 @@ impl PortTrie {
         kind_at(&self.nodes, self.root, port)
     }
 
-    /// Gives a prefix this kind. The one error is want of memory, where the prefix has no kind yet, and then the map is
-    /// as before.
-    pub(crate) fn set(&mut self, port: PortPrefix, kind: Kind) -> Result<(), Memory>
+    /// Gives a prefix this kind. Gives the one that it had. The one error is want of memory, where the prefix has no kind
+    /// yet, and then the map is as before.
+    pub(crate) fn set(&mut self, port: PortPrefix, kind: Kind) -> Result<Option<Kind>, Memory>
         ensures ok { OnOk result (self.new ≡ map.insert self.old port kind) }
+        ensures had { IfOk result (λ had. had ≡ map.get self.old port) }
         ensures err { OnErr result (self.new ≡ self.old) }
         ensures absent { OnErr result (map.get self.old port ≡ None) }
     {
         make_room(&mut self.nodes, self.root, &port)?;
-        self.root = Some(put(&mut self.nodes, self.root, port, kind));
-        Ok(())
+        let (root, had) = put(&mut self.nodes, self.root, port, kind);
+        self.root = Some(root);
+        Ok(had)
     }
 
     /// Takes a prefix out. It takes no memory.

@@ -111,26 +111,32 @@ fn put_over(
     add(nodes, fork, None, high, Some(at), Some(leaf))
 }
 
-/// Puts the kind under the prefix, below a link. Gives the node that stands there then.
-pub(crate) fn put(nodes: &mut Pool<Node>, at: Option<u32>, port: PortPrefix, kind: Kind) -> u32
+/// Puts the kind under the prefix, below a link. Gives the node that stands there then, and the kind that the prefix had.
+pub(crate) fn put(
+    nodes: &mut Pool<Node>,
+    at: Option<u32>,
+    port: PortPrefix,
+    kind: Kind,
+) -> (u32, Option<Kind>)
     requires { HasRoom nodes.old at port }
-    ensures { (t : Tree) (lo hi len : ℕ) → Holds nodes.old at t lo hi len → Takes lo hi len port
-        → Becomes nodes.old nodes.new (Some result) (λ q. if same_prefix port q then Some kind else kind_in t q) (node_count t) lo hi len }
+    ensures put { (t : Tree) (lo hi len : ℕ) → Holds nodes.old at t lo hi len → Takes lo hi len port
+        → Becomes nodes.old nodes.new (Some result.0) (λ q. if same_prefix port q then Some kind else kind_in t q) (node_count t) lo hi len }
+    ensures had { (t : Tree) (lo hi len : ℕ) → Holds nodes.old at t lo hi len → result.1 ≡ kind_in t port }
 {
     let Some(i) = at else {
-        return add(nodes, port, Some(kind), false, None, None);
+        return (add(nodes, port, Some(kind), false, None, None), None);
     };
     let node = *nodes.get(i);
     if node.same(&port) {
         set_kind(nodes, i, Some(kind));
-        return i;
+        return (i, node.kind());
     }
     if !node.contains(&port) {
-        return put_over(nodes, i, &node.port(), port, kind);
+        return (put_over(nodes, i, &node.port(), port, kind), None);
     }
     let high = node.is_upper(port.bits);
-    let below = put(nodes, node.child(high), port, kind);
+    let (below, had) = put(nodes, node.child(high), port, kind);
     link_fits(nodes, Some(below));
     link(nodes, i, high, Some(below));
-    i
+    (i, had)
 }

@@ -95,9 +95,8 @@ fn put_key(
     };
     match roots.get_mut(&root) {
         Some(keys) => {
-            let fresh = keys.get(key).is_none();
-            keys.set(key, kind)?;
-            Ok(fresh)
+            let had = keys.set(key, kind)?;
+            Ok(had.is_none())
         }
         None => {
             let mut keys = KeySet::new(alloc);
