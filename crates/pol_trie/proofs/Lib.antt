@@ -8,6 +8,7 @@ mod Seeking
 mod Calls
 mod Sizes
 mod Listing
+mod Copying
 mod KeyKinds
 mod RootLemmas
 mod RootCalls

@@ -39,6 +39,22 @@ pub record HasRoom (p : Pool Node) (link : Option ℕ) (port : PortPrefix) : Typ
   pub takes : Takes lo hi len port
   pub room : kind_in tree port ≡ None → 2 ≤ p.spare
 
+-- some tree in order stands there, for whose nodes another pool has room
+pub record FitsInto (from : Pool Node) (link : Option ℕ) (to : Pool Node) : Type 0 where
+  pub tree : Tree
+  pub lo : ℕ
+  pub hi : ℕ
+  pub len : ℕ
+  pub holds : Holds from link tree lo hi len
+  pub room : node_count tree ≤ to.spare
+
+-- the tree stands below this link in a pool whose other nodes are as they were
+pub record Copies (old new : Pool Node) (link : Option ℕ) (t : Tree) : Type 0 where
+  pub stands : Stands (node_at new) link t
+  pub count : nodes_in_use new ≡ nodes_in_use old + node_count t
+  pub spare : new.spare + node_count t ≡ old.spare
+  pub others : (i : ℕ) (n : Node) → node_at old i ≡ Some n → node_at new i ≡ Some n
+
 -- a node of this prefix stands there, which doesn't contain the other one, and there is room for two
 pub record IsBelow (p : Pool Node) (at : ℕ) (below port : PortPrefix) : Type 0 where
   pub node : Node

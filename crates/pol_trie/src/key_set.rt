@@ -91,6 +91,28 @@ impl KeySet {
         }
     }
 
+    /// Whether the trie of the protocol has room for far more nodes than are in use.
+    pub(crate) fn is_roomy(&self, proto: KeyProto) -> bool {
+        match proto {
+            KeyProto::Every => false,
+            KeyProto::Tcp => self.tcp.is_roomy(),
+            KeyProto::Udp => self.udp.is_roomy(),
+            KeyProto::Sctp => self.sctp.is_roomy(),
+        }
+    }
+
+    /// Moves the nodes of the protocol's trie to room for them alone, where it has far more. The one error is want of memory.
+    pub(crate) fn give_back(&mut self, proto: KeyProto) -> Result<(), Memory>
+        ensures { self.new ≡ self.old }
+    {
+        match proto {
+            KeyProto::Every => Ok(()),
+            KeyProto::Tcp => self.tcp.give_back(self.alloc),
+            KeyProto::Udp => self.udp.give_back(self.alloc),
+            KeyProto::Sctp => self.sctp.give_back(self.alloc),
+        }
+    }
+
     /// The kind of the longest key that covers a packet. The key for every protocol is the shortest, and a step, as each
     /// node that is visited.
     pub(crate) fn longest<L: Ledger>(

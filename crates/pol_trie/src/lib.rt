@@ -5,6 +5,7 @@
 //! identity 0.
 #![tactic(auto)]
 
+mod fit;
 mod halves;
 mod hints;
 mod key_set;

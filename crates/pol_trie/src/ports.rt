@@ -5,6 +5,7 @@ ghost use Rattle.pol_trie.specs.PortMap.{Decides};
 ghost use Rattle.pol_trie.specs.Tree.{Takes};
 ghost use Rattle.pol_trie.specs.Standing.{HasRoom, IsTrie, ports_of};
 
+use crate::fit::copied;
 use crate::halves::first_port;
 use crate::node::Node;
 use crate::put::put;
@@ -18,11 +19,16 @@ use std::alloc::Global;
 use std::marker::Model;
 use std::sync::ledger::Ledger;
 
+/// A pool in which fewer nodes were ever in use at once keeps its room.
+const LEAST_ROOM: u32 = 16;
+
 /// A finite map from port prefixes to kinds, in which a port is looked up by the longest prefix that has it.
 #[derive(Drop)]
 pub(crate) struct PortTrie {
     nodes: Pool<Node>,
     root: Option<u32>,
+    // How many nodes were in use at once since the pool was made: it has room for about twice as many at most.
+    most: u32,
 }
 
 impl Model for PortTrie {
@@ -68,6 +74,7 @@ impl PortTrie {
         PortTrie {
             nodes: Pool::new(alloc),
             root: None,
+            most: 0,
         }
     }
 
@@ -89,6 +96,7 @@ impl PortTrie {
         make_room(&mut self.nodes, self.root, &port)?;
         let (root, had) = put(&mut self.nodes, self.root, port, kind);
         self.root = Some(root);
+        self.most = self.most.max(self.nodes.nodes_in_use());
         Ok(had)
     }
 
@@ -97,6 +105,32 @@ impl PortTrie {
         ensures { self.new ≡ map.remove self.old port.now }
     {
         self.root = take(&mut self.nodes, self.root, port);
+    }
+
+    /// Whether at most a fourth of the nodes that were once in use are in use now.
+    pub(crate) fn is_roomy(&self) -> bool {
+        self.most >= LEAST_ROOM && self.nodes.nodes_in_use() <= self.most / 4
+    }
+
+    /// Moves the nodes to room for them alone, where at most a fourth of it is in use. The one error is want of memory.
+    pub(crate) fn give_back(&mut self, alloc: Global) -> Result<(), Memory>
+        ensures { self.new ≡ self.old }
+    {
+        if self.is_roomy() {
+            *self = self.fitting(alloc)?;
+        }
+        Ok(())
+    }
+
+    /// The same map in a pool with room for its nodes alone. The one error is want of memory.
+    fn fitting(&self, alloc: Global) -> Result<PortTrie, Memory>
+        ensures { IfOk result (λ fitting. fitting ≡ self.now) }
+    {
+        let most = self.nodes.nodes_in_use();
+        let mut nodes = Pool::new(alloc);
+        nodes.reserve(most)?;
+        let root = copied(&self.nodes, self.root, &mut nodes);
+        Ok(PortTrie { nodes, root, most })
     }
 
     /// The kind of the longest prefix that has the port. Each node that is visited is one step.
@@ -115,6 +149,7 @@ impl PortTrie {
         Ok(PortTrie {
             nodes: self.nodes.copy(alloc)?,
             root: self.root,
+            most: self.most,
         })
     }
 

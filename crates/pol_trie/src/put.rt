@@ -67,7 +67,7 @@ fn around(a: &PortPrefix, b: &PortPrefix) -> PortPrefix
 }
 
 /// A new node, with one node below it on this side and another on the other.
-fn add(
+pub(crate) fn add(
     nodes: &mut Pool<Node>,
     port: PortPrefix,
     kind: Option<Kind>,

@@ -1,8 +1,10 @@
 //! The keys by direction and identity.
 ghost use Rattle.std.specs.Prelude.{◌≡◌, ◌+◌, ◌*◌, ◌^◌, ◌<◌, ◌≤◌, is_none, is_some, option_map, IfOk, OnOk, OnErr};
 ghost use Rattle.std.specs.FinMap as map;
+ghost use Rattle.std.specs.Map.{lookup};
 ghost use Rattle.pol_mapkey.specs.Entries.{longest};
 ghost use Rattle.indexmap.specs.IndexMap.{IsUnique};
+ghost use Rattle.pol_trie.specs.declared.root.Root.{Root as TheRoot};
 ghost use Rattle.pol_trie.specs.Roots.{policy_of, root_of, row_keys, tells_zero, TellsZero};
 
 use crate::hints::Hints;
@@ -161,6 +163,26 @@ pub(crate) fn clear_row(roots: &mut IndexMap<Root, KeySet>, zeros: &mut Zeros, k
     let there = clear_key(roots, key);
     *zeros = Zeros::of(roots);
     there
+}
+
+/// Whether the trie of the key has room for far more nodes than are in use.
+pub(crate) fn is_roomy(roots: &IndexMap<Root, KeySet>, hints: &Hints, key: &MapKey) -> bool {
+    match hints.find(roots, root_of(key)) {
+        Some(keys) => keys.is_roomy(key.proto),
+        None => false,
+    }
+}
+
+/// Moves the nodes of the key's trie to room for them alone, where it has far more. The one error is want of memory.
+pub(crate) fn give_back_row(roots: &mut IndexMap<Root, KeySet>, key: &MapKey) -> Result<(), Memory>
+    requires { IsUnique ⟦<Root as PartialEq>⟧.eq roots.old }
+    ensures unique { IsUnique ⟦<Root as PartialEq>⟧.eq roots.new }
+    ensures same { (root : TheRoot) → lookup (⟦<Root as PartialEq>⟧.eq root) roots.new.entries ≡ lookup (⟦<Root as PartialEq>⟧.eq root) roots.old.entries }
+{
+    match roots.get_mut(&root_of(key)) {
+        Some(keys) => keys.give_back(key.proto),
+        None => Ok(()),
+    }
 }
 
 /// The kind of the longest key of the direction and the identity that covers a packet. Each node that is visited is one

@@ -6,7 +6,8 @@ ghost use Rattle.pol_mapkey.specs.Entries.{read_map};
 use crate::hints::Hints;
 use crate::key_set::KeySet;
 use crate::root::{
-    Root, Zeros, clear_row, last_root, longest, longest_of_zero, nodes, put_row, root_of,
+    Root, Zeros, clear_row, give_back_row, is_roomy, last_root, longest, longest_of_zero, nodes,
+    put_row, root_of,
 };
 use indexmap::IndexMap;
 use pol_data::{Memory, Steps};
@@ -104,6 +105,18 @@ impl PolicyTrie {
             self.count -= 1;
         }
         there
+    }
+
+    /// Gives room back, where the trie of the key's direction, identity and protocol has far more than it needs: of 16 nodes
+    /// or more that were once in use, at most a fourth still are. They move to room for them alone, and else nothing is
+    /// done. The map is as before, also after the one error, which is want of memory.
+    pub fn give_back(&mut self, key: &MapKey) -> Result<(), Memory>
+        ensures { self.new ≡ self.old }
+    {
+        if !is_roomy(&self.roots, &self.hints, key) {
+            return Ok(());
+        }
+        give_back_row(&mut self.roots, key)
     }
 
     /// How many keys there are.
