@@ -17,7 +17,10 @@ fn change_one(trie: &mut PolicyTrie, change: &Change) -> Result<(), Memory>
     match change {
         Change::Set(key, kind) => trie.set(*key, *kind),
         Change::Clear(key) => {
-            let _ = trie.clear(key);
+            if trie.clear(key) {
+                // Where there is no memory to move to, the room stays the trie's.
+                let _ = trie.give_back(key);
+            }
             Ok(())
         }
     }
