@@ -58,6 +58,16 @@ fn cleared(trie: &mut PolicyTrie, factor: u32) -> u32 {
     there
 }
 
+/// Clears all keys but one of each identity, and gives room back after each.
+fn cleared_but_one(trie: &mut PolicyTrie) -> Result<(), Memory> {
+    for i in 128..KEYS {
+        let key = key_of(i);
+        let _ = trie.clear(&key);
+        trie.give_back(&key)?;
+    }
+    Ok(())
+}
+
 /// How many keys read as they were set.
 fn right_over<L: Ledger>(blank: Blank, trie: &PolicyTrie) -> u32
     requires name { blank.name ≡ L.name }
@@ -100,6 +110,14 @@ fn an_emptied_map_has_no_node(rt: HostRuntime) -> Result<(), Fail> {
     assert!(rt; cleared(&mut trie, 5) == KEYS);
     assert!(rt; trie.count() == 0 && trie.nodes() == 0 && right(&trie) == 0);
     assert!(rt; right(&copy) == KEYS);
+    Ok(())
+}
+
+#[test]
+fn a_map_that_gives_room_back_keeps_its_keys(rt: HostRuntime) -> Result<(), Fail> {
+    let mut trie = filled(rt.alloc(), 5)?;
+    cleared_but_one(&mut trie)?;
+    assert!(rt; trie.count() == 128 && trie.nodes() == 128 && right(&trie) == 128);
     Ok(())
 }
 
