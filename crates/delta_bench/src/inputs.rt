@@ -8,7 +8,7 @@ use pol_data::{Memory, Text};
 use pol_l4::{Filter, FilterList, Filters};
 use pol_ports::{PortRange, Proto};
 use pol_rule::{Peer, PeerList, Peers, Place, PolicyKey, PortSpec, PortSpecs, Prefixes, Section};
-use pol_sets::{IdSet, Move, Moves, SetRow, Sets};
+use pol_sets::{IdSet, Move, Moves, SetRow, Sets, SharedPeer};
 use std::alloc::Global;
 use std::sync::Arc;
 
@@ -157,12 +157,13 @@ pub(crate) fn rows(alloc: Global, count: u32, set: &Arc<IdSet>) -> Result<Sets, 
     let mut rows = Vec::new(alloc);
     for number in 0..count {
         rows.push(SetRow {
-            peer: peer(alloc, number),
+            peer: SharedPeer::new(alloc, peer(alloc, number))?,
             selector: u64::from(number),
             set: Arc::try_clone(set)?,
         })?;
     }
-    Ok(Sets::from_vec(rows))
+    let sets = Sets::from_vec(alloc, rows)?;
+    Ok(sets)
 }
 
 /// A move for each number, all of these numbers.

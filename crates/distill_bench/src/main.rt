@@ -12,7 +12,7 @@ use pol_l4::{Filter, FilterList, Filters};
 use pol_mapkey::Word;
 use pol_ports::{Direction, PortRange, Proto};
 use pol_rule::{Peer, PeerList, Peers, Place, PolicyKey, PortSpec, PortSpecs, Prefixes, Section};
-use pol_sets::{IdSet, SetRow, Sets};
+use pol_sets::{IdSet, SetRow, Sets, SharedPeer};
 use std::alloc::{AllocError, Global};
 use std::rt::Clock;
 use std::sync::Arc;
@@ -96,12 +96,12 @@ fn sets(alloc: Global, filters: u32, count: u32) -> Result<Sets, AllocError>
     let mut rows = Vec::new(alloc);
     for number in 0..filters {
         rows.push(SetRow {
-            peer: peer(alloc, number),
+            peer: SharedPeer::new(alloc, peer(alloc, number))?,
             selector: u64::from(number),
             set: Arc::new(alloc, identities(alloc, count)?)?,
         })?;
     }
-    Ok(Sets::from_vec(rows))
+    Ok(Sets::from_vec(alloc, rows)?)
 }
 
 /// How many packets of the first look-ups are allowed.

@@ -9,7 +9,7 @@ use pol_ident::Identities;
 use pol_l4::{Filters, Mode, resolve};
 use pol_rule::Peer;
 use pol_selcache::SelectorCache;
-use pol_sets::{SetRow, Sets};
+use pol_sets::{SetRow, Sets, SharedPeer};
 use std::alloc::Global;
 use std::marker::Brand;
 use std::sync::ledger::{Blank, Ledger};
@@ -47,11 +47,12 @@ fn sets_over<L: Ledger>(blank: Blank, alloc: Global, identities: &Identities) ->
     let selector = cache.add(&peer, identities, &mut steps).ok()?;
     let set = cache.set_at_now(selector).ok()?;
     let row = SetRow {
-        peer,
+        peer: SharedPeer::new(alloc, peer).ok()?,
         selector,
         set,
     };
-    Sets::one(alloc, row).ok()
+    let rows = Items::one(alloc, row).ok()?.into_vec();
+    Sets::from_vec(alloc, rows).ok()
 }
 
 /// The same for a caller that counts no steps.

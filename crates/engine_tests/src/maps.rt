@@ -1,13 +1,13 @@
 //! Tables of small maps, written out.
 ghost use Rattle.std.specs.Prelude.{◌≤◌};
 
-use pol_data::{Memory, Text};
+use pol_data::{Items, Memory, Text};
 use pol_distill::{MapTable, distill, have_sets};
 use pol_l4::{Filter, FilterList, Filters};
 use pol_mapkey::{KeyProto, Kind, MapKey, Word};
 use pol_ports::{Direction, PortPrefix, PortRange, Proto};
 use pol_rule::{Entity, Peer, PeerList, Peers, Place, PolicyKey, PortSpec, PortSpecs, Section};
-use pol_sets::{IdSet, SetRow, Sets};
+use pol_sets::{IdSet, SetRow, Sets, SharedPeer};
 use std::alloc::Global;
 use std::sync::Arc;
 use std::test::Fail;
@@ -56,11 +56,12 @@ fn sets(alloc: Global) -> Result<Sets, Memory> {
     let mut ids = Vec::with_capacity(alloc, 1)?;
     ids.push(257)?;
     let row = SetRow {
-        peer: Peer::Entity(Entity::Cluster),
+        peer: SharedPeer::new(alloc, Peer::Entity(Entity::Cluster))?,
         selector: 0,
         set: Arc::new(alloc, IdSet::from_ascending(ids))?,
     };
-    Sets::one(alloc, row)
+    let rows = Items::one(alloc, row)?.into_vec();
+    Sets::from_vec(alloc, rows)
 }
 
 /// The map of these filters; none where a peer has no row.

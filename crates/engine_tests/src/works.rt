@@ -2,14 +2,14 @@
 ghost use Rattle.std.specs.Prelude.{◌≡◌, ◌<◌, ◌≤◌, ◌∷◌, [], IfOk, OnOk};
 ghost use Rattle.engine_tests.specs.Works.{AreStamped, StandsThere};
 
-use pol_data::{Memory, Text};
+use pol_data::{Items, Memory, Text};
 use pol_delta::{Change, ChangeList, Changes, Givers, Work};
 use pol_distill::have_sets;
 use pol_l4::{Filter, FilterList, Filters};
 use pol_mapkey::{KeyProto, Kind, MapKey};
 use pol_ports::{Direction, PortPrefix, PortRange, Proto};
 use pol_rule::{Entity, Peer, PeerList, Peers, Place, PolicyKey, PortSpec, PortSpecs, Section};
-use pol_sets::{IdSet, SetRow, Sets};
+use pol_sets::{IdSet, SetRow, Sets, SharedPeer};
 use std::alloc::{AllocError, Global};
 use std::sync::Arc;
 use std::test::Fail;
@@ -100,11 +100,12 @@ fn let_in_but(alloc: Global, stamp: u64, ports: PortSpecs) -> Result<Filters, Me
 
 fn sets(alloc: Global) -> Result<Sets, Memory> {
     let row = SetRow {
-        peer: Peer::Entity(Entity::Cluster),
+        peer: SharedPeer::new(alloc, Peer::Entity(Entity::Cluster))?,
         selector: 0,
         set: Arc::new(alloc, IdSet::one(257))?,
     };
-    Sets::one(alloc, row)
+    let rows = Items::one(alloc, row)?.into_vec();
+    Sets::from_vec(alloc, rows)
 }
 
 /// The work of the filter that lets identity 257 in. A peer without a row counts as want of memory.

@@ -21,19 +21,6 @@ use Rattle.pol_raw_entries.specs.Balance.{Leads}
 use Rattle.pol_raw_entries.specs.Given.{raw_of}
 use Rattle.pol_raw_entries.specs.declared.staying.Moved.{Moved}
 use Rattle.pol_delta.specs.Kept.{IsKept}
-use Rattle.pol_delta.specs.Lists.{told}
-use Rattle.pol_delta.proofs.SameRows.{same_given, same_map, same_sets}
-
--- rows that say the same
-pub kept_over : (filters own : Filters) (copies rows : List SetRow) (size : ℕ) (tally : Tally) → own ≡ filters → map told copies ≡ map told rows → IsKept filters rows size tally
-    → IsKept own copies size tally
-kept_over filters own copies rows size tally is same kept =
-    let raw : raw_of filters rows ≡ raw_of filters copies = λ i. raw_entries (λ p. sym (same_given copies rows same p) i) (filter_parts filters) in
-    subst (λ fs. IsKept fs copies size tally) (sym is) (record {
-      have = same_sets copies rows same filters kept.have;
-      counts = subst (λ es. IsTallyOf es tally) raw kept.counts;
-      sized = kept.sized ∙ ap length (sym (same_map copies rows same filters));
-    })
 
 -- a tally of entries that were made
 pub tally_made : (made raw : List Entry) (tally : Tally) → IsTallyOf made tally → ((q : MapKey) (k : Kind) → times made q k ≡ times raw q k) → IsTallyOf raw tally

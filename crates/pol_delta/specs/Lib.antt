@@ -2,6 +2,5 @@ pub mod Work
 pub mod Applies
 pub mod Givers
 pub mod Giving
-pub mod Lists
 pub mod Kept
 pub mod Laws

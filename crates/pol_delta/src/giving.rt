@@ -123,7 +123,7 @@ fn set_has(peer: &Peer, id: u32, rows: &[SetRow]) -> bool
 {
     for i in 0..rows.len() {
         let row = &rows[i];
-        if row.peer == *peer {
+        if *row.peer.peer() == *peer {
             return row.set.contains(id);
         }
     }

@@ -5,7 +5,7 @@
 #![tactic(auto)]
 
 mod changes;
-mod copies;
+mod entries;
 mod givers;
 mod giving;
 pub mod laws;

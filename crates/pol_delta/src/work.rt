@@ -9,7 +9,7 @@ ghost use Rattle.pol_delta.specs.Givers.{allows_of, denies_of};
 ghost use Rattle.pol_delta.specs.Applies.{MovesTell, NamesFilters, PlacesDiffer};
 
 use crate::changes::{Changes, Givers};
-use crate::copies::{entries_of, rows_copy};
+use crate::entries::entries_of;
 use crate::givers::{allows_in, denies_in};
 use crate::turned::turned;
 use pol_change_list::ChangeList;
@@ -82,7 +82,7 @@ impl Work {
         ensures list { IfOk result (λ list. IsDifference list (table_of (map_of self.old)) (table_of (map_of self.new))) }
         ensures err { OnErr result (self.new ≡ self.old) }
     {
-        let sets = rows_copy(self.alloc, changes.sets.as_slice())?;
+        let sets = changes.sets.share()?;
         let filters = Arc::try_clone(&changes.filters)?;
         let changed = turned(
             self.alloc,

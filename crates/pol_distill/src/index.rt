@@ -36,7 +36,7 @@ impl<'a> PeerSets<'a> {
         let mut table: HashMap<&'a Peer, &'a IdSet> = HashMap::with_capacity(alloc, rows.len())?;
         for i in (0..rows.len()).rev() {
             let row = &rows[i];
-            table.insert(&row.peer, &row.set)?;
+            table.insert(row.peer.peer(), &row.set)?;
         }
         Ok(PeerSets { rows, table })
     }

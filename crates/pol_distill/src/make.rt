@@ -53,5 +53,5 @@ fn peers_have_sets(peers: &Peers, rows: &[SetRow]) -> bool
 fn has_set(peer: &Peer, rows: &[SetRow]) -> bool
     ensures { result ≡ has_set rows.now peer.now }
 {
-    rows.iter().any(|row| row.peer == *peer)
+    rows.iter().any(|row| *row.peer.peer() == *peer)
 }

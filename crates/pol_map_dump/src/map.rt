@@ -19,7 +19,7 @@ use pol_data::Memory;
 use pol_distill::{MapTable, distill};
 use pol_model::Endpoint;
 use pol_repo::Repo;
-use pol_taken::{TakeError, Taken, into_sets};
+use pol_taken::{TakeError, Taken};
 use std::alloc::Global;
 
 /// What is written of a map.
@@ -72,8 +72,7 @@ fn taken_map(alloc: Global, taken: Taken) -> Result<MapText, Memory>
     ensures text { IfOk result (λ map. map.text.items ≡ table_text (distilled (arc_value taken.filters) taken.sets)) }
     ensures live { IfOk result (λ map. map.live ≡ true) }
 {
-    let sets = into_sets(alloc, taken.sets)?;
-    let table = distill(alloc, &taken.filters, &sets)?;
+    let table = distill(alloc, &taken.filters, &taken.sets)?;
     let entries = entries_of(alloc, &table)?;
     let text = table_text(alloc, &entries)?;
     Ok(MapText { text, live: true })

@@ -6,8 +6,7 @@ ghost use Rattle.pol_moves.specs.Moves.{move_since, moves_of};
 
 use pol_data::{Items, Memory};
 use pol_selcache::SelectorCache;
-use pol_sets::{Move, Moves};
-use pol_taken::TakenSets;
+use pol_sets::{Move, Moves, Sets};
 use std::alloc::Global;
 
 /// The move of one selector, where its number is less than `next`.
@@ -36,7 +35,7 @@ fn push_move(
 pub fn moves_since(
     alloc: Global,
     cache: &SelectorCache,
-    sets: &TakenSets,
+    sets: &Sets,
     next: u64,
     revision: u64,
 ) -> Result<Option<Moves>, Memory>
@@ -46,9 +45,9 @@ pub fn moves_since(
     if revision < cache.horizon() {
         return Ok(None);
     }
-    let mut moves = Vec::with_capacity(alloc, sets.len())?;
+    let mut moves = Vec::with_capacity(alloc, sets.as_slice().len())?;
     for row in sets.as_slice() {
-        push_move(alloc, &mut moves, cache, row.selector(), next, revision)?;
+        push_move(alloc, &mut moves, cache, row.selector, next, revision)?;
     }
     Ok(Some(Items::from_vec(moves)))
 }

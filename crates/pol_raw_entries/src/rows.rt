@@ -65,7 +65,7 @@ fn table_of<'a>(
     for i in (0..rows.len()).rev() {
         let row = &rows[i];
         place = place_before(moves, place, row);
-        table.insert(&row.peer, PlacedRow { row, place })?;
+        table.insert(row.peer.peer(), PlacedRow { row, place })?;
     }
     Ok(table)
 }
@@ -76,7 +76,7 @@ fn first_row<'a>(rows: &'a [SetRow], peer: &Peer) -> Option<PlacedRow<'a>>
 {
     for i in 0..rows.len() {
         let row = &rows[i];
-        if row.peer == *peer {
+        if *row.peer.peer() == *peer {
             return Some(PlacedRow { row, place: i });
         }
     }

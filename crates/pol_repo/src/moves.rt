@@ -6,9 +6,8 @@ ghost use Rattle.pol_moves.specs.Moves.{moves_by};
 
 use pol_data::Memory;
 use pol_moves::moves_since;
-use pol_sets::Moves;
+use pol_sets::{Moves, Sets};
 use pol_store::Store;
-use pol_taken::TakenSets;
 use std::alloc::Global;
 
 /// What the sets of these rows gained and lost since a revision that is known, by the next numbers of all revisions. None
@@ -17,7 +16,7 @@ pub(crate) fn moves_in(
     alloc: Global,
     store: &Store,
     nexts: &[u64],
-    sets: &TakenSets,
+    sets: &Sets,
     since: Option<u64>,
 ) -> Result<Option<Moves>, Memory>
     requires within { IfSome since (λ revision. revision < length nexts.now) }

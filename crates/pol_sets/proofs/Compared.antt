@@ -1,8 +1,8 @@
 -- What `eq` of two iterators over numbers says, where each gives its list.
-use Rattle.std.proofs.Common.{◌≡◌, ℕ, Bool, true, false, ◌&&◌, List, [], ◌∷◌, Option, None, Some, refl, sym, ap, ◌∙◌}
+use Rattle.std.proofs.Common.{◌≡◌, ℕ, Bool, true, false, ◌&&◌, List, [], ◌∷◌, Option, None, Some, sym, ap, ◌∙◌}
 use Rattle.std.specs.Prelude.{nat_eq, IfSome, MatchOption}
 use Rattle.std.specs.Cmp.Lexicographic.{pointwise}
-use Rattle.std.specs.Iterator.{ComparesItemsByEq, Yields, YieldsFirst, YieldsThen}
+use Rattle.std.specs.Iterator.{ComparesItemsByEq, YieldsFirst, YieldsThen}
 use Rattle.std.specs.List.{AllZip}
 
 abbrev steps : List ℕ → Option ℕ → List ℕ → Type 0

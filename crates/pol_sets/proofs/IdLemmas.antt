@@ -1,21 +1,19 @@
 -- Numbers of ascending lists: which a list has, and that lists with the same numbers are one.
-use Rattle.std.proofs.Common.{◌≡◌, ℕ, ◌<◌, ◌==◌, Bool, true, false, not, ◌&&◌, ◌||◌, nat_lt, List, [], ◌∷◌, ◌++◌, cond, filter, zero-add, refl, sym, ap, subst, ◌∙◌, inl, inr, arith}
+use Rattle.std.proofs.Common.{◌≡◌, ℕ, ◌<◌, ◌==◌, Bool, true, false, not, ◌&&◌, ◌||◌, nat_lt, List, [], ◌∷◌, ◌++◌, cond, filter, refl, sym, ap, ◌∙◌, inl, inr, arith}
 use Rattle.std.specs.List.{AllByRecursion, Contains, dedup}
 use Rattle.std.specs.List.Retain.{IsFiltered, DiffersFromLast}
-use Rattle.std.specs.List.Sorted.{IsStrictlySortedBy, IsSorted, IsPermutation}
-use Rattle.std.specs.Ordering.{nat_cmp, eq_by_cmp, is_lt}
+use Rattle.std.specs.List.Sorted.{IsStrictlySortedBy, IsSorted}
+use Rattle.std.specs.Ordering.{nat_cmp, eq_by_cmp}
 use Rattle.std.specs.declared.cmp.Ordering.TheVariants.{Less, Equal, Greater}
-use Rattle.std.proofs.lemmas.Bool.{cases_Bool, cases_eq, cases_lt, eqb-true, eq-eqb, ne_eqb, lt-ltb, le-ltb, ltb-true, or_cases}
-use Rattle.std.proofs.lemmas.Cmp.{nat_cmp_total, tied_itself}
+use Rattle.std.proofs.lemmas.Bool.{cases_eq, cases_lt, eqb-true, eq-eqb, ne_eqb, lt-ltb, le-ltb, ltb-true, or_cases}
+use Rattle.std.proofs.lemmas.Cmp.{nat_cmp_total}
 use Rattle.std.proofs.lemmas.List.Filters.{dedup_is}
 use Rattle.std.proofs.lemmas.List.Folds.{list_any-append}
-use Rattle.std.proofs.lemmas.List.Kept.{IsSortedBy-filter, IsStrictlySortedBy-filter, IsStrictlySortedBy-dedup, Contains-dedup_nat, Contains-from_dedup}
-use Rattle.std.proofs.lemmas.List.Sorted.{ranks_by, sum_by-IsPermutation}
+use Rattle.std.proofs.lemmas.List.Kept.{IsStrictlySortedBy-filter, IsStrictlySortedBy-dedup, Contains-dedup_nat, Contains-from_dedup}
 use Rattle.std.proofs.lemmas.Map.Views.{any-filter_same}
 use Rattle.pol_data.proofs.Ascending.{same_members}
 use Rattle.pol_data.proofs.Every.{every-append, every-filter}
 use Rattle.pol_data.proofs.Members.{In, In-from_Contains, Contains-from_In, every-in, every-from_in}
-use Rattle.pol_data.proofs.Counts.{count_by-cons, count_by-none}
 use Rattle.pol_sets.specs.Ids.{has, without, placed, union}
 
 abbrev pub Ascends : List ℕ → Type 0

@@ -9,8 +9,10 @@ mod blocks;
 mod id_set;
 mod iter;
 mod sets;
+mod shared_peer;
 mod stretches;
 
 pub use id_set::IdSet;
 pub use iter::SetIter;
 pub use sets::{Move, Moves, SetRow, Sets};
+pub use shared_peer::SharedPeer;

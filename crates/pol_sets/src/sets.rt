@@ -1,7 +1,10 @@
 //! Which set each peer selects, and how a set changes.
-use crate::IdSet;
-use pol_data::Items;
-use pol_rule::Peer;
+ghost use Rattle.std.specs.Prelude.{◌≡◌, IfOk};
+
+use crate::{IdSet, SharedPeer};
+use pol_data::{Items, Memory};
+use std::alloc::Global;
+use std::marker::Model;
 use std::sync::Arc;
 
 /// What a selector's set gained and lost.
@@ -21,13 +24,54 @@ pub type Moves = Items<Move>;
 /// Which identity numbers a peer selects.
 #[derive(Debug, Drop)]
 pub struct SetRow {
-    /// The peer.
-    pub peer: Peer,
+    /// The peer, which is shared.
+    pub peer: SharedPeer,
     /// The number of its selector.
     pub selector: u64,
     /// The allocated numbers that it selects.
     pub set: Arc<IdSet>,
 }
 
-/// Which identity numbers each of some peers selects.
-pub type Sets = Items<SetRow>;
+/// Which identity numbers each of some peers selects: rows that are made once, and shared by whoever has them. A contract
+/// sees the list of the rows.
+#[derive(Debug, Drop)]
+pub struct Sets {
+    rows: Arc<Items<SetRow>>,
+}
+
+impl Model for Sets {
+    ghost use Rattle.std.specs.Prelude.{List};
+    ghost use Rattle.std.specs.Arc.{arc_value};
+    ghost use Rattle.pol_sets.specs.declared.sets.SetRow.{SetRow as OneRow};
+
+    ghost Value = { List OneRow };
+
+    ghost view = { λ sets. arc_value sets.rows };
+}
+
+impl Sets {
+    /// These rows. The one error is want of memory.
+    pub fn from_vec(alloc: Global, rows: Vec<SetRow>) -> Result<Sets, Memory>
+        ensures rows { IfOk result (λ sets. sets ≡ rows.items) }
+    {
+        Ok(Sets {
+            rows: Arc::new(alloc, Items::from_vec(rows))?,
+        })
+    }
+
+    /// The rows.
+    pub fn as_slice(&self) -> &[SetRow]
+        ensures rows { result.now ≡ self.now }
+    {
+        self.rows.as_slice()
+    }
+
+    /// The same rows once more, which are counted and not copied. The one error is that they are counted too often.
+    pub fn share(&self) -> Result<Sets, Memory>
+        ensures same { IfOk result (λ sets. sets ≡ self.now) }
+    {
+        Ok(Sets {
+            rows: Arc::try_clone(&self.rows)?,
+        })
+    }
+}

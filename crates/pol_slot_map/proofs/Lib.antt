@@ -3,5 +3,4 @@ pub mod Stamps
 pub mod Listing
 pub mod Telling
 pub mod Applying
-pub mod Copying
 pub mod Keeping

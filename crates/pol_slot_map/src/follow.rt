@@ -2,7 +2,6 @@
 ghost use Rattle.std.specs.Prelude.{◌≡◌, ◌≢◌, ◌⊎◌, IfOk, IsTrue, None, OnErr, OnOk, Some, map};
 ghost use Rattle.std.specs.Arc.{arc_value};
 ghost use Rattle.std.specs.List.{AllByRecursion};
-ghost use Rattle.pol_delta.specs.Lists.{told};
 ghost use Rattle.pol_delta.specs.Work.{IsWorkOf, map_of};
 ghost use Rattle.pol_distill.specs.Distilled.{distilled};
 ghost use Rattle.pol_distill.specs.Sorted.{HaveSets};
@@ -12,8 +11,8 @@ ghost use Rattle.pol_slot_map.specs.Follow.{GoesOn, IsShown, IsStartOf, MayApply
 use pol_change_list::ChangeList;
 use pol_data::{Memory, Text};
 use pol_delta::{Changes, Work};
-use pol_sets::{SetRow, Sets};
-use pol_taken::{Taken, TakenRow};
+use pol_sets::SetRow;
+use pol_taken::Taken;
 use std::alloc::Global;
 use std::sync::Arc;
 
@@ -37,34 +36,12 @@ pub struct Followed {
     pub behind: Option<ChangeList>,
 }
 
-/// The same row with a peer of its own, which shares its set.
-fn row_copy(alloc: Global, row: &TakenRow) -> Result<SetRow, Memory>
-    ensures { IfOk result (λ copy. told copy ≡ told row.now) }
-{
-    Ok(SetRow {
-        peer: row.peer().copy(alloc)?,
-        selector: row.selector(),
-        set: Arc::try_clone(row.set())?,
-    })
-}
-
-/// The same rows, which share their sets.
-fn rows_copy(alloc: Global, rows: &[TakenRow]) -> Result<Sets, Memory>
-    ensures { IfOk result (λ copies. map told copies ≡ map told rows.now) }
-{
-    let mut copies = Vec::with_capacity(alloc, rows.len())?;
-    for row in rows {
-        copies.push(row_copy(alloc, row)?)?;
-    }
-    Ok(Sets::from_vec(copies))
-}
-
 /// It does nothing: each set's numbers ascend.
-fn sets_ascend(rows: &[TakenRow])
+fn sets_ascend(rows: &[SetRow])
     ensures { AllByRecursion Ascend rows.now }
 {
     for row in rows {
-        let _ = row.set().iter();
+        let _ = row.set.iter();
     }
 }
 
@@ -74,7 +51,7 @@ fn work_of(alloc: Global, taken: &Taken) -> Result<Work, Memory>
     ensures work { IfOk result (IsWorkOf (arc_value taken.now.filters) taken.now.sets) }
     ensures map { IfOk result (λ work. map_of work ≡ distilled (arc_value taken.now.filters) taken.now.sets) }
 {
-    let sets = rows_copy(alloc, taken.sets.as_slice())?;
+    let sets = taken.sets.share()?;
     let filters = Arc::try_clone(&taken.filters)?;
     Work::from_scratch(alloc, filters, sets)
 }
@@ -139,10 +116,9 @@ impl Followed {
         self.join(alloc)
     }
 
-    /// Goes on to what was taken of the same endpoint later, by rows that say the same, and gives what was taken back, also
-    /// after the one error, which is want of memory.
-    fn go_by_rows(&mut self, alloc: Global, taken: Taken, rows: Sets) -> (Taken, Result<(), Memory>)
-        requires rows { map told rows ≡ map told taken.sets }
+    /// Goes on to what was taken of the same endpoint later, and gives what was taken back, also after the one error, which is
+    /// want of memory.
+    fn go_by_taken(&mut self, alloc: Global, taken: Taken) -> (Taken, Result<(), Memory>)
         requires may { MayApply self.old.work (arc_value taken.filters) taken.sets taken.moves }
         ensures same { result.0 ≡ taken }
         ensures kept { OnOk result.1 (self.new.kept ≡ taken.revision) }
@@ -159,11 +135,15 @@ impl Followed {
         } = taken;
         let changes = Changes {
             filters,
-            sets: rows,
+            sets,
             moves,
         };
         let went = self.go_by(alloc, &changes, revision);
-        let Changes { filters, moves, .. } = changes;
+        let Changes {
+            filters,
+            sets,
+            moves,
+        } = changes;
         let taken = Taken {
             revision,
             endpoint,
@@ -216,11 +196,7 @@ impl Followed {
             let stayed = self.stay_until(alloc, &taken);
             return (taken, stayed);
         }
-        let copied = rows_copy(alloc, taken.sets.as_slice());
-        match copied {
-            Ok(rows) => self.go_by_rows(alloc, taken, rows),
-            Err(error) => (taken, Err(error)),
-        }
+        self.go_by_taken(alloc, taken)
     }
 
     /// Goes on to what was taken of the same endpoint later, and gives that back. The one error is want of memory: then the

@@ -21,7 +21,7 @@ use pol_kept_filters::Kept;
 use pol_l4::Filters;
 use pol_model::Endpoint;
 use pol_selcache::SelectorCache;
-use pol_taken::{Addresses, TakeError, Taken, TakenSets, sets_of};
+use pol_taken::{Addresses, Sets, TakeError, Taken, sets_of};
 use std::alloc::Global;
 use std::sync::Arc;
 
@@ -29,7 +29,7 @@ use std::sync::Arc;
 #[derive(Drop)]
 pub(crate) struct Parts {
     pub(crate) filters: Arc<Filters>,
-    pub(crate) sets: TakenSets,
+    pub(crate) sets: Sets,
 }
 
 /// The filters that are kept, and the sets of the peers that they list. None where a selector came since these were listed.

@@ -1,9 +1,9 @@
 //! Rows of sets, one for each selector.
-ghost use Rattle.std.specs.Prelude.{◌≡◌, ◌++◌, ◌∷◌, [], OnOk};
+ghost use Rattle.std.specs.Prelude.{◌≡◌, ◌++◌, ◌∷◌, [], IfOk, OnOk};
 ghost use Rattle.pol_taken.specs.PeerRows.{has_selector};
 
-use crate::row::{TakenRow, TakenSets};
 use pol_data::Memory;
+use pol_sets::{SetRow, Sets};
 use std::alloc::Global;
 use std::collections::HashSet;
 use std::marker::Model;
@@ -11,7 +11,7 @@ use std::marker::Model;
 /// Rows of sets, with the numbers of their selectors. Contracts see the list of the rows.
 #[derive(Drop)]
 pub(crate) struct Rows {
-    rows: Vec<TakenRow>,
+    rows: Vec<SetRow>,
     selectors: HashSet<u64>,
 }
 
@@ -46,19 +46,19 @@ impl Rows {
     }
 
     /// One row more, at the end. The one error is want of memory.
-    pub(crate) fn push(&mut self, row: TakenRow) -> Result<(), Memory>
+    pub(crate) fn push(&mut self, row: SetRow) -> Result<(), Memory>
         ensures pushed { OnOk result (self.new ≡ self.old ++ row ∷ []) }
     {
         self.rows.reserve(1)?;
-        self.selectors.insert(row.selector())?;
+        self.selectors.insert(row.selector)?;
         self.rows.push_reserved(row);
         Ok(())
     }
 
-    /// The rows. It takes no memory.
-    pub(crate) fn into_sets(self) -> TakenSets
-        ensures rows { result ≡ self }
+    /// The rows. The one error is want of memory.
+    pub(crate) fn into_sets(self, alloc: Global) -> Result<Sets, Memory>
+        ensures rows { IfOk result (λ sets. sets ≡ self) }
     {
-        TakenSets::from_vec(self.rows)
+        Sets::from_vec(alloc, self.rows)
     }
 }

@@ -6,14 +6,13 @@ ghost use Rattle.pol_selcache.specs.Live.{number_of};
 ghost use Rattle.pol_taken.specs.PeerRows.{AreRowsFor, AreSetsFor, IsLiveRow, filter_peers};
 
 use crate::listed::listed_peers;
-use crate::row::{TakenRow, TakenSets};
 use crate::rows::Rows;
 use pol_data::Memory;
 use pol_l4::Filters;
 use pol_rule::Peer;
 use pol_selcache::SelectorCache;
+use pol_sets::{SetRow, Sets, SharedPeer};
 use std::alloc::Global;
-use std::sync::Arc;
 
 /// The row of a peer with this live selector.
 fn row_of(
@@ -21,15 +20,19 @@ fn row_of(
     cache: &SelectorCache,
     peer: &Peer,
     selector: u64,
-) -> Result<TakenRow, Memory>
+) -> Result<SetRow, Memory>
     requires selector { number_of peer.now cache.now.live ≡ Some selector }
     ensures peer { IfOk result (λ row. row.peer ≡ peer.now) }
     ensures selector { IfOk result (λ row. row.selector ≡ selector) }
     ensures live { IfOk result (IsLiveRow cache.now.live) }
 {
     let set = cache.set_at_now(selector)?;
-    let shared = Arc::new(alloc, peer.copy(alloc)?)?;
-    Ok(TakenRow::new(shared, selector, set))
+    let peer = SharedPeer::new(alloc, peer.copy(alloc)?)?;
+    Ok(SetRow {
+        peer,
+        selector,
+        set,
+    })
 }
 
 /// A row for the peer, unless an equal one has its own.
@@ -66,7 +69,7 @@ fn rows_for(alloc: Global, cache: &SelectorCache, peers: &[&Peer]) -> Result<Row
 
 /// One row for each distinct peer that the filters list: the peer, the number of its selector, and its set, which is shared
 /// and not copied (Cilium, "Selector cache"). The one error is want of memory.
-pub fn sets_of(alloc: Global, cache: &SelectorCache, filters: &Filters) -> Result<TakenSets, Memory>
+pub fn sets_of(alloc: Global, cache: &SelectorCache, filters: &Filters) -> Result<Sets, Memory>
     requires live { AllByRecursion (λ p. IsSome (number_of p cache.now.live)) (filter_peers filters.now) }
     ensures sets { IfOk result (AreSetsFor cache.now.live filters.now) }
 {
@@ -74,5 +77,6 @@ pub fn sets_of(alloc: Global, cache: &SelectorCache, filters: &Filters) -> Resul
     let _horizon = cache.horizon();
     let peers = listed_peers(alloc, filters)?;
     let rows = rows_for(alloc, cache, &peers)?;
-    Ok(rows.into_sets())
+    let sets = rows.into_sets(alloc)?;
+    Ok(sets)
 }

@@ -1,9 +1,8 @@
 //! What an endpoint's policy map is made of, at one revision.
-use crate::row::TakenSets;
 use pol_addresses::Addresses;
 use pol_l4::Filters;
 use pol_model::Endpoint;
-use pol_sets::Moves;
+use pol_sets::{Moves, Sets};
 use std::sync::Arc;
 
 /// What is taken of a state for the endpoint of a slot. It stays as it is whatever is committed afterwards.
@@ -16,7 +15,7 @@ pub struct Taken {
     /// What the policies say of it.
     pub filters: Arc<Filters>,
     /// One row for each distinct peer that the filters list.
-    pub sets: TakenSets,
+    pub sets: Sets,
     /// How the sets changed since an earlier revision, where one is known.
     pub moves: Option<Moves>,
     /// What each address is.

@@ -57,8 +57,8 @@ fn show_sets<R: Print>(rt: &R, taken: &Taken) -> Result<()> {
     for row in taken.sets.as_slice() {
         println!(rt;
             "a set of {} with 16777217: {}",
-            row.set().len(),
-            row.set().contains(16_777_217)
+            row.set.len(),
+            row.set.contains(16_777_217)
         )?;
     }
     Ok(())

@@ -9,4 +9,4 @@ use Rattle.pol_map_dump.proofs.map.taken_map.Goals as goal
 pub entries_of-requires : goal.entries_of-requires
 entries_of-requires c =
     subst IsTable (sym c.in_ok-table.ensures.canonical)
-    (canonical_is_table (raw_entries (set_given c.in_ok-sets.sets) (filter_parts c.deref.result.now)))
+    (canonical_is_table (raw_entries (set_given c.args.taken.sets) (filter_parts c.deref.result.now)))

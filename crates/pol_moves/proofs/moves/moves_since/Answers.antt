@@ -17,5 +17,5 @@ loop-row-preserved c =
     let step : flat_map f (take (i + 1) all) ≡ flat_map f (take i all) ++ f row =
     ap (flat_map f) first ∙ flat_map-append f (take i all) (row ∷ []) ∙ ap (λ own. flat_map f (take i all) ++ own) (append-nil (f row)) in
     c.in_ok-push_move.ensures
-    ∙ (λ k. c.loop-row.invariant k ++ move_since c.args.cache.now.log c.args.next c.args.revision (c.selector.ensures.selector k))
-    ∙ sym (subst (λ (rows : List SetRow). flat_map f (take (i + 1) rows) ≡ flat_map f (take i rows) ++ f row) c.as_slice-row-items.ensures step)
+    ∙ (λ k. c.loop-row.invariant k ++ f row)
+    ∙ sym (subst (λ (rows : List SetRow). flat_map f (take (i + 1) rows) ≡ flat_map f (take i rows) ++ f row) c.as_slice-row-items.ensures.rows step)

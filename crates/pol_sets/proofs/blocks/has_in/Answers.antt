@@ -1,4 +1,4 @@
-use Rattle.std.proofs.Common.{◌+◌, ◌<◌, ◌≤◌, ◌++◌, drop, length, sym, subst, ap, ◌∙◌, arith}
+use Rattle.std.proofs.Common.{◌+◌, ◌<◌, ◌≤◌, drop, length, sym, subst, ap, ◌∙◌, arith}
 use Rattle.pol_sets.specs.Blocks.{bound_of, numbers_in}
 use Rattle.pol_sets.specs.Ids.{has}
 use Rattle.pol_sets.proofs.IdLemmas.{Ascends}

@@ -1,4 +1,4 @@
-use Rattle.std.proofs.Common.{◌+◌, ◌≤◌, ◌++◌, drop, length, sym, subst, arith}
+use Rattle.std.proofs.Common.{◌+◌, ◌≤◌, drop, length, sym, subst, arith}
 use Rattle.std.proofs.lemmas.List.Kept.{IsStrictlySortedBy-filter}
 use Rattle.std.specs.Ordering.{nat_cmp}
 use Rattle.pol_sets.specs.Blocks.{numbers_in}

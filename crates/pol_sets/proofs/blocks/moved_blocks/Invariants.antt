@@ -1,6 +1,4 @@
-use Rattle.std.proofs.Common.{◌≡◌, ◌++◌, drop}
-use Rattle.std.specs.List.Sorted.{IsStrictlySortedBy}
-use Rattle.std.specs.Ordering.{nat_cmp}
+use Rattle.std.proofs.Common.{drop}
 use Rattle.pol_sets.specs.Blocks.{numbers_in}
 use Rattle.pol_sets.specs.Ids.{union, without}
 use Rattle.pol_sets.proofs.Parted.{IsParted}

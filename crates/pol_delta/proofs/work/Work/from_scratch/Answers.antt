@@ -12,7 +12,7 @@ pub invariant_of-result : goal.invariant_of-result
 invariant_of-result c = record {
   have = c.requires.sets;
   counts = tally_made c.deref-3.result.now (raw_of (arc_value c.args.filters) c.args.sets) c.in_ok-tally.tally c.in_ok-tally.ensures
-      (λ q k. ap (λ es. times es q k) c.deref-3.ensures.value ∙ c.in_ok-raw.ensures q k ∙ (λ i. times (raw_of (c.deref-2.ensures i) (c.as_slice.ensures i)) q k));
+      (λ q k. ap (λ es. times es q k) c.deref-3.ensures.value ∙ c.in_ok-raw.ensures q k ∙ (λ i. times (raw_of (c.deref-2.ensures i) (c.as_slice.ensures.rows i)) q k));
   sized = c.count.ensures ∙ ap length (c.in_ok-table.ensures.canonical ∙ ap (λ (filters : Filters). distilled filters c.args.sets) c.deref.ensures);
 }
 

@@ -10,7 +10,7 @@ pub returns-in-Some-clause-work : goal.returns-in-Some-clause-work
 returns-in-Some-clause-work c = λ so rows ascend.
     let own : WorkOf = record { filters = c.deref.result.now; rows = c.as_slice.result.now } in
     let filters = c.args.filters.now in
-    let same : own ≡ c.args.self.now = (λ i. record { filters = c.deref.ensures i; rows = c.as_slice.ensures i }) ∙ c.self.view_is in
+    let same : own ≡ c.args.self.now = (λ i. record { filters = c.deref.ensures i; rows = c.as_slice.ensures.rows i }) ∙ c.self.view_is in
     let tells : List Move → Type 0 = λ moves. MovesTell own filters rows moves in
     subst (λ (w : WorkOf). NamesFilters w.filters filters → IfSome c.args.moves.now (λ moves. MovesTell w filters rows moves) → IsWorkOf filters rows w) same
     (λ names tell. c.are_still.ensures.work so rows ascend names
@@ -20,7 +20,7 @@ pub returns-in-Some-clause-map : goal.returns-in-Some-clause-map
 returns-in-Some-clause-map c = λ so rows ascend.
     let own : WorkOf = record { filters = c.deref.result.now; rows = c.as_slice.result.now } in
     let filters = c.args.filters.now in
-    let same : own ≡ c.args.self.now = (λ i. record { filters = c.deref.ensures i; rows = c.as_slice.ensures i }) ∙ c.self.view_is in
+    let same : own ≡ c.args.self.now = (λ i. record { filters = c.deref.ensures i; rows = c.as_slice.ensures.rows i }) ∙ c.self.view_is in
     let tells : List Move → Type 0 = λ moves. MovesTell own filters rows moves in
     subst (λ (w : WorkOf). NamesFilters w.filters filters → IfSome c.args.moves.now (λ moves. MovesTell w filters rows moves) → map_of w ≡ distilled filters rows) same
     (λ names tell. c.are_still.ensures.map so rows ascend names

@@ -1,4 +1,4 @@
-use Rattle.std.proofs.Common.{◌≤◌, ◌^◌, length, ap, subst, ◌∙◌, arith}
+use Rattle.std.proofs.Common.{◌^◌, length, ap, ◌∙◌, arith}
 use Rattle.std.proofs.lemmas.List.{length-append}
 use Rattle.std.proofs.lemmas.Map.Views.{length-le_from_below}
 use Rattle.pol_sets.specs.Blocks.{numbers_in}

@@ -6,7 +6,7 @@ use Rattle.pol_taken.proofs.known_peers.KnownPeers.of.Goals as goal
 
 pub returns : goal.returns
 returns c =
-    let keys = c.in_ok-all_listed.ensures.keys ∙ ap (map key_of) c.as_slice.ensures in
+    let keys = c.in_ok-all_listed.ensures.keys ∙ ap (map key_of) c.as_slice.ensures.rows in
     let sets = c.args.sets.now in
     record {
       listing = λ filters are. subst (IsListingOf (filter_peers filters)) (sym keys) (listing_of c.args.cache.now.live filters sets are);
