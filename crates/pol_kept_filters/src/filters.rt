@@ -70,6 +70,30 @@ impl KeptFilters {
         }
     }
 
+    /// What is kept for any slot, where it was resolved for these labels and with the same leave.
+    fn alike(&self, labels: &LabelSet, localhost: bool) -> Option<&Kept>
+        ensures kept { IfSome (option_copied result) (λ kept. IsAmong self.now kept) }
+        ensures serves { IfSome (option_copied result) (λ kept. IsFor labels.now localhost kept) }
+    {
+        for kept in self.rows.values() {
+            if kept.is_for(labels, localhost) {
+                return Some(kept);
+            }
+        }
+        None
+    }
+
+    /// What serves the slot: what is kept for it, and else for an endpoint that is alike, as the replicas of a workload are.
+    pub fn serving(&self, slot: u32, labels: &LabelSet, localhost: bool) -> Option<&Kept>
+        ensures kept { IfSome (option_copied result) (λ kept. IsAmong self.now kept) }
+        ensures serves { IfSome (option_copied result) (λ kept. IsFor labels.now localhost kept) }
+    {
+        match self.found(slot, labels, localhost) {
+            Some(kept) => Some(kept),
+            None => self.alike(labels, localhost),
+        }
+    }
+
     /// What the policies say of an endpoint of that slot with these labels (Cilium, Policy Enforcement Modes): the filters
     /// that are kept, where they were resolved for such labels and with the same leave, and else those that are resolved now.
     /// The one error is want of memory.
@@ -86,7 +110,7 @@ impl KeptFilters {
         requires kept { AreKeptOf policies.now mode self.now }
         ensures filters { IfOk result (λ filters. arc_value filters ≡ filters_for policies.now labels.now mode localhost) }
     {
-        match self.found(slot, labels, localhost) {
+        match self.serving(slot, labels, localhost) {
             Some(kept) => Arc::try_clone(kept.filters()),
             None => {
                 let own = resolve(alloc, policies, labels, mode, localhost)?;

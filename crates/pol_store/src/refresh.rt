@@ -59,7 +59,7 @@ impl Store {
             return Ok(());
         }
         let endpoint = self.endpoint_copied(alloc, slot)?;
-        let parts = self.made_parts(alloc, &endpoint, localhost)?;
+        let parts = self.parts(alloc, &endpoint, localhost)?;
         Ok(self.keep_parts(alloc, &endpoint, localhost, &parts)?)
     }
 

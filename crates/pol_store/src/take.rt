@@ -78,14 +78,17 @@ impl Store {
         requires refs { RefsOf (peers_of self.now.state.policies) self.now.cache.live }
         ensures parts { IfOk result (λ found. IfSome found (ArePartsFor self.now endpoint.now localhost)) }
     {
-        match self.kept.found(endpoint.slot, &endpoint.labels, localhost) {
+        match self
+            .kept
+            .serving(endpoint.slot, &endpoint.labels, localhost)
+        {
             Some(kept) => parts_of(alloc, self.numbers.selectors(), kept),
             None => Ok(None),
         }
     }
 
     /// The filters of the endpoint, and the sets of the peers that they list, looked for by their peers.
-    pub(crate) fn made_parts(
+    fn made_parts(
         &self,
         alloc: Global,
         endpoint: &Endpoint,
@@ -100,7 +103,12 @@ impl Store {
     }
 
     /// The filters of the endpoint, and the sets of the peers that they list: by what is kept, where it is.
-    fn parts(&self, alloc: Global, endpoint: &Endpoint, localhost: bool) -> Result<Parts, Memory>
+    pub(crate) fn parts(
+        &self,
+        alloc: Global,
+        endpoint: &Endpoint,
+        localhost: bool,
+    ) -> Result<Parts, Memory>
         requires refs { RefsOf (peers_of self.now.state.policies) self.now.cache.live }
         ensures parts { IfOk result (ArePartsFor self.now endpoint.now localhost) }
     {
