@@ -78,7 +78,7 @@ pub(crate) fn affected(
     ensures ascends { IfOk result (λ keys. IsStrictlySortedBy key_cmp keys.items) }
     ensures gathers { IfOk result (λ keys. (q : OneKey) (k : OneKind) → 0 < times come.now q k + times gone.now q k → Gathers (cells_of tally.now) keys.items q) }
 {
-    let mut keys = Vec::new(alloc);
+    let mut keys = Vec::with_capacity(alloc, come.len().max(gone.len()))?;
     push_keys(tally, come, &mut keys)?;
     push_keys(tally, gone, &mut keys)?;
     Ok(in_order(keys))

@@ -12,7 +12,7 @@ use std::collections::HashMap;
 use std::marker::Model;
 
 /// As many rows as are gone through one by one sooner than a table of them is made.
-const FEW_ROWS: usize = 8;
+const FEW_ROWS: usize = 16;
 
 /// A row, and where the move of its selector stands if moves stand in the order of the rows. No proof needs the place.
 #[derive(Clone, Copy)]
