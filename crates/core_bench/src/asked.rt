@@ -79,16 +79,20 @@ pub(crate) fn no_identity(alloc: Global, number: u32) -> Result<Request> {
     })
 }
 
-/// What has the key of a filter.
-fn with_key(alloc: Global, filter: u32) -> Result<Peer> {
-    let requirement = Requirement {
+/// That a key is there.
+fn has_key(alloc: Global, key: Text) -> Result<Requirement> {
+    Ok(Requirement {
         any_source: false,
         source: Text::from_str(alloc, "k8s")?,
-        key: key(alloc, filter)?,
+        key,
         op: Operator::Present,
         values: Items::empty(alloc),
-    };
-    let asked = Items::one(alloc, requirement)?;
+    })
+}
+
+/// What has the key of a filter.
+fn with_key(alloc: Global, filter: u32) -> Result<Peer> {
+    let asked = Items::one(alloc, has_key(alloc, key(alloc, filter)?)?)?;
     Ok(Peer::Labels(Selector::from_requirements(alloc, asked.into_vec())?))
 }
 
@@ -120,9 +124,20 @@ fn entries(alloc: Global, count: u32) -> Result<Entries> {
     Ok(Entries::from_vec(list))
 }
 
-fn rule(alloc: Global, count: u32) -> Result<Rule> {
+/// Every endpoint.
+fn everyone(alloc: Global) -> Result<Selector> {
+    Ok(Selector::from_requirements(alloc, Vec::new(alloc))?)
+}
+
+/// No endpoint: none has that key.
+fn nobody(alloc: Global) -> Result<Selector> {
+    let asked = Items::one(alloc, has_key(alloc, Text::from_str(alloc, "nobody")?)?)?;
+    Ok(Selector::from_requirements(alloc, asked.into_vec())?)
+}
+
+fn rule(alloc: Global, subject: Selector, count: u32) -> Result<Rule> {
     Ok(Rule {
-        subject: Selector::from_requirements(alloc, Vec::new(alloc))?,
+        subject,
         ingress: entries(alloc, count)?,
         ingress_deny: Entries::empty(alloc),
         egress: Entries::empty(alloc),
@@ -130,15 +145,26 @@ fn rule(alloc: Global, count: u32) -> Result<Rule> {
     })
 }
 
-/// A policy for every endpoint, of so many entries, each of which lets in what has a key of its own, on a TCP port of its own. So
-/// each identity gives each map so many entries.
-pub(crate) fn policy(alloc: Global, count: u32) -> Result<Request> {
+fn apply(alloc: Global, name: Text, rule: Rule) -> Result<Request> {
     Ok(Request::Apply(Policy {
         key: PolicyKey {
             cluster_wide: true,
             namespace: Text::empty(alloc),
-            name: Text::from_str(alloc, "policy")?,
+            name,
         },
-        rules: Rules::one(alloc, rule(alloc, count)?)?,
+        rules: Rules::one(alloc, rule)?,
     }))
+}
+
+/// A policy for every endpoint, of so many entries, each of which lets in what has a key of its own, on a TCP port of its own. So
+/// each identity gives each map so many entries.
+pub(crate) fn policy(alloc: Global, count: u32) -> Result<Request> {
+    let rule = rule(alloc, everyone(alloc)?, count)?;
+    apply(alloc, Text::from_str(alloc, "policy")?, rule)
+}
+
+/// The policy of that number, of so many entries, which selects no endpoint.
+pub(crate) fn other_policy(alloc: Global, number: u32, count: u32) -> Result<Request> {
+    let rule = rule(alloc, nobody(alloc)?, count)?;
+    apply(alloc, name(alloc, "other", number)?, rule)
 }

@@ -39,13 +39,15 @@ fn measure<R: Clock + AllocGlobal>(rt: &R, sizes: Sizes) -> Result<Figures> {
 fn tell<R: Clock + Eprint + AllocGlobal>(rt: &R, sizes: Sizes) -> Result<()> {
     let figures = measure(rt, sizes)?;
     eprintln!(rt;
-        "{} maps of {} identities by {} filters, {} commits before: takes {} ns, finishes {} ns",
+        "{} maps of {} identities by {} filters beside {} other policies, {} commits before: takes {} ns, finishes {} ns, takes where nothing changed {} ns",
         sizes.endpoints,
         sizes.identities,
         sizes.filters,
+        sizes.others,
         sizes.before.wrapping_mul(2),
         figures.takes,
-        figures.finishes
+        figures.finishes,
+        figures.again
     )?;
     Ok(())
 }
@@ -63,6 +65,7 @@ fn sizes_with(doubled: Doubled, count: u32) -> Sizes {
     let mut sizes = Sizes {
         endpoints: 256,
         filters: 1,
+        others: 0,
         identities: 256,
         before: 0,
     };
@@ -84,11 +87,17 @@ fn double<R: Clock + Eprint + AllocGlobal>(rt: &R, doubled: Doubled, least: u32)
     Ok(())
 }
 
-/// Filters as `delta_bench` has them: each selects ten identities, and then one more.
-fn measure_filters<R: Clock + Eprint + AllocGlobal>(rt: &R, filters: u32) -> Result<()> {
+/// Filters as `delta_bench` has them, each of which selects ten identities, and then one more, beside so many policies that
+/// select no endpoint.
+fn measure_filters<R: Clock + Eprint + AllocGlobal>(
+    rt: &R,
+    filters: u32,
+    others: u32,
+) -> Result<()> {
     let sizes = Sizes {
         endpoints: 256,
         filters,
+        others,
         identities: 10,
         before: 0,
     };
@@ -96,9 +105,10 @@ fn measure_filters<R: Clock + Eprint + AllocGlobal>(rt: &R, filters: u32) -> Res
 }
 
 fn main(rt: HostRuntime) -> Result<()> {
-    measure_filters(&rt, 1)?;
-    measure_filters(&rt, 10)?;
-    measure_filters(&rt, 100)?;
+    measure_filters(&rt, 1, 0)?;
+    measure_filters(&rt, 10, 0)?;
+    measure_filters(&rt, 100, 0)?;
+    measure_filters(&rt, 10, 1_000)?;
     double(&rt, Doubled::Identities, 256)?;
     double(&rt, Doubled::Endpoints, 16)?;
     double(&rt, Doubled::Commits, 2_048)

@@ -1,6 +1,6 @@
 //! Commits, takes and finishes, and how long these take.
 
-use crate::asked::{endpoint, identity, no_identity, policy};
+use crate::asked::{endpoint, identity, no_identity, other_policy, policy};
 use anyhow::Result;
 use pol_core::{Event, Machine};
 use pol_data::Steps;
@@ -16,6 +16,8 @@ pub(crate) struct Sizes {
     pub(crate) endpoints: u32,
     /// Filters that take each identity, and so entries of a map for each identity.
     pub(crate) filters: u32,
+    /// Policies of as many entries beside, which select no endpoint.
+    pub(crate) others: u32,
     /// Identities that stay.
     pub(crate) identities: u32,
     /// How often an identity came and went before.
@@ -25,11 +27,12 @@ pub(crate) struct Sizes {
 /// How often the identity comes and goes; the shortest figures count.
 const ROUNDS: u32 = 10;
 
-/// Nanoseconds of the takes and of the finishes of all endpoints.
+/// Nanoseconds of the takes and of the finishes of all endpoints, and of takes where nothing has changed since.
 #[derive(Clone, Copy)]
 pub(crate) struct Figures {
     pub(crate) takes: u128,
     pub(crate) finishes: u128,
+    pub(crate) again: u128,
 }
 
 impl Figures {
@@ -38,6 +41,7 @@ impl Figures {
         Figures {
             takes: self.takes.min(other.takes),
             finishes: self.finishes.min(other.finishes),
+            again: self.again.min(other.again),
         }
     }
 }
@@ -108,6 +112,22 @@ fn fill_before<R: AllocGlobal, L: Ledger>(
     Ok(())
 }
 
+fn fill_others<R: AllocGlobal, L: Ledger>(
+    rt: &R,
+    machine: &mut Machine,
+    sizes: Sizes,
+    steps: &mut Steps<L>,
+) -> Result<()> {
+    for number in 0..sizes.others {
+        commit(
+            machine,
+            other_policy(rt.alloc(), number, sizes.filters)?,
+            steps,
+        )?;
+    }
+    Ok(())
+}
+
 fn fill<R: AllocGlobal, L: Ledger>(
     rt: &R,
     machine: &mut Machine,
@@ -116,6 +136,7 @@ fn fill<R: AllocGlobal, L: Ledger>(
 ) -> Result<()> {
     fill_endpoints(rt, machine, sizes.endpoints, steps)?;
     commit(machine, policy(rt.alloc(), sizes.filters)?, steps)?;
+    fill_others(rt, machine, sizes, steps)?;
     fill_identities(rt, machine, sizes, steps)?;
     fill_before(rt, machine, sizes, steps)
 }
@@ -134,7 +155,7 @@ fn finish_all<L: Ledger>(machine: &mut Machine, slots: u32, steps: &mut Steps<L>
     Ok(())
 }
 
-/// Takes and finishes each slot.
+/// Takes and finishes each slot, and takes it again.
 fn time_turns<R: Clock, L: Ledger>(
     rt: &R,
     machine: &mut Machine,
@@ -147,7 +168,14 @@ fn time_turns<R: Clock, L: Ledger>(
     let start = Instant::now(rt)?;
     finish_all(machine, slots, steps)?;
     let finishes = start.elapsed(rt)?.as_nanos();
-    Ok(Figures { takes, finishes })
+    let start = Instant::now(rt)?;
+    take_all(machine, slots, steps)?;
+    let again = start.elapsed(rt)?.as_nanos();
+    Ok(Figures {
+        takes,
+        finishes,
+        again,
+    })
 }
 
 /// An identity more comes, and each map follows; it goes, and each map follows.
