@@ -48,7 +48,7 @@ impl Over {
     }
 
     /// Whether it was set.
-    pub(crate) fn is_set(&self) -> bool {
+    pub fn is_set(&self) -> bool {
         self.flag.load(Ordering::SeqCst)
     }
 }

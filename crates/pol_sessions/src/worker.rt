@@ -13,21 +13,40 @@ use pol_phases::Commands;
 use pol_pool::{Calls, Gate, HintPass, Hints, Job, Over, work};
 use std::alloc::Global;
 use std::sync::Wait;
+use std::thread;
 use std::thread::{Threads, join};
 
-/// What a worker does with a hint: it regenerates the slot.
+/// How many times a worker yields the processor behind a regeneration, until the end is told.
+const YIELDS: u32 = 512;
+
+/// What a worker does with a hint: it regenerates the slot, and rests.
 #[derive(Drop)]
 struct Regenerating<'a, N: NodeName, R: Wait + Drop>
 where
     Face<N>: Absorb<FaceOp<N>>,
 {
     node: &'a Node<N, R>,
+    over: &'a Over,
+}
+
+/// Yields, so that threads go first that wait for the desk, which a regeneration holds for a while. Once the end was told
+/// nobody has to go first. No clause speaks of it.
+fn rest(over: &Over) {
+    for _ in 0..YIELDS {
+        if over.is_set() {
+            return;
+        }
+        thread::yield_now();
+    }
 }
 
 impl<'a, N: NodeName, R: Wait + Drop> Job for Regenerating<'a, N, R> {
     fn run<W: Wait>(&self, rt: &W, alloc: Global, slot: u32) -> Result<(), Memory> {
         match self.node.regenerate(rt, alloc, slot) {
-            Ok(_) => Ok(()),
+            Ok(_) => {
+                rest(self.over);
+                Ok(())
+            }
             Err(_) => Err(Memory),
         }
     }
@@ -71,7 +90,7 @@ fn serve<
                 alloc,
                 hints,
                 &mut other,
-                &Regenerating { node },
+                &Regenerating { node, over },
                 gate,
                 calls,
                 over,
