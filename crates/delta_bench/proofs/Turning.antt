@@ -1,5 +1,5 @@
 -- The conditions of a turn.
-use Rattle.std.proofs.Common.{◌≡◌, ℕ, ◌+◌, ◌<◌, ◌==◌, Bool, true, false, List, [], ◌∷◌, ◌++◌, length, append-nil, Option, Some, None, IfSome, IsTrue, MatchOption, find, refl, sym, ◌∙◌, ap, subst, arith}
+use Rattle.std.proofs.Common.{◌≡◌, ℕ, ◌+◌, ◌<◌, true, false, List, [], ◌∷◌, ◌++◌, length, append-nil, Option, Some, None, IfSome, IsTrue, MatchOption, find, refl, sym, ◌∙◌, ap, subst, arith}
 use Rattle.std.specs.Arc.{arc_value}
 use Rattle.std.specs.List.{AllByRecursion, Contains, slice_index_or}
 use Rattle.std.specs.Option.{option_map_or}
@@ -14,14 +14,13 @@ use Rattle.pol_sets.specs.declared.sets.Move.{Move}
 use Rattle.pol_sets.specs.declared.sets.SetRow.{SetRow}
 use Rattle.pol_sets.specs.Sets.{has_set, is_row_of, set_given}
 use Rattle.pol_change_log.specs.Ids.{without}
-use Rattle.pol_change_log.specs.Sets.{IsMove}
 use Rattle.pol_l4.specs.declared.filter.Filter.{Filter}
 use Rattle.pol_l4.specs.declared.filter.Filters.{Filters}
 use Rattle.pol_distill.specs.Sorted.{HaveSets, ListHasSets, PeersHaveSets}
 use Rattle.pol_delta.specs.Applies.{HasMove, MovesTell, NamesFilters, all_filters}
-use Rattle.pol_delta.specs.Work.{AllListed, AllOfFilters, AllOfPeers, IsWorkOf, WorkOf}
+use Rattle.pol_delta.specs.Work.{AllOfFilters, AllOfPeers, IsWorkOf, WorkOf}
 use Rattle.pol_delta.specs.declared.changes.Changes.{Changes}
-use Rattle.delta_bench.specs.Turns.{AllAt, IsAt, MoveAt, RowAt, Turns}
+use Rattle.delta_bench.specs.Turns.{AllAt, IsAt, RowAt, Turns}
 
 both_of : (P Q R : Peer → Type 0) → ((p : Peer) → P p → Q p → R p) → (ps : List Peer) → AllByRecursion P ps → AllByRecursion Q ps → AllByRecursion R ps
 both_of P Q R make [] ones others = tt

@@ -1,10 +1,8 @@
 -- Two policies of three rules each, of which the second is for others, with entries that cover something and one that doesn't.
 use Rattle.std.specs.Prelude.{ℕ, Bool, List, [], ◌∷◌, codes, map}
-use Rattle.pol_labels.specs.declared.label.Label.{Label}
 use Rattle.pol_ports.specs.declared.Direction.{Direction}
 use Rattle.pol_rule.specs.declared.policy.Entry.{Entry}
 use Rattle.pol_rule.specs.declared.policy.Peers.TheVariants.{Every, Listed}
-use Rattle.pol_rule.specs.declared.policy.Policy.{Policy}
 use Rattle.pol_rule.specs.declared.policy.Rule.{Rule}
 use Rattle.pol_rule.specs.declared.policy.Section.{Section}
 use Rattle.pol_model.specs.declared.row.Stamped.{Stamped}

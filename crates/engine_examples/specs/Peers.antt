@@ -1,12 +1,12 @@
 -- Small selectors and rows, for laws that say under what they stand.
-use Rattle.std.specs.Prelude.{ℕ, ◌+◌, ◌*◌, ◌^◌, true, false, List, [], ◌∷◌, codes, map, None, Some}
+use Rattle.std.specs.Prelude.{ℕ, ◌+◌, ◌*◌, ◌^◌, true, List, [], ◌∷◌, codes, map, None, Some}
 use Rattle.pol_addr.specs.declared.network.Prefix.{Prefix}
 use Rattle.pol_labels.specs.declared.requirement.Operator.{Operator}
 use Rattle.pol_labels.specs.declared.requirement.Operator.TheVariants.{OneOf, Present}
 use Rattle.pol_labels.specs.declared.requirement.Requirement.{Requirement}
 use Rattle.pol_model.specs.declared.row.IdentityRow.{IdentityRow}
 use Rattle.pol_model.specs.Worlds.{reserved_label}
-use Rattle.pol_model_laws.specs.Examples.{app, net, wide}
+use Rattle.pol_model_laws.specs.Examples.{app, net}
 
 -- `app In [a]`, and the same of a key `tier`; two values; and a key that is there
 abbrev pub asks : List ℕ → List (List ℕ) → Requirement

@@ -1,5 +1,5 @@
 -- Each answer is read again from its text, but for the bytes that are printed as `?`.
-use Rattle.std.proofs.Common.{◌≡◌, ◌≢◌, codes, ne_eqb, ℕ, suc, ◌<◌, ◌≤◌, Bool, true, false, cond, ◌&&◌, ◌==◌, nat_le, List, [], ◌∷◌, ◌++◌, length, drop, Option, Some, None, is_some, IsTrue, refl, sym, ap, subst, ◌∙◌, arith, append_assoc, length-append, eqb-true}
+use Rattle.std.proofs.Common.{◌≡◌, ◌≢◌, codes, ne_eqb, ℕ, suc, ◌≤◌, Bool, true, false, cond, ◌&&◌, ◌==◌, nat_le, List, [], ◌∷◌, ◌++◌, length, drop, Option, Some, None, is_some, IsTrue, refl, sym, ap, subst, ◌∙◌, arith, append_assoc, length-append, eqb-true}
 use Rattle.std.specs.Fmt.{decimal}
 use Rattle.std.specs.List.{flat_map, list_all}
 use Rattle.std.proofs.lemmas.Bool.{false≢true}

@@ -1,11 +1,10 @@
 -- What entries say of a port, by the last of them that has it: where keys are in order, that one's key is the longest.
-use Rattle.std.specs.Prelude.{ℕ, Bool, false, not, nat_le, ◌||◌, ◌==◌, List, [], ◌∷◌, Option, Some, None, option_map, filter, is_some, if◌then◌else◌}
+use Rattle.std.specs.Prelude.{ℕ, Bool, false, not, nat_le, ◌==◌, List, [], ◌∷◌, Option, Some, None, option_map, filter, if◌then◌else◌}
 use Rattle.std.specs.List.Sorted.{IsNonDecreasingBy}
 use Rattle.pol_ports.specs.declared.Proto.{Proto}
 use Rattle.pol_ports.specs.PortPrefix.{prefix_holds}
 use Rattle.pol_mapkey.specs.declared.Kind.{Kind}
 use Rattle.pol_mapkey.specs.declared.Word.{Word}
-use Rattle.pol_mapkey.specs.declared.Word.TheVariants.{Allowed, DeniedByRule, DeniedByDefault}
 use Rattle.pol_mapkey.specs.Entries.{Entry, word_of_kinds}
 use Rattle.pol_mapkey.specs.KeyProto.{key_proto, proto_covers}
 

@@ -1,24 +1,19 @@
 -- Rows after a change.
-use Rattle.std.proofs.Common.{◌≡◌, ℕ, ◌+◌, ◌≤◌, ◌==◌, ◌⊎◌, inl, inr, Bool, true, false, cond, List, [], ◌∷◌, length, Option, None, Some, refl, sym, ap, ◌∙◌, subst, arith, bytes_eq}
-use Rattle.std.specs.Arc.{arc_value}
+use Rattle.std.proofs.Common.{◌≡◌, ℕ, ◌==◌, inl, inr, Bool, true, false, cond, List, [], ◌∷◌, length, Option, None, Some, refl, sym, ap, ◌∙◌, subst, arith, bytes_eq}
 use Rattle.std.specs.FinMap as finite
 use Rattle.std.specs.Cmp.Lexicographic.{bytes_decides}
 use Rattle.indexmap.specs.IndexMap.{IndexMap, get}
-use Rattle.std.proofs.lemmas.Bool.Decides.{eqb_tells, nat_tests}
-use Rattle.pol_addr.specs.declared.address.Addr.{Addr}
+use Rattle.std.proofs.lemmas.Bool.Decides.{nat_tests}
 use Rattle.pol_addresses.specs.AddressTable.{AddressTable, number_in}
 use Rattle.pol_data.specs.contracts.text.TextPartialEq.TheImpl as text
 use Rattle.pol_change_list.specs.declared.change.Change.{Change}
 use Rattle.pol_change_list.specs.Changes.{changed}
-use Rattle.pol_mapkey.specs.Entries.{Entry as MapEntry}
 use Rattle.pol_mapkey.specs.MapKey.{key_cmp}
 use Rattle.pol_mapkey.specs.declared.Kind.{Kind}
-use Rattle.pol_trie.specs.PolicyMap.{PolicyMap}
-use Rattle.pol_history.specs.declared.event.EndpointId.{EndpointId}
 use Rattle.pol_history.specs.Content.{BoardRow, PublishedMap, if_of, with_change, with_row}
 use Rattle.pol_board_view.specs.declared.row.FaceRow.{FaceRow}
 use Rattle.pol_board_view.specs.declared.row.FaceMap.{FaceMap}
-use Rattle.pol_board_view.specs.Rows.{ChangesMap, Holds, HoldsMap, HoldsRow, IsHeld, IsMap, IsShownFirst, IsShownLess, IsShownMore, Leads, row_with, table_in}
+use Rattle.pol_board_view.specs.Rows.{ChangesMap, Holds, HoldsMap, HoldsRow, IsHeld, IsMap, IsShownFirst, IsShownLess, IsShownMore, row_with}
 
 no_length : {X : Type 0} (xs : List X) → length xs ≡ 0 → xs ≡ []
 no_length [] none = refl

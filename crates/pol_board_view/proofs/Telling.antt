@@ -1,5 +1,5 @@
 -- What a change says of the content and of the number of commits after its event.
-use Rattle.std.proofs.Common.{◌≡◌, ℕ, ◌+◌, ◌==◌, Bool, true, false, List, [], ◌∷◌, ◌++◌, take, length, Option, None, Some, Result, Ok, Err, OnOk, refl, sym, ap, ◌∙◌, subst, arith, length-append}
+use Rattle.std.proofs.Common.{◌≡◌, ℕ, ◌+◌, List, [], ◌∷◌, ◌++◌, take, length, Option, None, Some, Result, Ok, Err, OnOk, refl, sym, ap, ◌∙◌, subst, arith, length-append}
 use Rattle.std.specs.Arc.{arc_value}
 use mathlib.Core.List.{IsPrefix}
 use Rattle.indexmap.specs.IndexMap.{IndexMap, get}
@@ -9,7 +9,6 @@ use Rattle.pol_change_list.specs.declared.change.Change.{Change as Edit}
 use Rattle.pol_mapkey.specs.Entries.{Entry as MapEntry}
 use Rattle.pol_model.specs.After.{state_of}
 use Rattle.pol_model.specs.declared.options.Options.{Options}
-use Rattle.pol_model.specs.declared.request.Request.{Request}
 use Rattle.pol_model.specs.declared.request.Request.TheVariants.{AddEndpoint, RemoveEndpoint, AddIdentity, RemoveIdentity, Apply, Remove, SetMode}
 use Rattle.pol_history.specs.declared.event.EndpointId.{EndpointId}
 use Rattle.pol_history.specs.declared.event.HistoryEvent.{HistoryEvent}
@@ -17,7 +16,7 @@ use Rattle.pol_history.specs.declared.event.HistoryEvent.TheVariants as event
 use Rattle.pol_model.specs.declared.row.Endpoint.{Endpoint}
 use Rattle.pol_history.specs.declared.event.LastReport.{LastReport}
 use Rattle.pol_history.specs.Commits.{Lives, commits_in, revision_of, state_now}
-use Rattle.pol_history.specs.Held.{IsShownRow, ShowsRow}
+use Rattle.pol_history.specs.Held.{ShowsRow}
 use Rattle.pol_history.specs.Legal.{IsLegal}
 use Rattle.pol_history.specs.Machine.{endpoint_id}
 use Rattle.pol_history.specs.Reports.{last_report}
@@ -32,7 +31,7 @@ use Rattle.pol_board_view.specs.declared.change.FaceChange.{FaceChange}
 use Rattle.pol_board_view.specs.declared.change.FaceChange.TheVariants as change
 use Rattle.pol_board_view.specs.declared.row.FaceRow.{FaceRow}
 use Rattle.pol_board_view.specs.Changes.{IsMadeOf, Tells, commit_count, table_held}
-use Rattle.pol_board_view.specs.Rows.{ChangesMap, Holds, HoldsRow, IsHeld, row_with}
+use Rattle.pol_board_view.specs.Rows.{ChangesMap, Holds, HoldsRow, row_with}
 
 module _ (options : Options) (history : List HistoryEvent) where
   abbrev before : Content

@@ -1,5 +1,5 @@
 -- What a change says of the event that it belongs to.
-use Rattle.std.specs.Prelude.{⊤, ◌≡◌, ℕ, ◌==◌, Bool, true, false, List, [], ◌∷◌, ◌++◌, length, take, Option, None, Some}
+use Rattle.std.specs.Prelude.{◌≡◌, ℕ, Bool, true, false, List, [], ◌∷◌, ◌++◌, take, Option, None, Some}
 use Rattle.std.specs.Arc.{arc_value}
 use Rattle.pol_addr.specs.declared.address.Addr.{Addr}
 use Rattle.pol_addresses.specs.AddressTable.{AddressTable, number_in}
@@ -9,11 +9,10 @@ use Rattle.pol_model.specs.declared.request.Request.{Request}
 use Rattle.pol_model.specs.declared.request.Request.TheVariants.{AddEndpoint, RemoveEndpoint}
 use Rattle.pol_change_list.specs.declared.change.Change.{Change as Edit}
 use Rattle.pol_mapkey.specs.Entries.{Entry as MapEntry}
-use Rattle.pol_history.specs.declared.event.EndpointId.{EndpointId}
 use Rattle.pol_history.specs.declared.event.HistoryEvent.{HistoryEvent}
 use Rattle.pol_history.specs.declared.event.HistoryEvent.TheVariants as event
 use Rattle.pol_history.specs.Commits.{commits_in}
-use Rattle.pol_history.specs.Content.{BoardRow, Content, content_of, numbers_in}
+use Rattle.pol_history.specs.Content.{BoardRow, content_of, numbers_in}
 use Rattle.pol_history_log.specs.Asked.{id_of}
 use Rattle.pol_board_view.specs.declared.change.FaceChange.{FaceChange}
 use Rattle.pol_board_view.specs.declared.change.FaceChange.TheVariants as change

@@ -29,7 +29,8 @@ fn change_one(trie: &mut PolicyTrie, change: &Change) -> Result<(), Memory>
 impl ChangeList {
     #[tactic(auto, using(crate::proofs::Making::changed_more, crate::proofs::Making::sets_left, crate::proofs::Making::len_once))]
     /// Makes the changes in a map, one after the other. The one error is want of memory, and then some of the changes
-    /// are made, from the first on: all of them once more make what they would have made.
+    /// are made, from the first on: all of them once more make what they would have made. Behind each `Clear` of a key that
+    /// was there the map gives room back; want of memory there is no error.
     pub fn apply_to(&self, trie: &mut PolicyTrie) -> Result<(), Memory>
         requires few { finite.len trie.old + set_count self.now ≤ 1000000 }
         ensures ok { OnOk result (trie.new ≡ changed self.now trie.old) }

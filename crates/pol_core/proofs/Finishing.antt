@@ -44,7 +44,7 @@ use Rattle.pol_model.specs.declared.row.Endpoint.{Endpoint}
 use Rattle.pol_repo.specs.Repository.{state_in}
 use Rattle.pol_taken.specs.declared.taken.Taken.{Taken}
 use Rattle.pol_core.specs.Parts as parts
-use Rattle.pol_core.specs.Parts.{HasFewKeys, Finishes, FinishesRow, FinishesSlot, FinishesTaken, IsMadeOf, MayFinishTaken, PublishesRow, TakesOf, WasBlocked, WasFinished, WasGone, WasLeft, WasPublished, with_slot}
+use Rattle.pol_core.specs.Parts.{HasFewKeys, Finishes, FinishesSlot, FinishesTaken, IsMadeOf, MayFinishTaken, PublishesRow, TakesOf, WasFinished, WasGone, WasLeft, with_slot}
 use Rattle.pol_core.specs.Rows.{RowsOf, live_held, map_held, row_held, trie_of, with_one}
 use Rattle.pol_core.specs.Stands.{GoesFrom, IsKeptRow, IsKeptWork, IsTakenFor, Kept, StandsFor, Steps, options_of, taken_as}
 use Rattle.pol_core.specs.declared.row.MachineRow.{MachineRow}

@@ -7,7 +7,6 @@ use Rattle.pol_data.proofs.Members.{In}
 use Rattle.pol_history.specs.declared.event.EndpointId.{EndpointId}
 use Rattle.pol_history.specs.declared.event.HistoryEvent.{HistoryEvent}
 use Rattle.pol_history.specs.declared.event.LastReport.{LastReport}
-use Rattle.pol_history.specs.declared.machine.Event.{Event}
 use Rattle.pol_history.specs.Commits.{state_now}
 use Rattle.pol_history.specs.Held.{ShowsRow}
 use Rattle.pol_history.specs.Machine.{Machine, endpoint_id}
@@ -24,7 +23,7 @@ use Rattle.pol_model.specs.declared.row.Endpoint.{Endpoint}
 use Rattle.pol_model.specs.FullRows.{FullRowsAscend}
 use Rattle.pol_repo.specs.Repository.{state_in}
 use Rattle.pol_core.specs.Full.{row_by, row_kept, row_told}
-use Rattle.pol_core.specs.Rows.{RowsOf, row_held}
+use Rattle.pol_core.specs.Rows.{row_held}
 use Rattle.pol_core.specs.Serial.{ListsRows, row_of, row_reported, rows_in, turn_of, turns_at, turns_in}
 use Rattle.pol_core.specs.Stands.{Kept, StandsFor, TellsFull, options_of}
 use Rattle.pol_core.specs.declared.row.MachineRow.{MachineRow}

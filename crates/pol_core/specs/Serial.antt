@@ -8,7 +8,6 @@ use Rattle.pol_history.specs.declared.event.HistoryEvent.{HistoryEvent}
 use Rattle.pol_history.specs.declared.event.LastReport.{LastReport}
 use Rattle.pol_history.specs.declared.machine.Event.{Event}
 use Rattle.pol_history.specs.declared.machine.Event.TheVariants as step
-use Rattle.pol_history.specs.declared.machine.Reply.{Reply}
 use Rattle.pol_history.specs.declared.machine.Reply.TheVariants as reply
 use Rattle.pol_history.specs.Commits.{revision_of, state_now}
 use Rattle.pol_history.specs.Machine.{Machine, endpoint_id, machine_from, step_of}

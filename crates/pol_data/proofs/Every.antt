@@ -1,6 +1,6 @@
 -- What holds of every element of a list, by recursion on it. `All` of the kit is the same by places: `All-from_recursion` and
 -- `recursion_from_All` (`Rattle.std.proofs.lemmas.List.Elements`) lead from one to the other.
-use Rattle.std.proofs.Common.{◌≡◌, ℕ, zero, suc, ◌<◌, Bool, true, false, cond, IsTrue, List, [], ◌∷◌, ◌++◌, length, get_or, take, drop, map, filter, Option, Some, refl, sym, subst}
+use Rattle.std.proofs.Common.{◌≡◌, ℕ, zero, suc, Bool, true, false, cond, IsTrue, List, [], ◌∷◌, ◌++◌, take, drop, map, filter, Some, refl, subst}
 use Rattle.std.specs.List.{AllByRecursion, Contains, find, flat_map, insert}
 use Rattle.std.proofs.lemmas.List.Elements.{All-contains, All-from_recursion}
 use Rattle.std.proofs.lemmas.Option.{same_Some}

@@ -1,4 +1,4 @@
-pub mod SameRows
+pub mod Works
 pub mod Given
 pub mod Staying
 pub mod Standing

@@ -1,5 +1,5 @@
 -- Filters that stay, and the moves of their peers.
-use Rattle.std.proofs.Common.{◌≡◌, ◌++◌, List}
+use Rattle.std.proofs.Common.{List}
 use Rattle.pol_data.proofs.Every.{every-weaker}
 use Rattle.std.proofs.lemmas.List.Elements.{Contains-append_left, Contains-append_right}
 use Rattle.pol_rule.specs.declared.policy.Peer.{Peer}
@@ -10,7 +10,7 @@ use Rattle.pol_sets.specs.declared.sets.SetRow.{SetRow}
 use Rattle.pol_l4.specs.declared.filter.Filters.{Filters}
 use Rattle.pol_raw_entries.specs.Told.{IsTold, PeersTold, Stays}
 use Rattle.pol_delta.specs.Applies.{HasMove, MovesTell, NamesFilters}
-use Rattle.pol_delta.specs.Work.{AllOfPeers, WorkOf}
+use Rattle.pol_delta.specs.Work.{AllOfPeers}
 
 module _ (was is : List SetRow) (moves : List Move) where
   is_told : (p : Peer) → HasMove was is moves p → IsTold was is moves p

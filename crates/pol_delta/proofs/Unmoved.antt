@@ -1,5 +1,5 @@
 -- A work that stays as it is: no filter comes or goes, and no set moves.
-use Rattle.std.proofs.Common.{◌≡◌, ℕ, Bool, true, false, not, ◌&&◌, List, [], ◌∷◌, ◌++◌, map, filter, refl, sym, ap, ◌∙◌, subst}
+use Rattle.std.proofs.Common.{◌≡◌, ℕ, Bool, true, false, not, ◌&&◌, List, map, filter, refl, sym, ap, ◌∙◌, subst}
 use Rattle.std.specs.List.{AllByRecursion, Contains}
 use Rattle.std.proofs.lemmas.List.Elements.{Contains-append_left, Contains-append_right}
 use Rattle.pol_data.proofs.Every.{every-contained, every-kept, every-map, every-weaker}
@@ -11,7 +11,7 @@ use Rattle.pol_rule.specs.declared.policy.Peers.{Peers}
 use Rattle.pol_rule.specs.declared.policy.Peers.TheVariants.{Every, Listed}
 use Rattle.pol_model_laws.specs.MapFacts.{AgreeOnEntries, AgreeOnParts, AgreeOnPeers}
 use Rattle.pol_model_laws.proofs.PeerSets.{map_same}
-use Rattle.pol_sets.specs.Ids.{has, without}
+use Rattle.pol_sets.specs.Ids.{has}
 use Rattle.pol_sets.specs.Sets.{set_given}
 use Rattle.pol_sets.specs.declared.sets.Move.{Move}
 use Rattle.pol_sets.specs.declared.sets.SetRow.{SetRow}
@@ -24,8 +24,8 @@ use Rattle.pol_distill.specs.Distilled.{distilled}
 use Rattle.pol_raw_entries.specs.PeerRow.{Ascend, IsStill}
 use Rattle.pol_raw_entries.specs.Told.{NamesOne}
 use Rattle.pol_raw_entries.proofs.FirstRow.{given_ascends}
-use Rattle.pol_delta.specs.Applies.{HasMove, MovesTell, NamesFilters, StandsIn, all_filters}
-use Rattle.pol_delta.specs.Work.{AllListed, AllOfFilters, AllOfPeers, HasSameModes, IsWorkOf, WorkOf, map_of}
+use Rattle.pol_delta.specs.Applies.{HasMove, MovesTell, NamesFilters, all_filters}
+use Rattle.pol_delta.specs.Work.{AllListed, AllOfFilters, AllOfPeers, HasSameModes, IsWorkOf, WorkOf}
 
 -- ---- a move that moves nothing
 neither : (a b : Bool) → (not b && a) ≡ false → a ≡ true → b ≡ true

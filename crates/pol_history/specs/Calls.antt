@@ -1,6 +1,6 @@
 -- What a call with a pass may answer, where `old` is what the pass had seen before the call, and `new` is what it has
 -- seen after it.
-use Rattle.std.specs.Prelude.{◌≡◌, ℕ, ◌+◌, ◌<◌, ◌≤◌, ◌⊎◌, List, ◌∷◌, length, take, slice_get, None, Some}
+use Rattle.std.specs.Prelude.{◌≡◌, ℕ, ◌+◌, ◌<◌, ◌≤◌, ◌⊎◌, List, length, take, slice_get, None, Some}
 use Rattle.std.specs.List.{AllByRecursion, Contains}
 use Rattle.pol_mapkey.specs.Entries.{Entry as MapEntry}
 use Rattle.pol_model.specs.Committed.{identity_given, slots_of}

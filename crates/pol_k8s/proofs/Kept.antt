@@ -10,7 +10,7 @@ use Rattle.pol_labels.specs.declared.requirement.Requirement.{Requirement}
 use Rattle.pol_ports.specs.declared.Direction.{Direction}
 use Rattle.pol_ports.specs.declared.Direction.TheVariants.{Ingress, Egress}
 use Rattle.pol_ports.specs.declared.Proto.{Proto}
-use Rattle.pol_rule.specs.Covers.{entry_covers, has_effect, has_ports, peers_take, ports_cover}
+use Rattle.pol_rule.specs.Covers.{entry_covers, has_ports, ports_cover}
 use Rattle.pol_rule.specs.declared.cause.RuleCause.{RuleCause}
 use Rattle.pol_rule.specs.declared.fault.RuleFault.{RuleFault}
 use Rattle.pol_rule.specs.declared.policy.Entry.{Entry}

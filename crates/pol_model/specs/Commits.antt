@@ -1,5 +1,5 @@
 -- What one request does to the state: it commits, or it is refused. Each way of keeping the state has this form.
-use Rattle.std.specs.Prelude.{◌≡◌, Option, None, Some}
+use Rattle.std.specs.Prelude.{◌≡◌, None, Some}
 use Rattle.pol_model.specs.declared.answer.Committed.{Committed}
 use Rattle.pol_model.specs.declared.answer.Refused.{Refused}
 use Rattle.pol_model.specs.declared.request.Request.{Request}

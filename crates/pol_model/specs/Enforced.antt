@@ -1,5 +1,5 @@
 -- When a direction of an endpoint is enforced (Cilium, Policy Enforcement Modes).
-use Rattle.std.specs.Prelude.{ℕ, ◌==◌, ◌&&◌, ◌||◌, Bool, true, false, List, length, nat_lt}
+use Rattle.std.specs.Prelude.{◌==◌, ◌&&◌, ◌||◌, Bool, true, false, List, length, nat_lt}
 use Rattle.std.specs.List.{list_any}
 use Rattle.pol_labels.specs.Match.{matches}
 use Rattle.pol_ports.specs.declared.Direction.{Direction}

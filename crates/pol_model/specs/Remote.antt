@@ -1,5 +1,5 @@
 -- What an address is (Cilium, Terminology, "Identity"): by the numbers that are allocated, and apart from them.
-use Rattle.std.specs.Prelude.{ℕ, ◌==◌, Bool, false, List, find, Option, None, Some, option_map}
+use Rattle.std.specs.Prelude.{ℕ, ◌==◌, false, List, find, Option, None, Some, option_map}
 use Rattle.std.specs.List.{filter_map}
 use Rattle.std.specs.Option.{option_map_or}
 use Rattle.pol_addr.specs.declared.address.Addr.{Addr}

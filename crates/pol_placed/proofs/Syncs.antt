@@ -1,5 +1,5 @@
 -- What a placed `synced` line tells is right: its rows are exact, and none is missing.
-use Rattle.std.proofs.Common.{◌≡◌, ℕ, ◌<◌, ◌≤◌, inl, inr, List, ◌∷◌, take, slice_get, Some, ap, sym, ◌∙◌, subst, arith}
+use Rattle.std.proofs.Common.{◌≡◌, ℕ, ◌<◌, ◌≤◌, inl, inr, List, take, slice_get, Some, ap, sym, ◌∙◌, subst, arith}
 use Rattle.std.specs.List.{Contains}
 use Rattle.pol_model.specs.PolicyMap.{map_size}
 use Rattle.pol_model.specs.declared.answer.FullSlot.{FullSlot}

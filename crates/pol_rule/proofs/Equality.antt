@@ -1,5 +1,5 @@
 -- The derived `==` of each type is true exactly where both are one value.
-use Rattle.std.proofs.Common.{◌≡◌, ap, List, rules}
+use Rattle.std.proofs.Common.{◌≡◌, ap, rules}
 use Rattle.std.specs.Bool.{Decides}
 use Rattle.std.specs.Cmp.{booleans_Decides, unsigned_Decides}
 use Rattle.std.specs.Cmp.Lexicographic.{pointwise_decides, bytes_decides}

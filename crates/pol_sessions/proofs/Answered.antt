@@ -1,5 +1,5 @@
 -- What the calls of the node say is what lines of a session may answer.
-use Rattle.std.proofs.Common.{◌≡◌, ℕ, [], ◌∷◌, Result, Ok, Err, refl, sym, ap, ◌∙◌}
+use Rattle.std.proofs.Common.{◌≡◌, ℕ, [], ◌∷◌, sym, ap, ◌∙◌}
 use Rattle.pol_answer.specs.declared.answer.Answer.{Answer}
 use Rattle.pol_answer.specs.declared.answer.Answer.TheVariants as answer
 use Rattle.pol_model.specs.declared.answer.Committed.{Committed}

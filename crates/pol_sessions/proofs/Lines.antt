@@ -6,7 +6,7 @@ use Rattle.pol_answer.specs.declared.answer.Answer.{Answer}
 use Rattle.pol_model.specs.declared.options.Options.{Options}
 use Rattle.pol_model.specs.declared.request.Request.{Request}
 use Rattle.pol_script.specs.declared.command.Command.{Command}
-use Rattle.pol_history.specs.Grows.{Grows, PassGrows, PassState}
+use Rattle.pol_history.specs.Grows.{PassGrows, PassState}
 use Rattle.pol_history.specs.Legal.{IsLegal}
 use Rattle.pol_history.proofs.Meetings.{grows-same, passes-grow}
 use Rattle.pol_placed.specs.Placed.{Allows}

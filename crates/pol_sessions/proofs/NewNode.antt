@@ -1,5 +1,5 @@
 -- What a new node hands out, and a script that was played over it.
-use Rattle.std.proofs.Common.{◌≡◌, ◌<◌, ◌==◌, ◌||◌, ℕ, true, List, [], ◌∷◌, length, map, slice_get, Some, refl, sym, ap, ◌∙◌, subst, arith}
+use Rattle.std.proofs.Common.{◌≡◌, ◌<◌, ℕ, true, List, [], ◌∷◌, length, map, slice_get, Some, refl, sym, subst, arith}
 use Rattle.std.specs.List.{AllByRecursion}
 use Rattle.pol_answer.specs.declared.answer.Answer.{Answer}
 use Rattle.pol_model.specs.declared.options.Options.{Options}

@@ -1,5 +1,5 @@
 -- Sessions and phases one more, and what they keep of their passes.
-use Rattle.std.proofs.Common.{◌≡◌, true, ℕ, ◌+◌, List, [], ◌∷◌, ◌++◌, length, take, drop, refl, sym, ap, ◌∙◌, subst, append_assoc, append-nil, length-append, arith}
+use Rattle.std.proofs.Common.{◌≡◌, true, ℕ, ◌+◌, List, [], ◌∷◌, ◌++◌, length, take, drop, refl, sym, ap, ◌∙◌, subst, append_assoc, append-nil, arith}
 use Rattle.std.specs.List.{AllByRecursion}
 use Rattle.pol_answer.specs.declared.answer.Answer.{Answer}
 use Rattle.pol_model.specs.declared.options.Options.{Options}
@@ -7,7 +7,7 @@ use Rattle.pol_script.specs.declared.command.Command.{Command}
 use Rattle.pol_history.specs.declared.event.HistoryEvent.{HistoryEvent}
 use Rattle.pol_history.specs.Grows.{PassState}
 use Rattle.pol_history.specs.Meet.{has}
-use Rattle.pol_placed.specs.Seats.{ArePhases, HasPlayed, HavePlayed, IsPhase}
+use Rattle.pol_placed.specs.Seats.{ArePhases, HavePlayed, IsPhase}
 use Rattle.pol_placed.proofs.OneMore.{phase_more}
 
 -- the pass was handed out

@@ -66,7 +66,7 @@ impl Sets {
         self.rows.as_slice()
     }
 
-    /// The same rows once more, which are counted and not copied. The one error is that they are counted too often.
+    /// The same rows once more, which are counted and not copied. It takes no memory: the one error is that the count is at its end.
     pub fn share(&self) -> Result<Sets, Memory>
         ensures same { IfOk result (λ sets. sets ≡ self.now) }
     {

@@ -7,7 +7,7 @@ use std::alloc::Global;
 use std::marker::Model;
 use std::sync::Arc;
 
-/// A peer that is kept once, however many rows have it. A contract sees the peer.
+/// A peer that several rows may share. A contract sees the peer.
 #[derive(Debug, Drop)]
 pub struct SharedPeer {
     peer: Arc<Peer>,
@@ -39,7 +39,7 @@ impl SharedPeer {
         &self.peer
     }
 
-    /// The same peer once more, which is counted and not copied. The one error is that it is counted too often.
+    /// The same peer once more, which is counted and not copied. It takes no memory: the one error is that the count is at its end.
     pub fn share(&self) -> Result<SharedPeer, Memory>
         ensures same { IfOk result (λ shared. shared ≡ self.now) }
     {

@@ -1,5 +1,5 @@
 -- Peers that are listed, the rows that they were listed of, and those that are made of them.
-use Rattle.std.proofs.Common.{◌≡◌, ℕ, ◌<◌, ◌≤◌, ◌||◌, Bool, true, false, nat_eq, List, [], ◌∷◌, ◌++◌, map, IsTrue, IsSome, Option, None, Some, refl, sym, ap, ◌∙◌, subst, arith}
+use Rattle.std.proofs.Common.{◌≡◌, ℕ, ◌<◌, ◌||◌, Bool, true, false, nat_eq, List, [], ◌∷◌, map, IsTrue, IsSome, Option, None, Some, refl, sym, ap, ◌∙◌, subst, arith}
 use Rattle.std.specs.List.{AllByRecursion, Contains, IsDistinct, list_any}
 use Rattle.std.proofs.lemmas.Option.{same_Some}
 use Rattle.pol_data.proofs.Every.{every-append, every-map, every-weaker}
@@ -9,17 +9,17 @@ use Rattle.pol_rule.specs.declared.policy.Peers.{Peers}
 use Rattle.pol_rule.specs.declared.policy.Peers.TheVariants.{Every, Listed as ListedAs}
 use Rattle.pol_model_laws.proofs.Membership.{find-In}
 use Rattle.pol_sets.specs.declared.sets.SetRow.{SetRow}
-use Rattle.pol_sets.specs.Sets.{has_set, is_row_of}
+use Rattle.pol_sets.specs.Sets.{has_set}
 use Rattle.pol_l4.specs.declared.filter.Filter.{Filter}
 use Rattle.pol_l4.specs.declared.filter.Filters.{Filters}
-use Rattle.pol_distill.specs.Sorted.{HaveSets, ListHasSets, PeersHaveSets}
+use Rattle.pol_distill.specs.Sorted.{ListHasSets, PeersHaveSets}
 use Rattle.pol_selcache.specs.Cache.{Cache, IsSound}
 use Rattle.pol_selcache.specs.Live.{Live, number_of}
 use Rattle.pol_peers.specs.Listed.{peers_in}
 use Rattle.pol_peers.specs.Numbering.{TakesFreshNumbers}
 use Rattle.pol_peers.proofs.Found.{found_of, is_of}
 use Rattle.pol_taken.specs.Known.{HasNumber, IsKnownIn, IsListingOf, Listed, ListedPeers, is_listed_as, key_of}
-use Rattle.pol_taken.specs.PeerRows.{AreRowsFor, AreSetsFor, IsLiveRow, filter_peers, list_peers}
+use Rattle.pol_taken.specs.PeerRows.{AreSetsFor, IsLiveRow, filter_peers, list_peers}
 use Rattle.pol_taken.proofs.Adding.{are_sets}
 
 -- ---- lists that are mapped

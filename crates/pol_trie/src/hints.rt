@@ -16,7 +16,7 @@ pub(crate) struct Hints {
     places: Vec<u32>,
 }
 
-/// The slots of identity 0, which every look seeks. They are the first, and no other identity has them.
+/// The slots of identity 0, one for each direction. They are the first, and no other identity has them.
 const OF_ZERO: usize = 2;
 
 /// The slot of a direction and an identity among so many. Identities that follow one another have slots of their own.

@@ -45,7 +45,7 @@ impl Model for PortTrie {
     ghost invariant = { λ t. IsTrie t.nodes t.root };
 }
 
-/// Makes room for a prefix, if it has no kind yet. Whether it has one is asked only where there is no memory.
+/// Makes room for two nodes. Where there is no memory for them, that is an error only if the prefix has no kind yet.
 fn make_room(nodes: &mut Pool<Node>, root: Option<u32>, port: &PortPrefix) -> Result<(), Memory>
     requires { IsTrie nodes.old root }
     ensures trie { IsTrie nodes.new root }

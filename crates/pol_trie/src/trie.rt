@@ -107,9 +107,9 @@ impl PolicyTrie {
         there
     }
 
-    /// Gives room back, where the trie of the key's direction, identity and protocol has far more than it needs: of 16 nodes
-    /// or more that were once in use, at most a fourth still are. They move to room for them alone, and else nothing is
-    /// done. The map is as before, also after the one error, which is want of memory.
+    /// Gives room back in the trie of the key's direction, identity and protocol. Where at least 16 nodes were in use at once
+    /// since it was made or last moved, and at most a fourth of them are now, they move to room for them alone; else nothing
+    /// is done. The table of identities keeps its room. The one error is want of memory, and the map is as before in any case.
     pub fn give_back(&mut self, key: &MapKey) -> Result<(), Memory>
         ensures { self.new ≡ self.old }
     {

@@ -1,4 +1,4 @@
-use Rattle.std.proofs.Common.{◌∷◌, [], List, sym, subst, ◌∙◌, ap}
+use Rattle.std.proofs.Common.{List, sym, subst, ◌∙◌, ap}
 use Rattle.pol_model_laws.specs.Holding.{has_row}
 use Rattle.pol_model.specs.declared.row.IdentityRow.{IdentityRow}
 use Rattle.pol_selcache.specs.Cache.{MayCome}

@@ -1,4 +1,4 @@
-use Rattle.std.proofs.Common.{◌≡◌, [], ◌∷◌, nat_eq, sym, subst}
+use Rattle.std.proofs.Common.{[], ◌∷◌, nat_eq, sym, subst}
 use Rattle.std.specs.List.{IsDistinct}
 use Rattle.std.proofs.lemmas.Bool.{false≢true}
 use Rattle.engine_examples.proofs.taken.rows_have_selectors_of_their_own.Goals as goal

@@ -1,4 +1,4 @@
-use Rattle.std.proofs.Common.{◌≡◌, ◌+◌, ◌≤◌, arith}
+use Rattle.std.proofs.Common.{◌≡◌, arith}
 use Rattle.std.specs.FinMap as finite
 use Rattle.pol_mapkey.specs.MapKey.{key_cmp}
 use Rattle.pol_mapkey.specs.declared.Kind.{Kind}

@@ -1,4 +1,3 @@
-use Rattle.std.proofs.Common.{◌+◌, ◌≤◌}
 use Rattle.pol_board_view.proofs.row.show_more.Goals as goal
 
 pub apply_to-requires : goal.apply_to-requires

@@ -1,4 +1,4 @@
-use Rattle.std.proofs.Common.{◌≡◌, List, is_some, subst, ap, ◌∙◌}
+use Rattle.std.proofs.Common.{is_some, ap, ◌∙◌}
 use Rattle.std.proofs.lemmas.Result.{IfOk-weaker}
 use Rattle.pol_map_dump.proofs.Ending.{under_these}
 use Rattle.pol_map_dump.specs.AtEnd.{endpoint_after, map_text_after}

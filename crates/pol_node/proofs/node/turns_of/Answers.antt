@@ -1,5 +1,5 @@
 -- One turn more.
-use Rattle.std.proofs.Common.{◌≡◌, [], ◌∷◌, ◌++◌, List, length, sym, ap, subst, arith, length-append}
+use Rattle.std.proofs.Common.{[], ◌∷◌, ◌++◌, List, length, sym, ap, subst, arith, length-append}
 use Rattle.pol_history.specs.Commits.{revision_of}
 use Rattle.pol_history.specs.SlotTurns.{EachTells}
 use Rattle.pol_history.specs.declared.turn.SlotTurn.{SlotTurn}

@@ -1,4 +1,4 @@
-use Rattle.std.proofs.Common.{◌≡◌, length}
+use Rattle.std.proofs.Common.{◌≡◌}
 use Rattle.std.specs.VecDeque.{deque_len}
 use Rattle.pol_sessions.proofs.Seats.{ArePlayed}
 use Rattle.pol_sessions.proofs.phase.play_phases.Given as goal

@@ -1,5 +1,4 @@
-use Rattle.std.proofs.Common.{◌≡◌, length, true}
-use Rattle.pol_history.specs.Meet.{has}
+use Rattle.std.proofs.Common.{◌≡◌, length}
 use Rattle.pol_sessions.proofs.Lines.{IsHalfway}
 use Rattle.pol_sessions.proofs.session.play_counted.Given as goal
 

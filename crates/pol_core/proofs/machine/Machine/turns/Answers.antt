@@ -1,8 +1,7 @@
-use Rattle.std.proofs.Common.{◌<◌, ◌∙◌, length, refl, subst, take, arith}
-use Rattle.std.proofs.Math.Seq.{take-length}
+use Rattle.std.proofs.Common.{◌<◌, ◌∙◌, length, refl, take, arith}
 use Rattle.pol_history.specs.Machine.{machine_from}
 use Rattle.pol_core.specs.Serial.{turns_at}
-use Rattle.pol_core.specs.Stands.{Stands, options_in}
+use Rattle.pol_core.specs.Stands.{options_in}
 use Rattle.pol_core.proofs.Led.{slot_done, slot_within}
 use Rattle.pol_core.proofs.machine.Machine.turns.Goals as goal
 

@@ -8,7 +8,7 @@ use Rattle.pol_distill.specs.Distilled.{distilled}
 use Rattle.pol_change_list.specs.Changes.{IsDifference, table_of}
 use Rattle.pol_delta.specs.Kept.{IsKept}
 use Rattle.pol_delta.specs.Work.{IsWorkOf, WorkOf, map_of}
-use Rattle.pol_delta.proofs.SameRows.{fresh}
+use Rattle.pol_delta.proofs.Works.{fresh}
 use Rattle.pol_delta.proofs.work.Work.apply.Goals as goal
 
 -- what is kept is of the filters and rows that are shared

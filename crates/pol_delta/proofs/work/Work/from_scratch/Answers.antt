@@ -4,7 +4,7 @@ use Rattle.pol_l4.specs.declared.filter.Filters.{Filters}
 use Rattle.pol_distill.specs.Distilled.{distilled}
 use Rattle.pol_entry_tally.specs.Times.{times}
 use Rattle.pol_raw_entries.specs.Given.{raw_of}
-use Rattle.pol_delta.proofs.SameRows.{fresh}
+use Rattle.pol_delta.proofs.Works.{fresh}
 use Rattle.pol_delta.proofs.Standing.{tally_made}
 use Rattle.pol_delta.proofs.work.Work.from_scratch.Goals as goal
 

@@ -1,7 +1,6 @@
 use Rattle.std.proofs.Common.{◌≡◌, List, Option, IfSome, sym, ◌∙◌, subst}
 use Rattle.pol_distill.specs.Distilled.{distilled}
 use Rattle.pol_sets.specs.declared.sets.Move.{Move}
-use Rattle.pol_sets.specs.declared.sets.SetRow.{SetRow}
 use Rattle.pol_delta.specs.Applies.{MovesTell, NamesFilters}
 use Rattle.pol_delta.specs.Work.{IsWorkOf, WorkOf, map_of}
 use Rattle.pol_delta.proofs.work.Work.stays_by.Goals as goal

@@ -1,5 +1,5 @@
 -- The places are the passes of a new board, and the last ones are handed out.
-use Rattle.std.proofs.Common.{◌≡◌, ℕ, ◌+◌, ◌≤◌, List, Some, drop, length, sym, ap, ◌∙◌, subst, arith}
+use Rattle.std.proofs.Common.{◌≡◌, ℕ, ◌+◌, List, drop, length, sym, ap, ◌∙◌, subst, arith}
 use Rattle.std.proofs.lemmas.List.{length-drop}
 use Rattle.std.specs.List.{AllByRecursion, slice_get}
 use Rattle.pol_history.specs.Grows.{PassState, nothing_yet}

@@ -1,25 +1,20 @@
 -- A work of its own filters and rows.
-use Rattle.std.proofs.Common.{◌≡◌, ℕ, true, false, cond, List, [], ◌∷◌, IsTrue, map, find, Some, refl, sym, ◌∙◌, ap, subst}
-use Rattle.std.specs.Arc.{arc_value}
-use Rattle.std.specs.List.{AllByRecursion, list_any}
-use Rattle.std.specs.Option.{option_map_or}
-use Rattle.pol_data.proofs.Every.{every-weaker}
+use Rattle.std.proofs.Common.{◌≡◌, List, [], ◌∷◌, refl, sym, subst}
+use Rattle.std.specs.List.{AllByRecursion}
 use Rattle.pol_mapkey.specs.Entries.{Entry}
-use Rattle.pol_rule.specs.contracts.policy.PeerPartialEq.TheImpl as peer
 use Rattle.pol_rule.specs.declared.policy.Peer.{Peer}
 use Rattle.pol_rule.specs.declared.policy.Peers.{Peers}
 use Rattle.pol_rule.specs.declared.policy.Peers.TheVariants.{Every, Listed}
-use Rattle.pol_model.specs.PolicyMap.{canonical, raw_entries}
+use Rattle.pol_model.specs.PolicyMap.{raw_entries}
 use Rattle.pol_sets.specs.declared.sets.SetRow.{SetRow}
 use Rattle.pol_sets.specs.Sets.{set_given}
 use Rattle.pol_l4.specs.declared.filter.Filter.{Filter}
 use Rattle.pol_l4.specs.declared.filter.Filters.{Filters}
 use Rattle.pol_l4.specs.FilterParts.{filter_parts}
 use Rattle.pol_distill.specs.Distilled.{distilled}
-use Rattle.pol_distill.specs.Sorted.{HaveSets, IsTable, ListHasSets, PeersHaveSets}
-use Rattle.pol_distill.proofs.AnyLemmas.{any_map}
+use Rattle.pol_distill.specs.Sorted.{IsTable}
 use Rattle.pol_distill.proofs.OnePass.{canonical_is_table}
-use Rattle.pol_delta.specs.Work.{AllListed, AllOfFilters, AllOfPeers, IsWorkOf, WorkOf}
+use Rattle.pol_delta.specs.Work.{AllListed, AllOfPeers, IsWorkOf}
 
 every : {X : Type 0} (P : X → Type 0) → ((x : X) → P x) → (xs : List X) → AllByRecursion P xs
 every P holds [] = tt
