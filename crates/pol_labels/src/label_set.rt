@@ -1,9 +1,10 @@
 //! A set of labels.
-ghost use Rattle.std.specs.Prelude.{◌≡◌, ◌↔◌, true, false, length, IsTrue, IfOk, OnOk, IsErrOf, Some};
+ghost use Rattle.std.specs.Prelude.{◌≡◌, ◌↔◌, true, false, length, IsTrue, IfErr, IfOk, OnOk, IsErrOf, Some};
 ghost use Rattle.std.specs.Bool.{OnTrue, OnFalse};
 ghost use Rattle.std.specs.Cmp.{partial_equiv_from_equiv};
 ghost use Rattle.std.specs.Hash as fed;
 ghost use Rattle.std.specs.Hash.{same_Alike};
+ghost use Rattle.pol_labels.specs.declared.label_set.SetError.TheVariants.{Memory as WantOfMemory};
 ghost use Rattle.pol_labels.specs.Same.{same_labels};
 ghost use Rattle.pol_labels.specs.SameLaws.{same_labels-equivalence, same_labels-Decides};
 ghost use Rattle.pol_labels.specs.Order.{IsLabelSet, NeighboursAreApart, has_duplicate_key, label_set_of};
@@ -13,6 +14,7 @@ use pol_data::{Items, Memory, TryCopy};
 use std::alloc::Global;
 use std::hash::{Hash, Hasher};
 use std::marker::Model;
+use std::sync::Arc;
 use thiserror::Error;
 
 /// Why no label set was made.
@@ -31,19 +33,20 @@ pub enum SetError {
 /// So two sets with the same labels are equal.
 #[derive(Debug, Drop)]
 pub struct LabelSet {
-    labels: Items<Label>,
+    labels: Arc<Items<Label>>,
 }
 
 impl Model for LabelSet {
     ghost use Rattle.std.specs.Prelude.{List};
+    ghost use Rattle.std.specs.Arc.{arc_value};
     ghost use Rattle.pol_labels.specs.declared.label.Label.{Label};
     ghost use Rattle.pol_labels.specs.Order.{IsLabelSet};
 
     ghost Value = { List Label };
 
-    ghost view = { λ set. set.labels };
+    ghost view = { λ set. arc_value set.labels };
 
-    ghost invariant = { λ set. IsLabelSet set.labels };
+    ghost invariant = { λ set. IsLabelSet (arc_value set.labels) };
 }
 
 impl LabelSet {
@@ -63,9 +66,7 @@ impl LabelSet {
         if has_equal_neighbours(labels.as_slice()) {
             return Err(SetError::DuplicateKey);
         }
-        Ok(LabelSet {
-            labels: Items::from_vec(labels),
-        })
+        shared(alloc, labels)
     }
 
     /// The labels, in the order of source, then key.
@@ -76,12 +77,13 @@ impl LabelSet {
         self.labels.as_slice()
     }
 
-    /// A set equal to this one. The one error is want of memory.
-    pub fn copy(&self, alloc: Global) -> Result<LabelSet, Memory>
+    /// A set equal to this one, which has the same labels in memory. It takes none of the allocator's: the one error is that
+    /// so many copies of it stand that they can't be counted.
+    pub fn copy(&self, _alloc: Global) -> Result<LabelSet, Memory>
         ensures equal { IfOk result (λ copy. copy ≡ self.now) }
     {
         Ok(LabelSet {
-            labels: self.labels.copy(alloc)?,
+            labels: Arc::try_clone(&self.labels)?,
         })
     }
 
@@ -106,6 +108,18 @@ impl TryCopy for LabelSet {
     }
 }
 
+/// The set of these labels, which are in order.
+fn shared(alloc: Global, labels: Vec<Label>) -> Result<LabelSet, SetError>
+    requires { IsLabelSet labels.items }
+    ensures set { IfOk result (λ set. set ≡ labels.items) }
+    ensures memory { IfErr result (λ error. error ≡ WantOfMemory) }
+{
+    match Arc::new(alloc, Items::from_vec(labels)) {
+        Ok(labels) => Ok(LabelSet { labels }),
+        Err(_) => Err(SetError::Memory),
+    }
+}
+
 /// Whether a label and the one after it share source and key.
 fn has_equal_neighbours(labels: &[Label]) -> bool
     ensures apart { OnFalse result (NeighboursAreApart labels.now) }
@@ -126,7 +140,7 @@ impl PartialEq for LabelSet {
     ghost laws = { partial_equiv_from_equiv same_labels-equivalence };
 
     fn eq(&self, other: &LabelSet) -> bool {
-        self.labels == other.labels
+        self.labels.as_slice() == other.labels.as_slice()
     }
 }
 
@@ -140,6 +154,6 @@ impl Hash for LabelSet {
     ghost respects_eq = { (same_Alike _ same_labels-Decides).fed };
 
     fn hash<H: Hasher>(&self, state: &mut H) {
-        self.labels.hash(state);
+        self.labels.as_slice().hash(state);
     }
 }
