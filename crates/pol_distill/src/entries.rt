@@ -1,116 +1,25 @@
 //! The raw entries of a map: what filters give with the sets of their peers.
-ghost use Rattle.std.specs.Prelude.{◌≡◌, ◌++◌, IfOk, IsTrue, OnOk, map};
+ghost use Rattle.std.specs.Prelude.{◌≡◌, ◌++◌, IfOk, IsTrue, OnOk};
 ghost use Rattle.std.specs.List.{flat_map};
-ghost use Rattle.pol_mapkey.specs.MapKey.{port_key};
 ghost use Rattle.pol_mapkey.specs.declared.Kind.TheVariants.{Allow as allow, Deny as deny};
-ghost use Rattle.pol_model.specs.PolicyMap.{direction_entries, entry_entries, peer_numbers, ports_keys, raw_entries, spec_keys};
+ghost use Rattle.pol_model.specs.PolicyMap.{direction_entries, entry_entries, peer_numbers, raw_entries};
 ghost use Rattle.pol_sets.specs.Sets.{has_set, set_given};
 ghost use Rattle.pol_l4.specs.FilterParts.{allowing, denying, entry_of, filter_parts};
 ghost use Rattle.pol_distill.specs.RawKeys.{entries_for};
 ghost use Rattle.pol_distill.specs.Sorted.{HaveSets, ListHasSets, PeersHaveSets};
 ghost use Rattle.std.specs.List.{AllByRecursion};
 
+use crate::ids::{push_identities, push_identity};
 use crate::index::PeerSets;
-use crate::keys::{every_key, port_key, with_id};
+use crate::keys::every_key;
+use crate::ports::ports_keys;
 use pol_data::Memory;
 use pol_l4::{Filter, Filters};
 use pol_mapkey::{Kind, MapKey};
 use pol_model::{EVERY_IDENTITY, HOST_IDENTITY, selects_every_number};
-use pol_ports::{Direction, PortPrefix, Proto, split};
-use pol_rule::{Peer, Peers, PortSpec};
-use pol_sets::IdSet;
+use pol_ports::Direction;
+use pol_rule::{Peer, Peers};
 use std::alloc::Global;
-
-fn push_parts(
-    out: &mut Vec<MapKey>,
-    dir: Direction,
-    proto: Proto,
-    parts: &[PortPrefix],
-) -> Result<(), Memory>
-    ensures { OnOk result (out.new.items ≡ out.old.items ++ map (port_key dir 0 proto) parts.now) }
-{
-    for part in parts {
-        out.push(port_key(dir, EVERY_IDENTITY, proto, *part))?;
-    }
-    Ok(())
-}
-
-/// Appends the keys of a port, for every identity.
-fn push_spec(
-    alloc: Global,
-    out: &mut Vec<MapKey>,
-    dir: Direction,
-    spec: &PortSpec,
-) -> Result<(), Memory>
-    ensures { OnOk result (out.new.items ≡ out.old.items ++ spec_keys dir 0 spec.now) }
-{
-    let parts = split(alloc, spec.range)?;
-    match spec.proto {
-        Some(proto) => push_parts(out, dir, proto, &parts),
-        None => {
-            push_parts(out, dir, Proto::Tcp, &parts)?;
-            push_parts(out, dir, Proto::Udp, &parts)?;
-            push_parts(out, dir, Proto::Sctp, &parts)
-        }
-    }
-}
-
-fn push_specs(
-    alloc: Global,
-    out: &mut Vec<MapKey>,
-    dir: Direction,
-    specs: &[PortSpec],
-) -> Result<(), Memory>
-    ensures { OnOk result (out.new.items ≡ out.old.items ++ flat_map (spec_keys dir 0) specs.now) }
-{
-    for spec in specs {
-        push_spec(alloc, out, dir, spec)?;
-    }
-    Ok(())
-}
-
-/// The keys of an entry's ports, for every identity.
-#[tactic(auto, using(crate::proofs::RawLists::keys_or_every))]
-fn ports_keys(alloc: Global, dir: Direction, ports: &[PortSpec]) -> Result<Vec<MapKey>, Memory>
-    ensures { IfOk result (λ keys. keys.items ≡ ports_keys dir 0 ports.now) }
-{
-    let mut keys = Vec::new(alloc);
-    if ports.is_empty() {
-        keys.push(every_key(dir, EVERY_IDENTITY))?;
-    } else {
-        push_specs(alloc, &mut keys, dir, ports)?;
-    }
-    Ok(keys)
-}
-
-/// Appends the entries of an identity.
-fn push_for(
-    out: &mut Vec<(MapKey, Kind)>,
-    keys: &[MapKey],
-    kind: Kind,
-    id: u32,
-) -> Result<(), Memory>
-    ensures { OnOk result (out.new.items ≡ out.old.items ++ entries_for kind keys.now id) }
-{
-    for key in keys {
-        out.push((with_id(key, id), kind))?;
-    }
-    Ok(())
-}
-
-fn push_ids(
-    out: &mut Vec<(MapKey, Kind)>,
-    keys: &[MapKey],
-    kind: Kind,
-    ids: &IdSet,
-) -> Result<(), Memory>
-    ensures { OnOk result (out.new.items ≡ out.old.items ++ flat_map (entries_for kind keys.now) ids.now) }
-{
-    for id in ids.iter() {
-        push_for(out, keys, kind, id)?;
-    }
-    Ok(())
-}
 
 /// Appends the entries of a listed peer.
 fn push_peer(
@@ -124,9 +33,9 @@ fn push_peer(
     ensures { OnOk result (out.new.items ≡ out.old.items ++ flat_map (entries_for kind keys.now) (peer_numbers (set_given sets.now) peer.now)) }
 {
     if selects_every_number(peer) {
-        push_for(out, keys, kind, EVERY_IDENTITY)
+        push_identity(out, keys, kind, EVERY_IDENTITY)
     } else {
-        push_ids(out, keys, kind, sets.set_of(peer))
+        push_identities(out, keys, kind, sets.set_of(peer))
     }
 }
 
@@ -167,7 +76,7 @@ fn push_filter(
                 return Ok(());
             }
             let keys = ports_keys(alloc, dir, ports)?;
-            push_for(out, &keys, kind, EVERY_IDENTITY)
+            push_identity(out, &keys, kind, EVERY_IDENTITY)
         }
         Peers::Listed(peers) => {
             let keys = ports_keys(alloc, dir, ports)?;

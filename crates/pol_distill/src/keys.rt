@@ -8,7 +8,7 @@ use pol_ports::{Direction, PortPrefix, Proto};
 
 /// The key of an identity for every protocol and port.
 #[tactic(auto, using(crate::proofs::RawLists::every_key_is))]
-pub(crate) fn every_key(dir: Direction, id: u32) -> MapKey
+pub fn every_key(dir: Direction, id: u32) -> MapKey
     ensures { result ≡ every_key dir id }
 {
     MapKey {
@@ -20,7 +20,7 @@ pub(crate) fn every_key(dir: Direction, id: u32) -> MapKey
 }
 
 /// The key of an identity for a protocol and a port prefix.
-pub(crate) fn port_key(dir: Direction, id: u32, proto: Proto, port: PortPrefix) -> MapKey
+pub fn port_key(dir: Direction, id: u32, proto: Proto, port: PortPrefix) -> MapKey
     ensures { result ≡ port_key dir id proto port }
 {
     MapKey {
@@ -32,7 +32,7 @@ pub(crate) fn port_key(dir: Direction, id: u32, proto: Proto, port: PortPrefix) 
 }
 
 /// The same key for another identity.
-pub(crate) fn with_id(key: &MapKey, id: u32) -> MapKey
+pub fn with_id(key: &MapKey, id: u32) -> MapKey
     ensures { result ≡ with_id id key.now }
 {
     MapKey {

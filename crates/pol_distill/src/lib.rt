@@ -5,12 +5,17 @@
 #![tactic(auto)]
 
 mod entries;
+mod ids;
 mod index;
 mod keys;
 pub mod laws;
 mod make;
+mod ports;
 mod sweep;
 mod table;
 
+pub use ids::{push_identities, push_identity};
+pub use keys::{every_key, port_key};
 pub use make::{distill, have_sets};
+pub use ports::ports_keys;
 pub use table::MapTable;

@@ -1,6 +1,6 @@
 -- What comes and goes where sets change.
-use Rattle.std.proofs.Common.{◌≡◌, ℕ, ◌+◌, ◌==◌, Bool, true, false, cond, not, ◌&&◌, List, [], ◌∷◌, ◌++◌, filter, Result, Ok, Err, OnOk, refl, sym, ◌∙◌, ap, subst, arith}
-use Rattle.std.specs.List.{flat_map, list_any, sum_by}
+use Rattle.std.proofs.Common.{◌≡◌, ℕ, ◌+◌, ◌==◌, Bool, true, false, not, ◌&&◌, List, [], ◌++◌, filter, Result, Ok, Err, OnOk, refl, sym, ◌∙◌, ap, arith}
+use Rattle.std.specs.List.{flat_map, sum_by}
 use Rattle.std.specs.List.Sorted.{IsStrictlySortedBy}
 use Rattle.std.specs.Ordering.{nat_cmp}
 use Rattle.std.proofs.lemmas.Bool.{eqb-true}
@@ -8,14 +8,12 @@ use Rattle.std.proofs.lemmas.List.Filters.{sum_by-filter_both}
 use Rattle.std.proofs.lemmas.List.Kept.{IsStrictlySortedBy-filter}
 use Rattle.std.proofs.lemmas.Map.Views.{any-filter_same}
 use Rattle.pol_mapkey.specs.Entries.{Entry}
-use Rattle.pol_mapkey.specs.declared.Kind.{Kind}
-use Rattle.pol_mapkey.specs.declared.MapKey.{MapKey}
 use Rattle.pol_sets.specs.declared.sets.Move.{Move}
 use Rattle.pol_change_log.specs.Ids.{has, without}
 use Rattle.pol_change_log.specs.Sets.{IsMove}
 use Rattle.pol_sets.proofs.IdLemmas.{same_ids}
 use Rattle.pol_entry_tally.specs.Times.{times}
-use Rattle.pol_raw_entries.specs.Balance.{Between, GoesOn, Leads}
+use Rattle.pol_raw_entries.specs.Balance.{GoesOn, Leads}
 use Rattle.pol_raw_entries.specs.declared.staying.Moved.{Moved}
 use Rattle.pol_raw_entries.proofs.Times.{times-append, times-flat_map}
 

@@ -1,5 +1,5 @@
 -- The entries of filters, filter by filter, are those of the map's definition, each as often.
-use Rattle.std.proofs.Common.{◌≡◌, ℕ, ◌+◌, Bool, true, false, cond, not, ◌&&◌, List, [], ◌∷◌, ◌++◌, map, filter, Result, Ok, Err, IfOk, refl, sym, ◌∙◌, ap, arith}
+use Rattle.std.proofs.Common.{◌≡◌, ℕ, ◌+◌, true, false, cond, not, List, [], ◌∷◌, ◌++◌, map, filter, Result, Ok, Err, IfOk, refl, sym, ◌∙◌, ap, arith}
 use Rattle.std.specs.List.{flat_map}
 use Rattle.pol_ports.specs.declared.Direction.{Direction}
 use Rattle.pol_ports.specs.declared.Direction.TheVariants.{Ingress, Egress}
@@ -8,7 +8,6 @@ use Rattle.pol_mapkey.specs.declared.Kind.{Kind}
 use Rattle.pol_mapkey.specs.declared.Kind.TheVariants.{Allow, Deny}
 use Rattle.pol_mapkey.specs.declared.MapKey.{MapKey}
 use Rattle.pol_rule.specs.declared.policy.Peer.{Peer}
-use Rattle.pol_rule.specs.declared.policy.Entry.{Entry as RuleEntry}
 use Rattle.pol_model.specs.PolicyMap.{allow_every, direction_entries, entry_entries, localhost_entries, raw_entries, unenforced_entries}
 use Rattle.pol_sets.specs.declared.sets.SetRow.{SetRow}
 use Rattle.pol_sets.specs.Sets.{set_given}
@@ -17,7 +16,7 @@ use Rattle.pol_l4.specs.declared.filter.Filters.{Filters}
 use Rattle.pol_l4.specs.FilterParts.{allowing, denying, entry_of, enforced_in, filter_parts, filters_of}
 use Rattle.pol_entry_tally.specs.Times.{times}
 use Rattle.pol_raw_entries.specs.Balance.{Leads}
-use Rattle.pol_raw_entries.specs.Given.{all_given, entry_where, given_by, kind_of, of_filters, of_no_filter, raw_of}
+use Rattle.pol_raw_entries.specs.Given.{all_given, entry_where, given_by, of_filters, of_no_filter, raw_of}
 use Rattle.pol_raw_entries.specs.declared.staying.Moved.{Moved}
 use Rattle.pol_raw_entries.proofs.Times.{times-append}
 

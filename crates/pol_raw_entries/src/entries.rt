@@ -10,15 +10,15 @@ ghost use Rattle.pol_distill.specs.RawKeys.{entries_for};
 ghost use Rattle.pol_entry_tally.specs.Times.{times};
 ghost use Rattle.pol_raw_entries.specs.Given.{all_given, entry_where, given_by, kind_of, of_filters, of_no_filter, raw_of};
 
-use crate::keys::{every_key, ports_keys, with_id};
 use crate::rows::PeerRows;
 use pol_data::Memory;
+use pol_distill::{every_key, ports_keys, push_identities, push_identity};
 use pol_l4::{Filter, Filters};
 use pol_mapkey::{Kind, MapKey};
 use pol_model::{EVERY_IDENTITY, HOST_IDENTITY, selects_every_number};
 use pol_ports::Direction;
 use pol_rule::{Peer, Peers};
-use pol_sets::{IdSet, SetRow};
+use pol_sets::SetRow;
 use std::alloc::Global;
 
 /// The kind of a filter's entries.
@@ -26,36 +26,6 @@ pub(crate) fn kind_of(one: &Filter) -> Kind
     ensures { result ≡ kind_of one.now }
 {
     if one.deny { Kind::Deny } else { Kind::Allow }
-}
-
-/// Appends the entries of an identity.
-fn push_for(
-    out: &mut Vec<(MapKey, Kind)>,
-    keys: &[MapKey],
-    kind: Kind,
-    id: u32,
-) -> Result<(), Memory>
-    ensures { OnOk result (out.new.items ≡ out.old.items ++ entries_for kind keys.now id) }
-{
-    for key in keys {
-        out.push((with_id(key, id), kind))?;
-    }
-    Ok(())
-}
-
-/// Appends the entries of identities.
-pub(crate) fn push_ids(
-    out: &mut Vec<(MapKey, Kind)>,
-    keys: &[MapKey],
-    kind: Kind,
-    ids: &IdSet,
-) -> Result<(), Memory>
-    ensures { OnOk result (out.new.items ≡ out.old.items ++ flat_map (entries_for kind keys.now) ids.now) }
-{
-    for id in ids.iter() {
-        push_for(out, keys, kind, id)?;
-    }
-    Ok(())
 }
 
 /// Appends the entries of a listed peer.
@@ -69,10 +39,10 @@ fn push_peer(
     ensures { OnOk result (out.new.items ≡ out.old.items ++ flat_map (entries_for kind keys.now) (peer_numbers (set_given rows.now) peer.now)) }
 {
     if selects_every_number(peer) {
-        push_for(out, keys, kind, EVERY_IDENTITY)
+        push_identity(out, keys, kind, EVERY_IDENTITY)
     } else {
         match rows.row_of(peer) {
-            Some(found) => push_ids(out, keys, kind, &found.row.set),
+            Some(found) => push_identities(out, keys, kind, &found.row.set),
             None => Ok(()),
         }
     }
@@ -113,7 +83,7 @@ fn push_kind(
                 return Ok(());
             }
             let keys = ports_keys(alloc, dir, ports)?;
-            push_for(out, &keys, kind, EVERY_IDENTITY)
+            push_identity(out, &keys, kind, EVERY_IDENTITY)
         }
         Peers::Listed(peers) => {
             let keys = ports_keys(alloc, dir, ports)?;

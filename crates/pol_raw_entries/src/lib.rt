@@ -5,7 +5,6 @@
 #![tactic(auto)]
 
 mod entries;
-mod keys;
 mod moves;
 mod one_id;
 mod pairs;

@@ -6,8 +6,8 @@ ghost use Rattle.pol_ports.specs.Split.{split_of};
 ghost use Rattle.pol_distill.specs.RawKeys.{entries_for};
 ghost use Rattle.pol_raw_entries.specs.OneId.{part_entry, spec_entries};
 
-use crate::keys::{every_key, port_key};
 use pol_data::Memory;
+use pol_distill::{every_key, port_key};
 use pol_mapkey::{Kind, MapKey};
 use pol_ports::{Direction, PortPrefix, PortRange, Proto, split};
 use pol_rule::PortSpec;

@@ -8,12 +8,12 @@ ghost use Rattle.pol_raw_entries.specs.Given.{given_by, of_numbers};
 ghost use Rattle.pol_raw_entries.specs.PeerRow.{Ascend, IsMoveOfRow};
 ghost use Rattle.pol_raw_entries.specs.Told.{IsTold, PeersTold};
 
-use crate::entries::{kind_of, push_ids};
-use crate::keys::ports_keys;
+use crate::entries::kind_of;
 use crate::moves::PeerMoves;
 use crate::one_id::push_id;
 use crate::rows::PeerRows;
 use pol_data::Memory;
+use pol_distill::{ports_keys, push_identities};
 use pol_l4::Filter;
 use pol_mapkey::{Kind, MapKey};
 use pol_model::selects_every_number;
@@ -45,7 +45,7 @@ fn push_several(
         return Ok(());
     }
     let keys = ports_keys(alloc, dir, one.ports.as_slice())?;
-    push_ids(out, &keys, kind_of(one), ids)
+    push_identities(out, &keys, kind_of(one), ids)
 }
 
 /// Appends the entries that a filter gives these numbers. One number, which is what moves most often, takes no list of keys.

@@ -10,13 +10,13 @@ ghost use Rattle.pol_raw_entries.specs.PeerRow.{Ascend};
 ghost use Rattle.pol_raw_entries.specs.Told.{Stays};
 
 use crate::entries::given;
-use crate::keys::every_key;
 use crate::moves::PeerMoves;
 use crate::pairs::walk;
 use crate::rows::{PeerRows, sets_ascend};
 use crate::standing::all_filters_stand;
 use crate::staying::Moved;
 use pol_data::Memory;
+use pol_distill::every_key;
 use pol_l4::Filters;
 use pol_mapkey::{Kind, MapKey};
 use pol_model::{EVERY_IDENTITY, HOST_IDENTITY};

@@ -6,5 +6,5 @@ use Rattle.pol_distill.proofs.entries.push_filter.Goals as goal
 pub returns-in_ok-keys-in-Every : goal.returns-in_ok-keys-in-Every
 returns-in_ok-keys-in-Every c =
     let some : (length c.as_slice-ports.result.now == 0) ≡ false = search rules in
-    every_pushed (set_given c.args.sets.now) c.args.dir c.args.kind c.args.filter.now c.as_slice-ports.result.now c.deref.result.now c.args.out.now.items c.push_for.new.out.items
-    c.push_for.result c.in-Every.is c.as_slice-ports.ensures some (c.deref.ensures.value ∙ c.in_ok-keys-in-Every.ensures) c.push_for.ensures
+    every_pushed (set_given c.args.sets.now) c.args.dir c.args.kind c.args.filter.now c.as_slice-ports.result.now c.deref.result.now c.args.out.now.items c.push_identity.new.out.items
+    c.push_identity.result c.in-Every.is c.as_slice-ports.ensures some (c.deref.ensures.value ∙ c.in_ok-keys-in-Every.ensures) c.push_identity.ensures

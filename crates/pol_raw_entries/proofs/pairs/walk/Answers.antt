@@ -1,7 +1,6 @@
 use Rattle.std.proofs.Common.{◌≡◌, ◌+◌, ◌∷◌, [], ◌++◌, OnOk, drop, take, refl, sym, ◌∙◌, ap, subst}
 use Rattle.std.specs.List.{flat_map}
 use Rattle.std.proofs.lemmas.List.{take_all, take_more}
-use Rattle.pol_mapkey.specs.Entries.{Entry}
 use Rattle.pol_sets.specs.Sets.{set_given}
 use Rattle.pol_raw_entries.specs.Balance.{Between}
 use Rattle.pol_raw_entries.specs.Given.{given_by}

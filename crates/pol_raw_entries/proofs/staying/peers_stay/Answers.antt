@@ -1,4 +1,4 @@
-use Rattle.std.proofs.Common.{sym, arith}
+use Rattle.std.proofs.Common.{sym}
 use Rattle.pol_model.specs.PolicyMap.{peer_numbers, ports_keys}
 use Rattle.pol_sets.specs.Sets.{set_given}
 use Rattle.pol_distill.specs.RawKeys.{entries_for}

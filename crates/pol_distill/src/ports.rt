@@ -1,53 +1,16 @@
 //! The keys that ports give.
 ghost use Rattle.std.specs.Prelude.{◌≡◌, ◌++◌, IfOk, OnOk, map};
 ghost use Rattle.std.specs.List.{flat_map};
-ghost use Rattle.pol_mapkey.specs.MapKey.{every_key, port_key};
+ghost use Rattle.pol_mapkey.specs.MapKey.{port_key};
 ghost use Rattle.pol_model.specs.PolicyMap.{ports_keys, protos_of, spec_keys};
-ghost use Rattle.pol_distill.specs.RawKeys.{with_id};
 
+use crate::keys::{every_key, port_key};
 use pol_data::Memory;
-use pol_mapkey::{KeyProto, MapKey};
+use pol_mapkey::MapKey;
 use pol_model::EVERY_IDENTITY;
 use pol_ports::{Direction, PortPrefix, Proto, split};
 use pol_rule::PortSpec;
 use std::alloc::Global;
-
-/// The key of an identity for every protocol and port.
-#[tactic(auto, using(pol_distill::proofs::RawLists::every_key_is))]
-pub(crate) fn every_key(dir: Direction, id: u32) -> MapKey
-    ensures { result ≡ every_key dir id }
-{
-    MapKey {
-        dir,
-        id,
-        proto: KeyProto::Every,
-        port: PortPrefix { bits: 0, len: 0 },
-    }
-}
-
-/// The key of an identity for a protocol and a port prefix.
-pub(crate) fn port_key(dir: Direction, id: u32, proto: Proto, port: PortPrefix) -> MapKey
-    ensures { result ≡ port_key dir id proto port }
-{
-    MapKey {
-        dir,
-        id,
-        proto: KeyProto::from(proto),
-        port,
-    }
-}
-
-/// The same key for another identity.
-pub(crate) fn with_id(key: &MapKey, id: u32) -> MapKey
-    ensures { result ≡ with_id id key.now }
-{
-    MapKey {
-        dir: key.dir,
-        id,
-        proto: key.proto,
-        port: key.port,
-    }
-}
 
 fn push_parts(
     out: &mut Vec<MapKey>,
@@ -109,13 +72,10 @@ fn push_specs(
     Ok(())
 }
 
-/// The keys of a filter's ports, for every identity.
-#[tactic(auto, using(pol_distill::proofs::RawLists::keys_or_every))]
-pub(crate) fn ports_keys(
-    alloc: Global,
-    dir: Direction,
-    ports: &[PortSpec],
-) -> Result<Vec<MapKey>, Memory>
+/// The keys of a filter's ports, for every identity: where no port is named, the one of every protocol and port. The one error
+/// is want of memory.
+#[tactic(auto, using(crate::proofs::RawLists::keys_or_every))]
+pub fn ports_keys(alloc: Global, dir: Direction, ports: &[PortSpec]) -> Result<Vec<MapKey>, Memory>
     ensures { IfOk result (λ keys. keys.items ≡ ports_keys dir 0 ports.now) }
 {
     let mut keys = Vec::new(alloc);

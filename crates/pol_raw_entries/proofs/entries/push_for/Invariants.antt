@@ -1,6 +1,0 @@
-use Rattle.std.proofs.Common.{◌≡◌, ◌++◌, take}
-use Rattle.pol_distill.specs.RawKeys.{entries_for}
-use Rattle.pol_raw_entries.proofs.entries.push_for.Given as goal
-
-abbrev pub invariant-loop-key : goal.invariant-loop-key
-invariant-loop-key l = l.out.items ≡ l.initial.out.items ++ entries_for l.kind (take l.key-index l.keys) l.id
