@@ -1,5 +1,5 @@
 -- Rows of filters that are kept.
-use Rattle.std.proofs.Common.{◌≡◌, zero, suc, Bool, true, false, cond, ◌&&◌, List, [], ◌∷◌, filter, IfOk, Result, Ok, Err, refl, sym, ap, subst, ◌∙◌, arith}
+use Rattle.std.proofs.Common.{◌≡◌, zero, suc, Bool, true, false, cond, ◌&&◌, List, [], ◌∷◌, filter, refl, sym, ap, subst, ◌∙◌, arith}
 use Rattle.std.specs.List.{AllByRecursion, IsAmong}
 use Rattle.std.specs.Map.{values_of}
 use Rattle.std.specs.Arc.{arc_value}
@@ -39,11 +39,6 @@ values-filter p (e ∷ es) = by (p e.1) (values-filter p es)
     by : (b : Bool) → values_of (filter (λ e. p e.1) es) ≡ filter p (values_of es) → values_of (cond b (e ∷ filter (λ e. p e.1) es) (filter (λ e. p e.1) es)) ≡ cond b (e.1 ∷ filter p (values_of es)) (filter p (values_of es))
     by true rest = ap (λ vs. e.1 ∷ vs) rest
     by false rest = rest
-
--- what holds of a value holds of one that is weaker
-pub ok_weaker : {A E : Type 0} (P Q : A → Type 0) (r : Result A E) → ((x : A) → P x → Q x) → IfOk r P → IfOk r Q
-ok_weaker P Q (Ok x) weaker is = weaker x is
-ok_weaker P Q (Err e) weaker is = tt
 
 -- what is kept for these labels and this leave
 pub serves : (kept : Kept) (labels : List Label) (localhost : Bool) → (beq kept.localhost localhost && same_labels kept.labels labels) ≡ true → IsFor labels localhost kept

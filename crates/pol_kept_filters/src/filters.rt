@@ -1,11 +1,10 @@
 //! The filters of endpoints, by slot.
-ghost use Rattle.std.specs.Prelude.{◌≡◌, [], not, List, IfOk, IfSome};
+ghost use Rattle.std.specs.Prelude.{◌≡◌, [], not, List, IfSome};
 ghost use Rattle.std.specs.Arc.{arc_value};
-ghost use Rattle.std.specs.List.{AllByRecursion, IsAmong};
+ghost use Rattle.std.specs.List.{IsAmong};
 ghost use Rattle.std.specs.Option.{option_copied};
 ghost use Rattle.pol_model.specs.declared.options.Mode.{Mode as AnyMode};
 ghost use Rattle.pol_model.specs.declared.row.Stamped.{Stamped as OnePolicy};
-ghost use Rattle.pol_model.specs.Sizes.{IsShortPolicy};
 ghost use Rattle.pol_l4.specs.Resolved.{filters_for};
 ghost use Rattle.pol_selcache.specs.Cache.{Cache as AnyCache};
 ghost use Rattle.pol_taken.specs.Known.{IsKnownIn, IsListingOf};
@@ -15,9 +14,9 @@ ghost use Rattle.pol_kept_filters.specs.Kept.{AreKeptOf, AreListedIn, IsFor, IsL
 use crate::kept::Kept;
 use indexmap::IndexMap;
 use pol_data::Memory;
-use pol_l4::{Filters, resolve};
+use pol_l4::Filters;
 use pol_labels::LabelSet;
-use pol_model::{Mode, Stamped};
+use pol_model::Stamped;
 use pol_rule::Policy;
 use pol_taken::KnownPeers;
 use std::alloc::Global;
@@ -91,31 +90,6 @@ impl KeptFilters {
         match self.found(slot, labels, localhost) {
             Some(kept) => Some(kept),
             None => self.alike(labels, localhost),
-        }
-    }
-
-    /// What the policies say of an endpoint of that slot with these labels (Cilium, Policy Enforcement Modes): the filters
-    /// that are kept, where they were resolved for such labels and with the same leave, and else those that are resolved now.
-    /// The one error is want of memory.
-    pub fn filters_of(
-        &self,
-        alloc: Global,
-        slot: u32,
-        policies: &[Stamped],
-        labels: &LabelSet,
-        mode: Mode,
-        localhost: bool,
-    ) -> Result<Arc<Filters>, Memory>
-        requires short { AllByRecursion (λ stamped. IsShortPolicy stamped.policy) policies.now }
-        requires kept { AreKeptOf policies.now mode self.now }
-        ensures filters { IfOk result (λ filters. arc_value filters ≡ filters_for policies.now labels.now mode localhost) }
-    {
-        match self.serving(slot, labels, localhost) {
-            Some(kept) => Arc::try_clone(kept.filters()),
-            None => {
-                let own = resolve(alloc, policies, labels, mode, localhost)?;
-                Ok(Arc::new(alloc, own)?)
-            }
         }
     }
 

@@ -1,6 +1,6 @@
 //! The filters of endpoints, kept until a policy or the mode changes them.
 //!
-//! `KeptFilters::filters_of` gives those that were kept where they serve, and resolves them else.
+//! `KeptFilters::serving` gives those that serve, where some are kept.
 #![tactic(auto)]
 
 mod filters;

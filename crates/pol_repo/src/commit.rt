@@ -27,9 +27,9 @@ impl Repo {
         let Ready { request, done } = ready;
         let prepared = self.prepared.take().unwrap();
         // These calls tell that the selectors fit together, before and after.
-        let _before = self.store.horizon();
+        let _before = self.store.numbers();
         accept(&mut self.store, prepared);
-        let next = self.store.selectors().next_number();
+        let next = self.store.numbers().selectors().next_number();
         self.nexts.push(next).unwrap();
         self.journal.push(request).unwrap();
         done
@@ -43,7 +43,7 @@ impl Repo {
         let prepared = self.prepared.take().unwrap();
         withdraw(&mut self.store, prepared);
         // The call tells that the selectors fit together.
-        let _known = self.store.horizon();
+        let _known = self.store.numbers();
     }
 
     /// Does the request, if it has no fault, and raises the revision by one. The errors are those of `Repo::prepare`; after

@@ -18,6 +18,6 @@ pub use pol_model::{
     CommitError, Committed, Endpoint as EndpointRow, Fault, FullList, FullSlot, Query, Refused,
     Remote, Request, Trace,
 };
-pub use pol_taken::{Addresses, Move, Moves, SetRow, Sets, TakeError, Taken};
+pub use pol_taken::{Addresses, Move, Moves, SetRow, Sets, SharedPeer, TakeError, Taken};
 pub use prepare::Ready;
 pub use repo::Repo;

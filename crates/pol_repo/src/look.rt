@@ -19,7 +19,7 @@ impl Repo {
         ensures list { result.now ≡ (state_in self.now).policies }
         ensures short { AllByRecursion (λ stamped. IsShortPolicy stamped.policy) (state_in self.now).policies }
     {
-        self.store.policies()
+        self.store.policies().as_slice()
     }
 
     /// The live endpoints, ascending by slot.
@@ -27,7 +27,7 @@ impl Repo {
         requires idle { self.now.prepared ≡ None }
         ensures list { result.now ≡ (state_in self.now).endpoints }
     {
-        self.store.endpoints()
+        self.store.endpoints().as_slice()
     }
 
     /// The identities that are held.
@@ -35,7 +35,7 @@ impl Repo {
         requires idle { self.now.prepared ≡ None }
         ensures rows { result.now ≡ (state_in self.now).identities }
     {
-        self.store.identities()
+        self.store.numbers().identities()
     }
 
     /// The mode of enforcement (Cilium, Policy Enforcement Modes).
@@ -59,7 +59,7 @@ impl Repo {
         requires idle { self.now.prepared ≡ None }
         ensures found { option_copied result ≡ endpoint_of name.now (state_in self.now).endpoints }
     {
-        self.store.endpoint(name)
+        self.store.endpoints().find(name)
     }
 
     /// The identity of an address: that of the endpoint that has it, else of the longest held prefix that contains it, else

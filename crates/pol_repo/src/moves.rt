@@ -26,7 +26,7 @@ pub(crate) fn moves_in(
     match since {
         Some(revision) => {
             let next = nexts[revision as usize];
-            moves_since(alloc, store.selectors(), sets, next, revision)
+            moves_since(alloc, store.numbers().selectors(), sets, next, revision)
         }
         None => Ok(None),
     }

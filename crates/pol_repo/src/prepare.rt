@@ -53,13 +53,13 @@ fn prepare_in<L: Ledger>(
     ensures cost { is_of_policy request.now ≡ false → steps.new ≤ steps.old + label_selectors store.old.cache.live }
 {
     // The calls of this name tell that the selectors fit together.
-    let _before = store.horizon();
+    let _before = store.numbers();
     journal.reserve(1)?;
     nexts.reserve(1)?;
     // The call tells that a capacity is a number of 64 bits, and so the revision is below the last one.
     let _capacity = journal.capacity();
     let prepared = prepare(store, request, steps);
-    let _after = store.horizon();
+    let _after = store.numbers();
     prepared
 }
 
@@ -97,7 +97,7 @@ impl Repo {
         ensures cost { is_of_policy request ≡ false → steps.new ≤ steps.old + label_peers (state_in self.old).policies }
     {
         // The call tells that each selector has a reference, and no two are of one peer.
-        let _horizon = self.store.horizon();
+        let _known = self.store.numbers();
         match prepare_in(
             &mut self.journal,
             &mut self.nexts,

@@ -1,7 +1,7 @@
 -- Faults of a chain of tests: the first that holds, and what none means.
-use Rattle.std.proofs.Common.{◌≡◌, ℕ, ◌&&◌, Bool, true, false, not, nat_le, List, length, find, Option, None, Some, is_some, is_none, refl, ap, ◌∙◌}
+use Rattle.std.proofs.Common.{◌≡◌, ℕ, ◌&&◌, Bool, true, false, not, nat_le, if◌then◌else◌, ◌||◌, Bor, List, [], ◌∷◌, length, find, Option, None, Some, is_some, is_none, refl, ap, ◌∙◌}
 use Rattle.std.specs.List.{list_any}
-use Rattle.std.proofs.lemmas.Bool.{both_ways}
+use Rattle.std.specs.Option.{option_copied}
 use Rattle.pol_addr.specs.declared.address.Addr.{Addr}
 use Rattle.pol_labels.specs.declared.label.Label.{Label}
 use Rattle.pol_model.specs.declared.answer.Fault.{Fault}
@@ -14,7 +14,6 @@ use Rattle.pol_model.specs.State.{State}
 use Rattle.pol_model.specs.Endpoints.{endpoint_of, named_of}
 use Rattle.pol_model.specs.Fault.{fault_if, fault_of, has_reserved, is_exhausted, is_init, is_taken}
 use Rattle.pol_model.specs.Remote.{endpoint_at}
-use Rattle.pol_model_laws.proofs.Membership.{find-In, list_any-In}
 use Rattle.pol_requests.specs.Causes.{endpoint_fault}
 
 pub no_fault_if : (b : Bool) (this : Fault) (others : Option Fault) → fault_if b this others ≡ None → (b ≡ false) × (others ≡ None)
@@ -63,12 +62,17 @@ pub not_none : {X : Type 0} (o : Option X) → is_none o ≡ false → (x : X) �
 not_none None is = absurd cc
 not_none (Some x) is = (x, refl)
 
+-- whether some element passes
+pub is_there : {X : Type 0} (p : X → Bool) (xs : List X) → is_some (find p xs) ≡ list_any p xs
+is_there p [] = refl
+is_there p (x ∷ xs) = elim (p x) as (λ b. is_some (if b then Some x else find p xs) ≡ (b || list_any p xs)) [ true ↦ refl | false ↦ is_there p xs ]
+
+pub some_there : {X : Type 0} (p : X → Bool) (xs : List X) (found : Option (Bor X)) → option_copied found ≡ find p xs → is_some found ≡ list_any p xs
+some_there p xs None is = ap is_some is ∙ is_there p xs
+some_there p xs (Some x) is = ap is_some is ∙ is_there p xs
+
 pub none_passes : {X : Type 0} (p : X → Bool) (xs : List X) → list_any p xs ≡ false → find p xs ≡ None
-none_passes {X} p xs none = by (find p xs) refl
-  where
-    by : (o : Option X) → find p xs ≡ o → o ≡ None
-    by None is = refl
-    by (Some x) is = let at = find-In p x xs is in absurd (both_ways (list_any p xs) none (list_any-In p x xs at.0 at.1))
+none_passes p xs none = not_some (find p xs) (is_there p xs ∙ none)
 
 -- what it means that a new endpoint has no fault
 pub record MayBeAdded (s : State) (name : List ℕ) (labels : List Label) (address : Addr) : Type 0 where

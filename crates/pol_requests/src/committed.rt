@@ -51,14 +51,16 @@ fn slots_with(store: &Store, change: &TableChange) -> u32
 {
     match change {
         TableChange::Endpoint(endpoint, _) => {
-            max(store.slots(), endpoint.slot.saturating_add(1))
+            max(store.endpoints().slots(), endpoint.slot.saturating_add(1))
         }
-        TableChange::NoEndpoint(name, _) => { last_slot_without(store.endpoints(), name.as_str()) }
+        TableChange::NoEndpoint(name, _) => {
+            last_slot_without(store.endpoints().as_slice(), name.as_str())
+        }
         TableChange::Named(_, _)
         | TableChange::NotNamed(_, _)
         | TableChange::Policy { .. }
         | TableChange::NoPolicy(_, _)
-        | TableChange::Mode(_) => store.slots(),
+        | TableChange::Mode(_) => store.endpoints().slots(),
     }
 }
 

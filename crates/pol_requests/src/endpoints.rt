@@ -1,6 +1,7 @@
 //! Endpoints that come and go.
 ghost use Rattle.std.specs.Prelude.{◌≡◌, ◌<◌, ◌+◌, ◌-◌, ◌^◌, ◌≤◌};
 ghost use Rattle.pol_model.specs.declared.request.Request.TheVariants.{AddEndpoint, RemoveEndpoint};
+ghost use Rattle.pol_model.specs.Fault.{is_taken};
 ghost use Rattle.pol_selcache.specs.Cache.{with_room};
 ghost use Rattle.pol_selcache.specs.Live.{label_selectors};
 ghost use Rattle.pol_requests.specs.Causes.{endpoint_fault};
@@ -18,17 +19,24 @@ use pol_model::{ENDPOINTS_MAX, Endpoint, Fault, has_reserved, is_init};
 use pol_store::Store;
 use std::sync::ledger::Ledger;
 
+/// Whether a live endpoint has the address.
+fn is_taken(store: &Store, address: Addr) -> bool
+    ensures taken { result ≡ is_taken store.now.state.endpoints address }
+{
+    store.endpoints().at_address(address).is_some()
+}
+
 /// The fault of a new endpoint, but for numbers that ran out.
 fn endpoint_fault(store: &Store, name: &str, labels: &LabelSet, address: Addr) -> Option<Fault>
     ensures fault { result ≡ endpoint_fault store.now.state name.now labels.now address }
 {
     if has_reserved(labels) && !is_init(labels) {
         Some(Fault::ReservedLabel)
-    } else if store.endpoint(name).is_some() {
+    } else if store.endpoints().find(name).is_some() {
         Some(Fault::DuplicateEndpoint)
     } else if ENDPOINTS_MAX as usize <= store.endpoints().len() {
         Some(Fault::EndpointsFull)
-    } else if store.is_taken(address) {
+    } else if is_taken(store, address) {
         Some(Fault::AddressTaken)
     } else {
         None
@@ -80,8 +88,8 @@ pub(crate) fn prepare_no_endpoint<L: Ledger>(
     ensures sets { store.new.cache ≡ with_room store.new.cache.log.spare store.old.cache }
     ensures cost { steps.new ≤ steps.old }
 {
-    let number = match store.endpoint_number(name.as_str()) {
-        Some(number) => number,
+    let number = match store.endpoints().find(name.as_str()) {
+        Some(endpoint) => endpoint.identity,
         None => return Err(PrepareError::Fault(Fault::UnknownEndpoint)),
     };
     let own = name.copy(store.allocator())?;

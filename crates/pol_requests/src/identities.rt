@@ -32,7 +32,7 @@ pub(crate) fn prepare_identity<L: Ledger>(
     if has_reserved(labels) {
         return Err(PrepareError::Fault(Fault::ReservedLabel));
     }
-    if store.named_number(name.as_str()).is_some() {
+    if store.named().find(name.as_str()).is_some() {
         return Err(PrepareError::Fault(Fault::DuplicateIdentityName));
     }
     store.reserve_name()?;
@@ -59,7 +59,7 @@ pub(crate) fn prepare_no_identity<L: Ledger>(
     ensures sets { store.new.cache ≡ with_room store.new.cache.log.spare store.old.cache }
     ensures cost { steps.new ≤ steps.old }
 {
-    let number = match store.named_number(name.as_str()) {
+    let number = match store.named().find(name.as_str()) {
         Some(number) => number,
         None => return Err(PrepareError::Fault(Fault::UnknownIdentityName)),
     };

@@ -94,7 +94,7 @@ fn old_policy(store: &Store, key: &PolicyKey) -> Result<KeyAndPrefixes, PrepareE
     ensures no_fault { IfOk result (λ old. fault_of store.now.state (Remove key.now) ≡ None) }
     ensures cause { IfErr result (IsCause store.now.state (Remove key.now)) }
 {
-    match store.policy(key) {
+    match store.policies().find(key) {
         Some(stamped) => Ok(KeyAndPrefixes {
             key: key.copy(store.allocator())?,
             prefixes: stamped.policy.prefixes(store.allocator())?,
@@ -116,11 +116,11 @@ pub(crate) fn prepare_policy<L: Ledger>(
     ensures selectors { GainsSelectors store.old.cache store.new.cache }
 {
     // The call tells that the selectors fit together.
-    let _known = store.horizon();
+    let _known = store.numbers();
     store.reserve_policy()?;
     let new = new_policy(store, policy)?;
     // Before selectors are made, which takes long where there are millions of prefixes.
-    if are_too_many(store.identities(), new.taken.as_slice()) {
+    if are_too_many(store.numbers().identities(), new.taken.as_slice()) {
         return Err(PrepareError::Fault(Fault::LocalExhausted));
     }
     store.refer(policy, steps)?;

@@ -1,5 +1,5 @@
 -- What is taken of a store is what is taken of each state that it stands for.
-use Rattle.std.proofs.Common.{◌≡◌, ℕ, Bool, IsSome, IfOk, IfSome, Option, None, Some, Result, Ok, Err, sym, ap, ◌∙◌, subst}
+use Rattle.std.proofs.Common.{◌≡◌, ℕ, Bool, IsSome, IfOk, Some, Result, Ok, Err, sym, ap, ◌∙◌, subst}
 use Rattle.std.specs.Arc.{arc_value}
 use Rattle.std.specs.List.{AllByRecursion}
 use Rattle.pol_addr.specs.declared.address.Addr.{Addr}
@@ -30,17 +30,15 @@ listed_live stored endpoint localhost filters refs is =
     subst (λ (own : Filters). AllByRecursion (λ p. IsSome (number_of p stored.cache.live)) (filter_peers own)) (sym is)
     (filters_live stored.state.policies endpoint.labels stored.state.mode localhost stored.cache.live refs)
 
--- parts that have the filters that are kept, and the sets of their peers, are the endpoint's where these filters are
-pub parts_are : {E : Type 0} (stored : Stored) (endpoint : Endpoint) (localhost : Bool) (cache : Cache) (filters : Filters) (r : Result (Option Parts) E)
+-- parts that have these filters, and the sets of their peers, are the endpoint's where the filters are
+pub parts_are : {E : Type 0} (stored : Stored) (endpoint : Endpoint) (localhost : Bool) (cache : Cache) (filters : Filters) (r : Result Parts E)
     → cache ≡ stored.cache → filters ≡ filters_for stored.state.policies endpoint.labels stored.state.mode localhost
-    → IfOk r (λ found. IfSome found (λ parts. arc_value parts.filters ≡ filters))
-    → IfOk r (λ found. IfSome found (λ parts. AreSetsFor cache.live filters parts.sets))
-    → IfOk r (λ found. IfSome found (ArePartsFor stored endpoint localhost))
-parts_are stored endpoint localhost cache filters (Ok (Some parts)) same own is sets = record {
+    → IfOk r (λ parts. arc_value parts.filters ≡ filters) → IfOk r (λ parts. AreSetsFor cache.live filters parts.sets)
+    → IfOk r (ArePartsFor stored endpoint localhost)
+parts_are stored endpoint localhost cache filters (Ok parts) same own is sets = record {
   filters = is ∙ own;
   sets = subst (λ (c : Cache). AreSetsFor c.live (arc_value parts.filters) parts.sets) same (subst (λ (fs : Filters). AreSetsFor cache.live fs parts.sets) (sym is) sets);
 }
-parts_are stored endpoint localhost cache filters (Ok None) same own is sets = tt
 parts_are stored endpoint localhost cache filters (Err e) same own is sets = tt
 
 module _ (options : Options) (s : State) (slot : ℕ) (stored : Stored) (endpoint : Endpoint) (localhost : Bool) (taken : Taken) where

@@ -3,7 +3,6 @@
 //! Each call reads the state, or changes one part of it. What a request does of them in turn is in `pol_requests`.
 #![tactic(auto)]
 
-mod look;
 mod parts;
 mod policy_parts;
 mod refresh;

@@ -4,17 +4,17 @@ ghost use Rattle.std.specs.List.{AllByRecursion};
 ghost use Rattle.pol_model.specs.declared.options.Options.{Options as AllOptions};
 ghost use Rattle.pol_model.specs.After.{start};
 ghost use Rattle.pol_selcache.specs.Cache.{IsSound};
-ghost use Rattle.pol_selcache.specs.Live.{AreLive};
 ghost use Rattle.pol_model.specs.Sizes.{IsShortPolicy};
+ghost use Rattle.pol_model.specs.Remote.{number_at};
 ghost use Rattle.pol_allocator.specs.Held.{nothing_held};
+ghost use Rattle.pol_store.specs.Parts.{numbers_of};
 ghost use Rattle.pol_store.specs.Store.{StandsFor};
 
+use pol_addr::Addr;
 use pol_allocator::Allocator;
 use pol_data::Memory;
-use pol_ident::Identities;
 use pol_kept_filters::KeptFilters;
-use pol_model::{Endpoint, Mode, Stamped};
-use pol_selcache::SelectorCache;
+use pol_model::{Mode, WORLD_IDENTITY};
 use pol_tables::{EndpointTable, Named, Policies};
 use pol_taken::Addresses;
 use std::alloc::Global;
@@ -101,41 +101,46 @@ impl Store {
         self.mode
     }
 
-    /// The live endpoints, ascending by slot.
-    pub fn endpoints(&self) -> &[Endpoint]
-        ensures list { result.now ≡ self.now.state.endpoints }
+    /// The live endpoints, under their indexes.
+    pub fn endpoints(&self) -> &EndpointTable
+        ensures list { result.now.list ≡ self.now.state.endpoints }
     {
-        self.endpoints.as_slice()
+        &self.endpoints
     }
 
-    /// The policies in force, in their order.
-    pub fn policies(&self) -> &[Stamped]
-        ensures list { result.now ≡ self.now.state.policies }
+    /// The named identities, by name.
+    pub fn named(&self) -> &Named
+        ensures list { result.now.list ≡ self.now.state.named }
+    {
+        &self.named
+    }
+
+    /// The policies in force, by key.
+    pub fn policies(&self) -> &Policies
+        ensures list { result.now.list ≡ self.now.state.policies }
         ensures short { AllByRecursion (λ stamped. IsShortPolicy stamped.policy) self.now.state.policies }
     {
-        self.policies.as_slice()
+        &self.policies
     }
 
-    /// The selectors with their sets, and the changes of these.
-    pub fn selectors(&self) -> &SelectorCache
-        ensures cache { result.now ≡ self.now.cache }
-    {
-        self.numbers.selectors()
-    }
-
-    /// The revision of the newest change of a set that was dropped, 0 if none was.
-    pub fn horizon(&self) -> u64
-        ensures horizon { result ≡ self.now.cache.log.horizon }
-        ensures live { AreLive self.now.cache.live }
+    /// The numbers that are held, and the selectors with their sets, which fit together.
+    pub fn numbers(&self) -> &Allocator
+        ensures numbers { result.now ≡ numbers_of self.now }
         ensures sound { IsSound self.now.cache }
     {
-        self.numbers.horizon()
+        // The call tells that the selectors fit together.
+        let _horizon = self.numbers.horizon();
+        &self.numbers
     }
 
-    /// The identities that are held.
-    pub fn identities(&self) -> &Identities
-        ensures rows { result.now ≡ self.now.state.identities }
+    /// The identity of an address: that of the endpoint that has it, else of the longest held prefix that contains it, else
+    /// of the world (Cilium, Terminology, "Identity").
+    pub fn number_at(&self, address: Addr) -> u32
+        ensures number { result ≡ number_at address self.now.state.endpoints self.now.state.identities }
     {
-        self.numbers.identities()
+        match self.endpoints.at_address(address) {
+            Some(endpoint) => endpoint.identity,
+            None => self.numbers.number_at(address).unwrap_or(WORLD_IDENTITY),
+        }
     }
 }

@@ -6,7 +6,6 @@ ghost use Rattle.pol_model.specs.declared.options.Options.{Options as AllOptions
 ghost use Rattle.pol_model.specs.State.{State};
 ghost use Rattle.pol_selcache.specs.Live.{number_of};
 ghost use Rattle.pol_peers.specs.References.{RefsOf};
-ghost use Rattle.pol_l4.specs.Resolved.{filters_for};
 ghost use Rattle.pol_kept_filters.specs.Kept.{IsListedIn};
 ghost use Rattle.pol_tables.specs.Tables.{endpoint_in};
 ghost use Rattle.pol_taken.specs.OfState.{IsTakenOf};
@@ -18,7 +17,7 @@ ghost use Rattle.pol_store.specs.Store.{StandsFor, peers_of};
 use crate::store::Store;
 use pol_data::Memory;
 use pol_kept_filters::Kept;
-use pol_l4::Filters;
+use pol_l4::{Filters, resolve};
 use pol_model::Endpoint;
 use pol_selcache::SelectorCache;
 use pol_taken::{Addresses, Sets, TakeError, Taken, sets_of};
@@ -32,62 +31,34 @@ pub(crate) struct Parts {
     pub(crate) sets: Sets,
 }
 
-/// The filters that are kept, and the sets of the peers that they list. None where a selector came since these were listed.
-fn parts_of(alloc: Global, cache: &SelectorCache, kept: &Kept) -> Result<Option<Parts>, Memory>
+/// The filters, and the sets of the peers that they list, looked for by their peers.
+fn parts_with(alloc: Global, cache: &SelectorCache, filters: Arc<Filters>) -> Result<Parts, Memory>
+    requires live { AllByRecursion (λ p. IsSome (number_of p cache.now.live)) (filter_peers (arc_value filters)) }
+    ensures filters { IfOk result (λ parts. arc_value parts.filters ≡ arc_value filters) }
+    ensures sets { IfOk result (λ parts. AreSetsFor cache.now.live (arc_value filters) parts.sets) }
+{
+    let sets = sets_of(alloc, cache, &filters)?;
+    Ok(Parts { filters, sets })
+}
+
+/// The filters that are kept, and the sets of the peers that they list: by the numbers that are kept, and looked for by
+/// their peers where a selector came since these were listed.
+fn parts_of(alloc: Global, cache: &SelectorCache, kept: &Kept) -> Result<Parts, Memory>
     requires listed { IsListedIn cache.now kept.now }
     requires live { AllByRecursion (λ p. IsSome (number_of p cache.now.live)) (filter_peers (arc_value kept.now.filters)) }
-    ensures filters { IfOk result (λ found. IfSome found (λ parts. arc_value parts.filters ≡ arc_value kept.now.filters)) }
-    ensures sets { IfOk result (λ found. IfSome found (λ parts. AreSetsFor cache.now.live (arc_value kept.now.filters) parts.sets)) }
+    ensures filters { IfOk result (λ parts. arc_value parts.filters ≡ arc_value kept.now.filters) }
+    ensures sets { IfOk result (λ parts. AreSetsFor cache.now.live (arc_value kept.now.filters) parts.sets) }
 {
     let filters = Arc::try_clone(kept.filters())?;
     let found = kept.known().sets_of(alloc, cache)?;
     match found {
-        Some(sets) => Ok(Some(Parts { filters, sets })),
-        None => Ok(None),
+        Some(sets) => Ok(Parts { filters, sets }),
+        None => parts_with(alloc, cache, filters),
     }
 }
 
 impl Store {
-    /// What the policies say of the endpoint: as it was taken last, where nothing changed it since.
-    fn filters_of(
-        &self,
-        alloc: Global,
-        endpoint: &Endpoint,
-        localhost: bool,
-    ) -> Result<Arc<Filters>, Memory>
-        ensures filters { IfOk result (λ filters. arc_value filters ≡ filters_for self.now.state.policies endpoint.now.labels self.now.state.mode localhost) }
-    {
-        self.kept.filters_of(
-            alloc,
-            endpoint.slot,
-            self.policies.as_slice(),
-            &endpoint.labels,
-            self.mode,
-            localhost,
-        )
-    }
-
-    /// The filters that are kept for the endpoint, and the sets of the peers that they list. None where they aren't kept, or
-    /// where a selector came since their peers were listed.
-    fn kept_parts(
-        &self,
-        alloc: Global,
-        endpoint: &Endpoint,
-        localhost: bool,
-    ) -> Result<Option<Parts>, Memory>
-        requires refs { RefsOf (peers_of self.now.state.policies) self.now.cache.live }
-        ensures parts { IfOk result (λ found. IfSome found (ArePartsFor self.now endpoint.now localhost)) }
-    {
-        match self
-            .kept
-            .serving(endpoint.slot, &endpoint.labels, localhost)
-        {
-            Some(kept) => parts_of(alloc, self.numbers.selectors(), kept),
-            None => Ok(None),
-        }
-    }
-
-    /// The filters of the endpoint, and the sets of the peers that they list, looked for by their peers.
+    /// What the policies say of the endpoint, resolved now, and the sets of the peers that it lists.
     fn made_parts(
         &self,
         alloc: Global,
@@ -97,12 +68,19 @@ impl Store {
         requires refs { RefsOf (peers_of self.now.state.policies) self.now.cache.live }
         ensures parts { IfOk result (ArePartsFor self.now endpoint.now localhost) }
     {
-        let filters = self.filters_of(alloc, endpoint, localhost)?;
-        let sets = sets_of(alloc, self.numbers.selectors(), &filters)?;
-        Ok(Parts { filters, sets })
+        let own = resolve(
+            alloc,
+            self.policies.as_slice(),
+            &endpoint.labels,
+            self.mode,
+            localhost,
+        )?;
+        let filters = Arc::new(alloc, own)?;
+        parts_with(alloc, self.numbers.selectors(), filters)
     }
 
-    /// The filters of the endpoint, and the sets of the peers that they list: by what is kept, where it is.
+    /// The filters of the endpoint, and the sets of the peers that they list: as they are kept for it or for one that is
+    /// alike, or made now.
     pub(crate) fn parts(
         &self,
         alloc: Global,
@@ -112,9 +90,11 @@ impl Store {
         requires refs { RefsOf (peers_of self.now.state.policies) self.now.cache.live }
         ensures parts { IfOk result (ArePartsFor self.now endpoint.now localhost) }
     {
-        let found = self.kept_parts(alloc, endpoint, localhost)?;
-        match found {
-            Some(parts) => Ok(parts),
+        match self
+            .kept
+            .serving(endpoint.slot, &endpoint.labels, localhost)
+        {
+            Some(kept) => parts_of(alloc, self.numbers.selectors(), kept),
             None => self.made_parts(alloc, endpoint, localhost),
         }
     }

@@ -19,7 +19,7 @@ returns-in-Ok-clause-prepared g c =
     let labels = c.args.labels.now in
     let allowed : has_reserved labels ≡ false = sym c.has_reserved.ensures ∙ c.if-has_reserved.false in
     let fresh : number_named c.args.name.now old.state.named ≡ None = not_some (number_named c.args.name.now old.state.named)
-    (ap (λ (name : List ℕ). is_some (number_named name old.state.named)) (sym c.as_str.ensures) ∙ ap is_some (sym c.named_number.ensures.number) ∙ sym c.is_some.ensures ∙ c.if-is_some.false) in
+    (ap (λ (name : List ℕ). is_some (number_named name old.state.named)) (sym c.as_str.ensures) ∙ ap is_some (sym (c.find.ensures.found ∙ ap (number_named c.as_str.result.now) c.named.ensures.list)) ∙ sym c.is_some.ensures ∙ c.if-is_some.false) in
     let free = false_from_ne_true (is_exhausted labels mid.state.identities) (λ full. let wrong = c.in-Ok.ensures.exhausted.1 full in absurd cc) in
     let room = ap (λ (stored : Stored). is_exhausted labels stored.state.identities) (sym c.reserve_name.ensures.same) ∙ free in
     all_prepared (AddIdentity c.args.name.now labels) old new _

@@ -3,6 +3,7 @@ use Rattle.std.specs.List.{IsDistinct}
 use Rattle.pol_addr.specs.Prefix.{same_prefix}
 use Rattle.pol_model.specs.declared.request.Request.TheVariants.{Apply}
 use Rattle.pol_model.specs.Policies.{policy_at}
+use Rattle.pol_allocator.specs.Held.{Held}
 use Rattle.pol_requests.specs.declared.error.PrepareError.{PrepareError}
 use Rattle.pol_peers.specs.Listed.{listed_peers}
 use Rattle.pol_requests.specs.Prepared.{PreparesOrNot}
@@ -63,11 +64,11 @@ returns-in-Err-clause-prepared g c =
 pub returns-in-Err-clause-selectors : goal.returns-in-Err-clause-selectors
 returns-in-Err-clause-selectors g c =
     gains_given_back (listed_peers c.args.policy.now) c.args.store.now.cache c.reserve_policy.new.self.cache c.refer.new.self.cache c.hold_prefixes.new.self.cache c.unrefer.new.self.cache
-    c.horizon-known.ensures.live (ap (λ (t : Stored). t.cache) c.reserve_policy.ensures.same) c.refer.ensures.kept c.refer.ensures.fresh c.refer.ensures.log c.in_ok-refer.ensures.ok.more
+    c.numbers-known.ensures.sound.live (ap (λ (t : Stored). t.cache) c.reserve_policy.ensures.same) c.refer.ensures.kept c.refer.ensures.fresh c.refer.ensures.log c.in_ok-refer.ensures.ok.more
     (ap (λ (t : Stored). t.cache) c.in-Err.ensures.err) (record { kept = c.unrefer.ensures.kept; next = c.unrefer.ensures.next; log = c.unrefer.ensures.log }) c.unrefer.ensures.peers
 
 pub returns-then-are_too_many-clause-prepared : goal.returns-then-are_too_many-clause-prepared
 returns-then-are_too_many-clause-prepared g c =
     policy_too_much c.args.policy.now c.args.store.now c.reserve_policy.new.self c.as_slice.result.now c.reserve_policy.ensures.same
     (c.as_slice.ensures ∙ c.in_ok-new.ensures.taken)
-    (rw c.identities.ensures.rows at (sym c.are_too_many.ensures.many ∙ c.if-are_too_many.true))
+    (rw (c.identities.ensures.rows ∙ ap (λ (held : Held). held.rows) c.numbers.ensures.numbers) at (sym c.are_too_many.ensures.many ∙ c.if-are_too_many.true))

@@ -1,4 +1,4 @@
-use Rattle.std.proofs.Common.{IfSome, IsSome, sym, ◌∙◌, subst}
+use Rattle.std.proofs.Common.{◌≡◌, IfOk, IfSome, IsSome, sym, ◌∙◌, subst}
 use Rattle.std.specs.Arc.{arc_value}
 use Rattle.std.specs.List.{AllByRecursion}
 use Rattle.pol_l4.specs.declared.filter.Filters.{Filters}
@@ -27,4 +27,17 @@ returns-in-Some c =
       filters = c.in_ok-filters.ensures ∙ c.filters.ensures.filters;
       sets = told (arc_value kept.filters)
           (subst (λ (k : ListedPeers). IsListingOf (filter_peers (arc_value kept.filters)) k.rows) (sym c.known.ensures.known) c.requires.listed.listing);
+    }
+
+pub parts_with-requires : goal.parts_with-requires
+parts_with-requires c = record {
+  live = subst (λ (fs : Filters). AllByRecursion (λ p. IsSome (number_of p c.args.cache.now.live)) (filter_peers fs)) (sym (c.in_ok-filters.ensures ∙ c.filters.ensures.filters)) c.requires.live;
+}
+
+pub returns-in-None : goal.returns-in-None
+returns-in-None c =
+    let same = c.in_ok-filters.ensures ∙ c.filters.ensures.filters in
+    record {
+      filters = subst (λ (fs : Filters). IfOk c.parts_with.result (λ parts. arc_value parts.filters ≡ fs)) same c.parts_with.ensures.filters;
+      sets = subst (λ (fs : Filters). IfOk c.parts_with.result (λ parts. AreSetsFor c.args.cache.now.live fs parts.sets)) same c.parts_with.ensures.sets;
     }

@@ -1,7 +1,6 @@
 use Rattle.std.proofs.Common.{List, ap, subst, sym}
 use Rattle.std.specs.Map.{values_of}
 use Rattle.pol_kept_filters.specs.declared.kept.Kept.{Kept}
-use Rattle.pol_selcache.specs.Cache.{Cache}
 use Rattle.pol_kept_filters.specs.Kept.{AreKeptOf, AreListedIn, IsKeptOf, IsListedIn}
 use Rattle.pol_kept_filters.proofs.Rows.{every-put}
 use Rattle.pol_kept_filters.proofs.filters.KeptFilters.put.Goals as goal

@@ -1,4 +1,4 @@
-use Rattle.std.proofs.Common.{◌≡◌, refl, ap, ◌∙◌}
+use Rattle.std.proofs.Common.{refl, ap}
 use Rattle.pol_store.specs.Store.{Stored}
 use Rattle.pol_store.proofs.Taking.{is_taken}
 use Rattle.pol_store.proofs.store.Store.taken_for.Goals as goal

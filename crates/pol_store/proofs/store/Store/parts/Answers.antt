@@ -9,7 +9,7 @@ use Rattle.pol_selcache.specs.Live.{number_of}
 use Rattle.pol_taken.specs.PeerRows.{filter_peers}
 use Rattle.pol_store.specs.Store.{Stored}
 use Rattle.pol_store.proofs.Taking.{listed_live, parts_are}
-use Rattle.pol_store.proofs.store.Store.kept_parts.Goals as goal
+use Rattle.pol_store.proofs.store.Store.parts.Goals as goal
 
 pub parts_of-requires : goal.parts_of-requires
 parts_of-requires c =
