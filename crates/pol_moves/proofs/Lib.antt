@@ -7,3 +7,4 @@ pub mod Retold
 pub mod Chains
 pub mod MoveLaws
 pub mod Worked
+pub mod Unlimited

@@ -39,7 +39,7 @@ use Rattle.pol_history_log.specs.Asked.{or_none, table_at}
 use Rattle.pol_taken.specs.declared.taken.Taken.{Taken}
 use Rattle.pol_taken.specs.OfState.{IsTakenOf}
 use Rattle.pol_delta.specs.Work.{AllListed, AllOfFilters, AllOfPeers, IsWorkOf, WorkOf, map_of}
-use Rattle.pol_delta.proofs.SameRows.{is_table}
+use Rattle.pol_delta.proofs.Works.{is_table}
 use Rattle.pol_slot_map.specs.declared.follow.Followed.{Followed}
 use Rattle.pol_slot_map.specs.Follow.{GoesOn, IsShown, IsStartOf, LeadsFrom, Stays, changed_by, led}
 use Rattle.pol_slot_map.specs.Followed.{Follows, id_in, table_then}

@@ -1,17 +1,15 @@
 //! What a slot keeps of the endpoint that it follows.
 ghost use Rattle.std.specs.Prelude.{◌≡◌, ◌≢◌, ◌⊎◌, IfOk, IsTrue, None, OnErr, OnOk, Some, map};
 ghost use Rattle.std.specs.Arc.{arc_value};
-ghost use Rattle.std.specs.List.{AllByRecursion};
 ghost use Rattle.pol_delta.specs.Work.{IsWorkOf, map_of};
 ghost use Rattle.pol_distill.specs.Distilled.{distilled};
 ghost use Rattle.pol_distill.specs.Sorted.{HaveSets};
-ghost use Rattle.pol_raw_entries.specs.PeerRow.{Ascend};
 ghost use Rattle.pol_slot_map.specs.Follow.{GoesOn, IsShown, IsStartOf, MayApply, Stays};
 
 use pol_change_list::ChangeList;
 use pol_data::{Memory, Text};
 use pol_delta::{Changes, Work};
-use pol_sets::SetRow;
+use pol_raw_entries::sets_ascend;
 use pol_taken::Taken;
 use std::alloc::Global;
 use std::sync::Arc;
@@ -34,15 +32,6 @@ pub struct Followed {
     pub pending: ChangeList,
     /// The changes after these, where want of memory came before they were joined.
     pub behind: Option<ChangeList>,
-}
-
-/// It does nothing: each set's numbers ascend.
-fn sets_ascend(rows: &[SetRow])
-    ensures { AllByRecursion Ascend rows.now }
-{
-    for row in rows {
-        let _ = row.set.iter();
-    }
 }
 
 /// The work of what was taken.
