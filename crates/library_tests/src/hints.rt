@@ -2,7 +2,7 @@
 //! the same time.
 ghost use Rattle.std.specs.Prelude.{◌≡◌, true, Some, None, IfOk};
 
-use pol_pool::{Calls, Gate, HintPass, Hints, HintsFull, Job, Over, work};
+use pol_pool::{Calls, Gate, HintPass, HintRound, Hints, HintsFull, Job, Over, work};
 use std::alloc::{AllocError as Memory, Global};
 use std::sync::Wait;
 use std::sync::atomic::{AtomicBool, AtomicU32, Ordering};
@@ -49,6 +49,20 @@ fn joined_passes_take_in_order(rt: HostRuntime) -> Result<(), Fail> {
     assert!(rt; hints.take(&rt, &mut other) == Some(5));
     hints.join(&rt, &mut pass, other);
     assert!(rt; hints.take(&rt, &mut pass) == Some(6));
+    Ok(())
+}
+
+#[test]
+fn a_slot_without_room_is_the_first_one_next_time(rt: HostRuntime) -> Result<(), Fail> {
+    let (hints, mut pass) = Hints::new(rt.alloc(), 2)?;
+    let mut round = HintRound::new();
+    round.hint(&rt, &hints, &mut pass, 3);
+    assert!(rt; hints.take(&rt, &mut pass) == Some(0));
+    assert!(rt; hints.take(&rt, &mut pass) == Some(1));
+    round.hint(&rt, &hints, &mut pass, 3);
+    assert!(rt; hints.take(&rt, &mut pass) == Some(2));
+    assert!(rt; hints.take(&rt, &mut pass) == Some(0));
+    assert!(rt; hints.take(&rt, &mut pass).is_none());
     Ok(())
 }
 

@@ -5,7 +5,6 @@
 //! What they promise is said over the definitions of `pol_placed` (`specs/Seats`).
 #![tactic(auto)]
 
-mod hint;
 mod line;
 mod phase;
 mod script;

@@ -6,12 +6,11 @@ ghost use Rattle.pol_script.specs.declared.command.Command.TheVariants as comman
 ghost use Rattle.pol_phases.specs.Marks.{IsOfSession};
 ghost use Rattle.pol_sessions.specs.Sessions.{GoesOn};
 
-use crate::hint::hint;
 use pol_answer::Answer;
 use pol_data::{Memory, Steps};
 use pol_model::{CommitError, Query, Request};
 use pol_node::{LookError, Node, NodeName, Pass, TraceError};
-use pol_pool::{HintPass, Hints};
+use pol_pool::{HintPass, HintRound, Hints};
 use pol_script::Command;
 use std::alloc::Global;
 use std::sync::Wait;
@@ -26,6 +25,7 @@ pub(crate) fn play_line<N: NodeName, W: Wait, R: Wait + Drop, L: Ledger>(
     pass: &mut Pass<N>,
     hints: &Hints,
     hint_pass: &mut HintPass,
+    round: &mut HintRound,
     line: Command,
     steps: &mut Steps<L>,
 ) -> Result<Answer, Memory>
@@ -40,7 +40,9 @@ pub(crate) fn play_line<N: NodeName, W: Wait, R: Wait + Drop, L: Ledger>(
         Command::Commit {
             session: _,
             request,
-        } => commit(rt, alloc, node, pass, hints, hint_pass, request, steps),
+        } => commit(
+            rt, alloc, node, pass, hints, hint_pass, round, request, steps,
+        ),
         Command::Look { session: _, query } => Ok(look(rt, node, pass, &query, steps)),
         Command::Trace { session: _, query } => trace(rt, alloc, node, pass, &query),
         Command::Sync { session: _ } => sync(rt, alloc, node, pass),
@@ -56,6 +58,7 @@ fn commit<N: NodeName, W: Wait, R: Wait + Drop, L: Ledger>(
     pass: &mut Pass<N>,
     hints: &Hints,
     hint_pass: &mut HintPass,
+    round: &mut HintRound,
     request: Request,
     steps: &mut Steps<L>,
 ) -> Result<Answer, Memory>
@@ -72,7 +75,7 @@ fn commit<N: NodeName, W: Wait, R: Wait + Drop, L: Ledger>(
     }
     match node.commit(rt, alloc, pass, request, steps) {
         Ok(done) => {
-            hint(rt, hints, hint_pass, done.slots);
+            round.hint(rt, hints, hint_pass, done.slots);
             Ok(Answer::Committed {
                 revision: done.revision,
                 identity: done.identity,

@@ -8,7 +8,7 @@ use crate::line::play_line;
 use pol_data::{Memory, Steps};
 use pol_node::{Node, NodeName, Pass};
 use pol_phases::{Answers, Commands};
-use pol_pool::{HintPass, Hints};
+use pol_pool::{HintPass, HintRound, Hints};
 use std::alloc::Global;
 use std::marker::Brand;
 use std::sync::Wait;
@@ -69,9 +69,12 @@ fn play_counted<N: NodeName, W: Wait, R: Wait + Drop, L: Ledger>(
     let mut steps = Steps::<L>::new(blank);
     let mut left = lines;
     let mut answers = Answers::new(alloc);
+    let mut round = HintRound::new();
     let _seen = pass.seen();
     while let Some(line) = left.next() {
-        let answer = play_line(rt, alloc, node, pass, hints, hint_pass, line, &mut steps)?;
+        let answer = play_line(
+            rt, alloc, node, pass, hints, hint_pass, &mut round, line, &mut steps,
+        )?;
         answers.push(answer)?;
     }
     Ok(answers)
