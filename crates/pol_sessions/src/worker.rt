@@ -8,18 +8,19 @@ use crate::phase::{PlayedPhases, play_phases};
 use left_right::Absorb;
 use pol_board_view::{Face, FaceOp};
 use pol_data::{Items, Memory};
-use pol_node::{Node, NodeName, Pass};
+use pol_node::{Node, NodeName, Pass, Regen};
 use pol_phases::Commands;
 use pol_pool::{Calls, Gate, HintPass, Hints, Job, Over, work};
 use std::alloc::Global;
 use std::sync::Wait;
+use std::sync::atomic::{AtomicU64, Ordering};
 use std::thread;
 use std::thread::{Threads, join};
 
-/// How many times a worker yields the processor behind a regeneration, until the end is told.
-const YIELDS: u32 = 512;
+/// How many times a worker that rests yields the processor, until the end is told.
+const YIELDS: u32 = 1024;
 
-/// What a worker does with a hint: it regenerates the slot, and rests.
+/// What a worker does with a hint: it regenerates the slot, and rests where commits came meanwhile.
 #[derive(Drop)]
 struct Regenerating<'a, N: NodeName, R: Wait + Drop>
 where
@@ -27,6 +28,17 @@ where
 {
     node: &'a Node<N, R>,
     over: &'a Over,
+    // The revision of what this worker regenerated last.
+    last: AtomicU64,
+}
+
+/// The revision of what was regenerated. An endpoint that has gone has none.
+fn revision_of(regen: Regen) -> Option<u64> {
+    match regen {
+        Regen::Published(revision) | Regen::Already(revision) => Some(revision),
+        Regen::Full { revision, .. } => Some(revision),
+        Regen::Gone => None,
+    }
 }
 
 /// Yields, so that threads go first that wait for the desk, which a regeneration holds for a while. Once the end was told
@@ -40,11 +52,23 @@ fn rest(over: &Over) {
     }
 }
 
+impl<'a, N: NodeName, R: Wait + Drop> Regenerating<'a, N, R> {
+    /// Whether commits came since this worker regenerated a slot before: this one is of another revision.
+    fn is_behind(&self, regen: Regen) -> bool {
+        match revision_of(regen) {
+            Some(revision) => self.last.swap(revision, Ordering::SeqCst) != revision,
+            None => false,
+        }
+    }
+}
+
 impl<'a, N: NodeName, R: Wait + Drop> Job for Regenerating<'a, N, R> {
     fn run<W: Wait>(&self, rt: &W, alloc: Global, slot: u32) -> Result<(), Memory> {
         match self.node.regenerate(rt, alloc, slot) {
-            Ok(_) => {
-                rest(self.over);
+            Ok(regen) => {
+                if self.is_behind(regen) {
+                    rest(self.over);
+                }
                 Ok(())
             }
             Err(_) => Err(Memory),
@@ -90,7 +114,11 @@ fn serve<
                 alloc,
                 hints,
                 &mut other,
-                &Regenerating { node, over },
+                &Regenerating {
+                    node,
+                    over,
+                    last: AtomicU64::new(0),
+                },
                 gate,
                 calls,
                 over,
