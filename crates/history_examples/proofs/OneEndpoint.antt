@@ -1,5 +1,5 @@
 -- In a small history one endpoint is live: a row that is found is its row, and what is reported is of it.
-use Rattle.std.proofs.Common.{◌≡◌, ℕ, ◌≤◌, Bool, true, false, cond, List, [], ◌∷◌, bytes_eq, None, Some, refl, subst, ap, arith}
+use Rattle.std.proofs.Common.{◌≡◌, ℕ, Bool, true, false, cond, List, [], ◌∷◌, bytes_eq, None, Some, subst, ap, arith}
 use Rattle.std.specs.Prelude.{⊤}
 use Rattle.pol_mapkey.specs.Entries.{Entry as MapEntry}
 use Rattle.pol_model.specs.Endpoints.{endpoint_of}

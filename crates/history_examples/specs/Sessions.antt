@@ -1,8 +1,9 @@
 -- Two sessions that play a script in two phases: with a faulty line, a refusal, and queries for which no endpoint is live.
-use Rattle.std.specs.Prelude.{ℕ, List, [], ◌∷◌, None, map, Ok, Err}
+use Rattle.std.specs.Prelude.{List, [], ◌∷◌, map, Ok, Err}
 use Rattle.pol_answer.specs.declared.answer.Answer.{Answer}
 use Rattle.pol_answer.specs.declared.answer.Answer.TheVariants as answer
 use Rattle.pol_model.specs.declared.answer.Fault.TheVariants.{DuplicateEndpoint}
+use Rattle.pol_script.specs.declared.command.Command.{Command}
 use Rattle.pol_script.specs.declared.command.Command.TheVariants as command
 use Rattle.pol_script.specs.declared.line_fault.LineFault.TheVariants.{Json}
 use Rattle.pol_run.specs.ExampleLines.{add_web, db, first_number, no_endpoint, ok, packet_to, phase, refused, web}
@@ -25,6 +26,13 @@ lines =
 
 abbrev pub readings : List Reading
 readings = map (λ (line : Line). line.0) lines
+
+-- the commands of each session in each phase
+abbrev pub phases : List (List (List Command))
+phases =
+    ((command.Look 1 (packet_to web) ∷ command.Commit 1 add_web ∷ []) ∷ (command.Look 2 (packet_to db) ∷ []) ∷ [])
+    ∷ ((command.Trace 1 (packet_to db) ∷ []) ∷ (command.Commit 2 add_web ∷ []) ∷ [])
+    ∷ []
 
 -- what the sessions were told in each phase
 abbrev pub told : List (List (List Answer))

@@ -1,5 +1,5 @@
-//! Computed examples that hold the definitions of histories: what `pol_history`, `pol_placed` and `pol_sessions` say of small histories, and
-//! what they don't.
+//! Computed examples that hold the definitions of histories: what `pol_history`, `pol_placed`, `pol_phases` and `pol_sessions` say of
+//! small histories and scripts, and what they don't.
 //!
 //! Nothing stands on this crate. Each law is the contract of a function that does nothing.
 #![tactic(auto)]
@@ -9,3 +9,4 @@ pub mod played;
 pub mod regenerations;
 pub mod steps;
 pub mod stopped;
+pub mod two_parts;

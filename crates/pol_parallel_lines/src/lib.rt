@@ -1,11 +1,11 @@
-//! Large scripts are read, and many answers printed, by halves of halves, each in a thread.
+//! Large scripts are read and cut into phases, and many answers printed, by halves of halves, each in a thread.
 //!
-//! What is read and what is printed is exactly what one thread would read and print.
+//! What is cut and what is printed is exactly what one thread would cut and print.
 #![tactic(auto)]
 
+mod cut;
 mod halves;
 mod print;
-mod read;
 
+pub use cut::cut_lines;
 pub use print::print_answers;
-pub use read::read_lines;

@@ -1,2 +1,4 @@
 pub mod CutLines
+pub mod InBlocks
 pub mod Returned
+pub mod TwoParts

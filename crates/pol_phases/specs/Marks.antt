@@ -4,7 +4,7 @@ use Rattle.pol_answer.specs.declared.answer.Answer.{Answer}
 use Rattle.pol_answer.specs.declared.answer.Answer.TheVariants as answer
 use Rattle.pol_script.specs.declared.command.Command.{Command}
 use Rattle.pol_run.specs.Spots.{Reading, session_of}
-use Rattle.pol_placed.specs.Cut.{answer_in, first_phase, script_of, told_after}
+use Rattle.pol_placed.specs.Cut.{answer_in, first_phase, list_at, script_of, told_after}
 use Rattle.pol_phases.specs.declared.mark.Mark.{Mark}
 use Rattle.pol_phases.specs.declared.mark.Mark.TheVariants as mark
 
@@ -50,6 +50,21 @@ answers_by number (first ∷ marks) told = answer_by number first told ∷ answe
 pub record IsCut (sessions : ℕ) (lines : List Reading) (ended : List (List (List Command))) (current : List (List Command)) (marks : List Mark) : Type 0 where
   pub phases : ended ++ current ∷ [] ≡ script_of sessions lines
   pub marked : marks ≡ map mark_of lines
+
+-- ---- two parts of a script
+
+-- each list, with the one beside it behind it
+abbrev pub beside : {X : Type 0} → List (List X) → List (List X) → List (List X)
+beside [] others = []
+beside (xs ∷ lists) others = (xs ++ list_at others 0) ∷ beside lists (drop 1 others)
+
+-- the phases of one part, and of a later one: the last phase of the one and the first of the other are one phase
+abbrev pub joined : {X : Type 0} → List (List (List X)) → List (List (List X)) → List (List (List X))
+joined [] later = later
+joined (last ∷ []) later = beside last (first_phase later) ∷ drop 1 later
+joined (first ∷ next ∷ phases) later = first ∷ joined (next ∷ phases) later
+
+-- ---- answers that are put back
 
 -- what is left of the answers: those of the current phase, none past the last one, and those of later phases
 pub record IsLeft (told : List (List (List Answer))) (current : List (List Answer)) (later : List (List (List Answer))) : Type 0 where

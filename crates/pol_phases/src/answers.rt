@@ -1,16 +1,16 @@
 //! What a session was answered in a phase.
 ghost use Rattle.std.specs.Prelude.{◌≡◌, ◌++◌, ◌∷◌, [], IfNone, OnErr, OnOk, option_to_list};
 
+use crate::blocks::Blocks;
 use pol_answer::Answer;
 use pol_data::Memory;
 use std::alloc::Global;
-use std::collections::VecDeque;
 use std::marker::Model;
 
 /// The answers to the commands of one session in one phase, in order. Contracts see their list.
 #[derive(Drop)]
 pub struct Answers {
-    waiting: VecDeque<Answer>,
+    waiting: Blocks<Answer>,
 }
 
 impl Model for Answers {
@@ -19,7 +19,7 @@ impl Model for Answers {
 
     ghost Value = { List OneAnswer };
 
-    ghost view = { λ answers. answers.waiting.items };
+    ghost view = { λ answers. answers.waiting };
 }
 
 impl Answers {
@@ -28,7 +28,7 @@ impl Answers {
         ensures { result ≡ [] }
     {
         Answers {
-            waiting: VecDeque::new(alloc),
+            waiting: Blocks::new(alloc),
         }
     }
 
@@ -37,8 +37,7 @@ impl Answers {
         ensures pushed { OnOk result (self.new ≡ self.old ++ answer ∷ []) }
         ensures same { OnErr result (self.new ≡ self.old) }
     {
-        self.waiting.push_back(answer)?;
-        Ok(())
+        self.waiting.push(answer)
     }
 
     /// Takes the first answer, if there is one.
@@ -46,6 +45,6 @@ impl Answers {
         ensures first { self.old ≡ option_to_list result ++ self.new }
         ensures none { IfNone result (self.old ≡ []) }
     {
-        self.waiting.pop_front()
+        self.waiting.next()
     }
 }

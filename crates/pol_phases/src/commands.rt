@@ -1,17 +1,17 @@
 //! What a session is to play in a phase.
-ghost use Rattle.std.specs.Prelude.{◌≡◌, ◌++◌, ◌∷◌, [], ◌↔◌, IfNone, IfOk, IfSome, IsTrue, OnErr, OnOk, option_to_list};
+ghost use Rattle.std.specs.Prelude.{◌≡◌, ◌++◌, ◌∷◌, [], ◌↔◌, IfNone, IfSome, IsTrue, OnErr, OnOk, option_to_list};
 ghost use Rattle.pol_phases.specs.Marks.{IsOfSession};
 
+use crate::blocks::Blocks;
 use pol_data::Memory;
 use pol_script::Command;
 use std::alloc::Global;
-use std::collections::VecDeque;
 use std::marker::Model;
 
 /// The commands of one session in one phase, in order: none of them is `phase`. Contracts see their list.
 #[derive(Drop)]
 pub struct Commands {
-    waiting: VecDeque<Command>,
+    waiting: Blocks<Command>,
 }
 
 impl Model for Commands {
@@ -22,19 +22,19 @@ impl Model for Commands {
 
     ghost Value = { List OneCommand };
 
-    ghost view = { λ commands. commands.waiting.items };
+    ghost view = { λ commands. commands.waiting };
 
-    ghost invariant = { λ commands. AllByRecursion IsOfSession commands.waiting.items };
+    ghost invariant = { λ commands. AllByRecursion IsOfSession commands.waiting };
 }
 
 impl Commands {
-    /// No command, with room for so many. The one error is want of memory.
-    pub fn with_room(alloc: Global, room: usize) -> Result<Commands, Memory>
-        ensures { IfOk result (λ commands. commands ≡ []) }
+    /// No command. It takes no memory.
+    pub fn new(alloc: Global) -> Commands
+        ensures { result ≡ [] }
     {
-        Ok(Commands {
-            waiting: VecDeque::with_capacity(alloc, room)?,
-        })
+        Commands {
+            waiting: Blocks::new(alloc),
+        }
     }
 
     /// One command more, behind the others. The one error is want of memory, and they are then as before.
@@ -43,8 +43,16 @@ impl Commands {
         ensures pushed { OnOk result (self.new ≡ self.old ++ command ∷ []) }
         ensures same { OnErr result (self.new ≡ self.old) }
     {
-        self.waiting.push_back(command)?;
-        Ok(())
+        self.waiting.push(command)
+    }
+
+    /// The commands of a later part of the phase, behind the others. None of them is moved. The one error is want of memory,
+    /// and they are then as before.
+    pub fn append(&mut self, later: Commands) -> Result<(), Memory>
+        ensures appended { OnOk result (self.new ≡ self.old ++ later) }
+        ensures same { OnErr result (self.new ≡ self.old) }
+    {
+        self.waiting.append(later.waiting)
     }
 
     /// Takes the first command, if there is one.
@@ -53,7 +61,7 @@ impl Commands {
         ensures none { IfNone result (self.old ≡ []) }
         ensures of_session { IfSome result IsOfSession }
     {
-        self.waiting.pop_front()
+        self.waiting.next()
     }
 
     /// Whether there is none.

@@ -8,13 +8,18 @@
 
 mod answers;
 mod back;
+mod block;
+mod blocks;
 mod commands;
+mod cut_script;
 mod cutting;
+mod joining;
 mod mark;
-mod rooms;
+mod session;
 
 pub use answers::Answers;
 pub use back::put_back;
 pub use commands::Commands;
-pub use cutting::{CutScript, cut};
+pub use cut_script::CutScript;
+pub use cutting::cut;
 pub use mark::Mark;

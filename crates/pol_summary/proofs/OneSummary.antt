@@ -1,5 +1,5 @@
 -- A generated script that was played has the summary, and what was seen of it holds its rounds.
-use Rattle.std.proofs.Common.{◌≡◌, ℕ, List, length, map, ap, sym, ◌∙◌, subst}
+use Rattle.std.proofs.Common.{◌≡◌, ℕ, List, length, map, ap, ◌∙◌, subst}
 use Rattle.std.proofs.lemmas.List.{length-map}
 use Rattle.std.specs.List.{zip}
 use Rattle.pol_answer.specs.declared.answer.Answer.{Answer}

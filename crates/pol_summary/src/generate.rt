@@ -10,8 +10,6 @@ use pol_data::Memory;
 use pol_gen::generated;
 use pol_history_log::SeenHistory;
 use pol_model::Options;
-use pol_parallel_lines::read_lines;
-use pol_placed::phases::lines_are_seated;
 use pol_play_lines::play_lines;
 use pol_pool::Gate;
 use std::alloc::Global;
@@ -45,9 +43,7 @@ pub fn summary_of<W: Threads + Wait + Sync, G: Gate + Sync>(
     ensures history { IfOk result (λ summed. IsHistoryOfRounds options n summed.last) }
 {
     let script = generated(alloc, n)?;
-    let readings = read_lines(rt, alloc, script.as_slice())?;
-    lines_are_seated();
-    let played = play_lines(rt, alloc, options, workers, gate, readings)?;
+    let played = play_lines(rt, alloc, options, workers, gate, script.as_slice())?;
     let text = summary_text(alloc, played.answers.as_slice())?;
     Ok(Summed {
         text,

@@ -13,34 +13,34 @@ use Rattle.pol_model.specs.declared.options.Options.{Options}
 use Rattle.pol_placed.specs.HistoryOfRun.{IsHistoryOf}
 use Rattle.pol_script.specs.Lines.{lines_of}
 use Rattle.pol_script.specs.Reading.{reading_of}
-use Rattle.pol_run.specs.Run.{IsRun, IsRunOf, is_marked}
-use Rattle.pol_run.specs.Spots.{Reading, spots_of}
+use Rattle.pol_run.specs.Run.{IsRun, IsRunOf, is_marked, readings_of}
+use Rattle.pol_run.specs.Spots.{spots_of}
 use Rattle.pol_run.proofs.ToldHistory.{run_history_told}
 use Rattle.policyd.specs.Headline.{HoldsText, LeavesHistory, WritesRun, WritesPartOfRun}
 use Rattle.policyd.specs.Script.{fits_limits, input_max, lines_max}
 
--- lines that were read, played and printed
-pub printed_run : (options : Options) (script text : List ℕ) (readings : List Reading) (answers : List Answer) (marked : Bool)
-    → readings ≡ map reading_of (lines_of script) → length answers ≡ length readings → IsRun options (spots_of (zip readings answers))
+-- lines that were played and printed
+pub printed_run : (options : Options) (script text : List ℕ) (answers : List Answer) (marked : Bool)
+    → length answers ≡ length (readings_of script) → IsRun options (spots_of (zip (readings_of script) answers))
     → text ≡ texts_of answers → marked ≡ list_any is_marked answers → IsRunOf options script text (if marked then 1 else 0)
-printed_run options script text readings answers marked read one_each run printed marks = record {
+printed_run options script text answers marked one_each run printed marks = record {
   answers = answers;
-  one_each = one_each ∙ ap (λ (xs : List Reading). length xs) read ∙ length-map (lines_of script) reading_of;
+  one_each = one_each ∙ length-map (lines_of script) reading_of;
   text = printed;
-  run = subst (λ (xs : List Reading). IsRun options (spots_of (zip xs answers))) read run;
+  run = run;
   status = ap (λ (b : Bool). if b then 1 else 0) marks;
 }
 
 -- and the history that was seen in the end holds them
-pub printed_history : (options : Options) (script text : List ℕ) (readings : List Reading) (answers : List Answer) (history : List HistoryEvent)
-    → readings ≡ map reading_of (lines_of script) → length answers ≡ length readings → IsLegal options history → IsHistoryOf options history (zip readings answers)
+pub printed_history : (options : Options) (script text : List ℕ) (answers : List Answer) (history : List HistoryEvent)
+    → length answers ≡ length (readings_of script) → IsLegal options history → IsHistoryOf options history (zip (readings_of script) answers)
     → text ≡ texts_of answers → HoldsText options script text history
-printed_history options script text readings answers history read one_each legal holds printed = record {
+printed_history options script text answers history one_each legal holds printed = record {
   answers = answers;
-  one_each = one_each ∙ ap (λ (xs : List Reading). length xs) read ∙ length-map (lines_of script) reading_of;
+  one_each = one_each ∙ length-map (lines_of script) reading_of;
   texts = printed;
   legal = legal;
-  holds = subst (λ (xs : List Reading). IsHistoryOf options history (zip xs answers)) read holds;
+  holds = holds;
 }
 
 -- a script within the limits has few lines

@@ -1,5 +1,5 @@
 -- What the words of the command line ask for.
-use Rattle.std.specs.Prelude.{ℕ, ◌||◌, Bool, true, false, is_some, List, Option, None, Some, option_and_then}
+use Rattle.std.specs.Prelude.{ℕ, Bool, true, false, List, Option, None, Some, option_and_then}
 use Rattle.std.specs.Option.{option_map_or}
 use Rattle.pol_model.specs.declared.options.Options.{Options}
 use Rattle.pol_command_line.specs.declared.task.Task.{Task}

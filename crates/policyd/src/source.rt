@@ -16,8 +16,7 @@ use pol_base::{Failed, ReadAllError, Sink, Source, read_all, write_all};
 use pol_data::Memory;
 use pol_history_log::SeenHistory;
 use pol_model::Options;
-use pol_parallel_lines::{print_answers, read_lines};
-use pol_placed::phases::lines_are_seated;
+use pol_parallel_lines::print_answers;
 use pol_play_lines::play_lines;
 use pol_pool::Gate;
 use pol_script::count_lines;
@@ -151,9 +150,7 @@ fn answers_to<R: Threads + Wait + Sync, G: Gate + Sync>(
     ensures run { IfOk result (λ printed. IsRunOf options script.now printed.text.items (if printed.marked then 1 else 0)) }
     ensures history { IfOk result (λ printed. HoldsText options script.now printed.text.items printed.last) }
 {
-    let readings = read_lines(rt, alloc, script)?;
-    lines_are_seated();
-    let played = play_lines(rt, alloc, options, workers, gate, readings)?;
+    let played = play_lines(rt, alloc, options, workers, gate, script)?;
     let text = print_answers(rt, alloc, played.answers.as_slice())?;
     let marked = any_marked(played.answers.as_slice());
     Ok(Printed {

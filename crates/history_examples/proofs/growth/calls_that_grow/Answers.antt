@@ -1,4 +1,4 @@
-use Rattle.std.proofs.Common.{◌≡◌, suc, List, [], ◌∷◌, length, refl, ap, arith}
+use Rattle.std.proofs.Common.{◌≡◌, suc, List, length, refl, ap, arith}
 use Rattle.pol_model.specs.declared.answer.Fault.TheVariants.{DuplicateEndpoint}
 use Rattle.pol_model.specs.declared.request.Request.{Request}
 use Rattle.pol_history.specs.declared.event.HistoryEvent.{HistoryEvent}

@@ -1,4 +1,4 @@
-use Rattle.std.proofs.Common.{◌≡◌, List, [], ◌∷◌, length, refl, ap, arith}
+use Rattle.std.proofs.Common.{◌≡◌, List, [], length, refl, ap, arith}
 use Rattle.pol_model.specs.declared.request.Request.{Request}
 use Rattle.pol_history.specs.ExampleEvents.{at_most}
 use Rattle.pol_history.specs.Legal.{IsLegal}

@@ -1,4 +1,4 @@
-use Rattle.std.proofs.Common.{◌≡◌, ℕ, zero, suc, List, [], ◌∷◌, slice_get, Some, refl, ap, sym, arith}
+use Rattle.std.proofs.Common.{◌≡◌, ℕ, zero, suc, [], ◌∷◌, slice_get, Some, refl, ap, sym, arith}
 use Rattle.pol_history.specs.Grows.{PassState}
 use Rattle.pol_history.specs.Legal.{IsLegal}
 use Rattle.pol_history.proofs.LegalEvents.{each_legal}

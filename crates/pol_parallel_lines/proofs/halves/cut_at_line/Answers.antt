@@ -1,5 +1,5 @@
 use Rattle.std.proofs.Common.{rules, length, ◌/◌}
-use Rattle.pol_parallel_lines.proofs.Cut.{cut_behind}
+use Rattle.pol_parallel_lines.proofs.BehindNewline.{cut_behind}
 use Rattle.pol_parallel_lines.proofs.halves.cut_at_line.Goals as goal
 
 pub returns-in-Some : goal.returns-in-Some

@@ -1,4 +1,3 @@
-use Rattle.std.proofs.Common.{not, ap}
 use Rattle.policyd.proofs.Tables.{fits_few}
 use Rattle.policyd.proofs.audit.finding_of.Goals as goal
 

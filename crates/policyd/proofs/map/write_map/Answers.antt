@@ -1,4 +1,3 @@
-use Rattle.std.proofs.Common.{ap, sym, ◌∙◌}
 use Rattle.policyd.proofs.Tables.{writes_map, writes_part_of_map}
 use Rattle.policyd.proofs.map.write_map.Goals as goal
 

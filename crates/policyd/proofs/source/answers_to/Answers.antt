@@ -1,25 +1,18 @@
-use Rattle.std.proofs.Common.{List, ◌∙◌, ap, subst, sym}
+use Rattle.std.proofs.Common.{◌∙◌, ap}
 use Rattle.std.specs.List.{list_any}
 use Rattle.pol_answer.specs.Text.{texts_of}
-use Rattle.pol_placed.specs.Cut.{AreSeated}
-use Rattle.pol_run.specs.Run.{is_marked, readings_of}
-use Rattle.pol_run.specs.Spots.{Reading}
+use Rattle.pol_run.specs.Run.{is_marked}
 use Rattle.policyd.proofs.ScriptRun.{printed_history, printed_run}
 use Rattle.policyd.proofs.source.answers_to.Goals as goal
 
-pub play_lines-requires-clause-seated : goal.play_lines-requires-clause-seated
-play_lines-requires-clause-seated g c κs within =
-    subst (λ (lines : List Reading). AreSeated 8 lines) (sym c.in_ok-readings.ensures.readings) (c.lines_are_seated.ensures c.args.script.now)
-
 pub returns-clause-run : goal.returns-clause-run
 returns-clause-run g c =
-    printed_run c.args.options c.args.script.now c.in_ok-text.text.items c.in_ok-readings.readings.items c.in_ok-played.played.answers.items
-    c.any_marked-marked.result c.in_ok-readings.ensures.readings c.in_ok-played.ensures.one_each c.in_ok-played.ensures.run
-    (c.in_ok-text.ensures.text ∙ ap texts_of c.as_slice.ensures.value)
+    printed_run c.args.options c.args.script.now c.in_ok-text.text.items c.in_ok-played.played.answers.items c.any_marked-marked.result
+    c.in_ok-played.ensures.one_each c.in_ok-played.ensures.run (c.in_ok-text.ensures.text ∙ ap texts_of c.as_slice.ensures.value)
     (c.any_marked-marked.ensures ∙ ap (list_any is_marked) c.as_slice-2.ensures.value)
 
 pub returns-clause-history : goal.returns-clause-history
 returns-clause-history g c =
-    printed_history c.args.options c.args.script.now c.in_ok-text.text.items c.in_ok-readings.readings.items c.in_ok-played.played.answers.items c.in_ok-played.played.last
-    c.in_ok-readings.ensures.readings c.in_ok-played.ensures.one_each c.in_ok-played.ensures.legal c.in_ok-played.ensures.history
+    printed_history c.args.options c.args.script.now c.in_ok-text.text.items c.in_ok-played.played.answers.items c.in_ok-played.played.last
+    c.in_ok-played.ensures.one_each c.in_ok-played.ensures.legal c.in_ok-played.ensures.history
     (c.in_ok-text.ensures.text ∙ ap texts_of c.as_slice.ensures.value)
