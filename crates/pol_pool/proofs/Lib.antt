@@ -4,3 +4,4 @@ pub mod Shares
 pub mod Views
 pub mod Steps
 pub mod Taken
+pub mod Below

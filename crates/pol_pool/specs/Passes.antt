@@ -1,10 +1,11 @@
 -- The words of the contracts: a queue and a pass as callers see them, of which queue a pass is one, and what a call adds.
-use Rattle.std.specs.Prelude.{◌≡◌, ℕ, ◌+◌, List, [], ◌∷◌, ◌++◌}
+use Rattle.std.specs.Prelude.{◌≡◌, ◌<◌, ℕ, ◌+◌, List, [], ◌∷◌, ◌++◌}
+use Rattle.std.specs.List.{AllByRecursion}
 use mathlib.Core.List.{IsPrefix}
 use Rattle.atomic_table.specs.Seated.{TableId}
 use Rattle.pol_pool.specs.declared.standing.Share.{Share}
 use Rattle.pol_pool.specs.declared.turn.Turn.{Turn}
-use Rattle.pol_pool.specs.History.{IsHistory, waiting}
+use Rattle.pol_pool.specs.History.{IsHistory, hints_put, hints_taken, waiting}
 use Rattle.pol_pool.specs.Shares.{IsAll, IsPart}
 
 -- a queue of hints: what tells it from every other one, and how many hints it has room for
@@ -47,3 +48,10 @@ pub record Found (So : List ℕ → Type 0) (p : Pass) : Type 0 where
   pub legal : IsHistory history
   pub so : So (waiting history)
   pub only : IsOnly p → history ≡ p.seen
+
+-- between these two states of a pass hints were put, each of a slot below this number, and none was taken
+pub record HintsBelow (slots : ℕ) (before after : Pass) : Type 0 where
+  pub put : List ℕ
+  pub below : AllByRecursion (λ slot. slot < slots) put
+  pub puts : hints_put after.seen ≡ hints_put before.seen ++ put
+  pub takes_none : hints_taken after.seen ≡ hints_taken before.seen

@@ -1,4 +1,7 @@
 //! What one thread has seen of a queue of hints.
+ghost use Rattle.pol_pool.specs.History.{IsHistory};
+ghost use Rattle.pol_pool.specs.Shares.{IsPart};
+
 use crate::standing::Standing;
 use crossbeam_queue::Pass;
 use std::marker::Model;
@@ -21,4 +24,14 @@ impl Model for HintPass {
     ghost view = { λ p. pass_of p.pass.table_id (known_by p.pass) };
 
     ghost invariant = { λ p. IsAtRest p.pass.me.1 (known_by p.pass) };
+}
+
+impl HintPass {
+    /// The call tells that the pass has a share, and that what it has seen is a history.
+    pub(crate) fn fits_together(&self)
+        ensures part { IsPart self.now.share }
+        ensures legal { IsHistory self.now.seen }
+    {
+        let _ = &self.pass;
+    }
 }
