@@ -1,9 +1,14 @@
 //! From policies to the filters of an endpoint.
-ghost use Rattle.std.specs.Prelude.{◌≡◌, ◌++◌, ◌<◌, ◌^◌, length, IfOk, OnOk};
-ghost use Rattle.std.specs.List.{AllByRecursion, list_any};
+ghost use Rattle.std.specs.Prelude.{◌≡◌, ◌++◌, ◌<◌, ◌^◌, ◌||◌, [], false, length, IfOk, List, OnOk};
+ghost use Rattle.std.specs.List.{AllByRecursion};
+ghost use Rattle.pol_ports.specs.declared.Direction.{Direction as AnyDirection};
+ghost use Rattle.pol_ports.specs.declared.Direction.TheVariants.{Ingress, Egress};
 ghost use Rattle.pol_rule.specs.Covers.{section_of};
+ghost use Rattle.pol_model.specs.declared.row.Stamped.{Stamped as OnePolicy};
+ghost use Rattle.pol_model.specs.Enforced.{rule_says};
 ghost use Rattle.pol_model.specs.Sizes.{HasShortSections, IsShortPolicy};
-ghost use Rattle.pol_l4.specs.Resolved.{denies, entry_filters, filter_at, filters_for, filters_in, labels_enforced, policy_filters, policy_says};
+ghost use Rattle.pol_l4.specs.Resolved.{denies, entry_filters, filter_at, filters_for, labels_enforced, policy_filters, policy_says, rule_filters};
+ghost use Rattle.pol_l4.specs.Said.{IsSaid};
 
 use crate::filter::{Filter, FilterList, Filters};
 use pol_data::Memory;
@@ -12,6 +17,26 @@ use pol_model::{Mode, Stamped, allow_section, deny_section, is_init, rule_says};
 use pol_ports::Direction;
 use pol_rule::{Entry, Place, Rule, Section};
 use std::alloc::Global;
+
+/// What rules say of a direction: their filters, and whether any of them says something.
+#[derive(Drop)]
+struct Said {
+    filters: Vec<Filter>,
+    some: bool,
+}
+
+impl Said {
+    /// No filters, and no rule says anything.
+    fn nothing(alloc: Global) -> Said
+        ensures filters { result.filters.items ≡ [] }
+        ensures some { result.some ≡ false }
+    {
+        Said {
+            filters: Vec::new(alloc),
+            some: false,
+        }
+    }
+}
 
 /// Whether the entries of the section deny.
 fn denies(section: Section) -> bool
@@ -80,69 +105,70 @@ fn push_section(
     push_entries(out, stamped, number, section, rule.entries_of(section))
 }
 
-/// Appends the filters of the policy's rules that select the labels.
+/// Adds what a rule says of a direction.
+fn push_rule(
+    out: &mut Said,
+    stamped: &Stamped,
+    number: u32,
+    rule: &Rule,
+    dir: Direction,
+) -> Result<(), Memory>
+    requires { HasShortSections rule.now }
+    ensures filters { OnOk result (out.new.filters.items ≡ out.old.filters.items ++ rule_filters stamped.now dir number rule.now) }
+    ensures some { OnOk result (out.new.some ≡ (out.old.some || rule_says dir rule.now)) }
+{
+    push_section(&mut out.filters, stamped, number, rule, allow_section(dir))?;
+    push_section(&mut out.filters, stamped, number, rule, deny_section(dir))?;
+    out.some = out.some || rule_says(rule, dir);
+    Ok(())
+}
+
+/// Adds what those of the policy's rules say that select the labels.
+#[tactic(auto, unfolding(crate::specs::Resolved::policy_says))]
 fn push_policy(
-    out: &mut Vec<Filter>,
+    ingress: &mut Said,
+    egress: &mut Said,
     stamped: &Stamped,
     labels: &LabelSet,
-    dir: Direction,
 ) -> Result<(), Memory>
     requires rules { length stamped.now.policy.rules < 2 ^ 32 }
     requires sections { AllByRecursion HasShortSections stamped.now.policy.rules }
-    ensures { OnOk result (out.new.items ≡ out.old.items ++ policy_filters stamped.now labels.now dir 0 stamped.now.policy.rules) }
+    ensures ingress_filters { OnOk result (ingress.new.filters.items ≡ ingress.old.filters.items ++ policy_filters stamped.now labels.now Ingress 0 stamped.now.policy.rules) }
+    ensures ingress_some { OnOk result (ingress.new.some ≡ (ingress.old.some || policy_says labels.now Ingress stamped.now)) }
+    ensures egress_filters { OnOk result (egress.new.filters.items ≡ egress.old.filters.items ++ policy_filters stamped.now labels.now Egress 0 stamped.now.policy.rules) }
+    ensures egress_some { OnOk result (egress.new.some ≡ (egress.old.some || policy_says labels.now Egress stamped.now)) }
 {
     for (i, rule) in stamped.policy.rules.as_slice().iter().enumerate() {
         if rule.subject.is_met_by(labels) {
-            push_section(out, stamped, i as u32, rule, allow_section(dir))?;
-            push_section(out, stamped, i as u32, rule, deny_section(dir))?;
+            push_rule(ingress, stamped, i as u32, rule, Direction::Ingress)?;
+            push_rule(egress, stamped, i as u32, rule, Direction::Egress)?;
         }
     }
     Ok(())
 }
 
-/// The filters of a direction.
-fn filters_in(
-    alloc: Global,
-    policies: &[Stamped],
-    labels: &LabelSet,
-    dir: Direction,
-) -> Result<FilterList, Memory>
+/// What the policies say of an endpoint with these labels: of what comes in, and of what goes out.
+fn all_said(alloc: Global, policies: &[Stamped], labels: &LabelSet) -> Result<(Said, Said), Memory>
     requires { AllByRecursion (λ stamped. IsShortPolicy stamped.policy) policies.now }
-    ensures { IfOk result (λ filters. filters ≡ filters_in policies.now labels.now dir) }
+    ensures ingress { IfOk result (λ said. IsSaid policies.now labels.now Ingress said.0) }
+    ensures egress { IfOk result (λ said. IsSaid policies.now labels.now Egress said.1) }
 {
-    let mut out = Vec::new(alloc);
+    let mut ingress = Said::nothing(alloc);
+    let mut egress = Said::nothing(alloc);
     for stamped in policies {
-        push_policy(&mut out, stamped, labels, dir)?;
+        push_policy(&mut ingress, &mut egress, stamped, labels)?;
     }
-    Ok(FilterList::from_vec(out))
+    Ok((ingress, egress))
 }
 
-/// Whether some rule of the policy selects the labels and says something of the direction.
-#[tactic(auto, unfolding(crate::specs::Resolved::policy_says))]
-fn policy_says(stamped: &Stamped, labels: &LabelSet, dir: Direction) -> bool
-    ensures { result ≡ policy_says labels.now dir stamped.now }
-{
-    let rules = stamped.policy.rules.as_slice();
-    rules.iter().any(|rule| rule.subject.is_met_by(labels) && rule_says(rule, dir))
-}
-
-/// Whether some rule that selects the labels says something of the direction.
-fn some_policy_says(policies: &[Stamped], labels: &LabelSet, dir: Direction) -> bool
-    ensures { result ≡ list_any (policy_says labels.now dir) policies.now }
-{
-    policies
-        .iter()
-        .any(|stamped| policy_says(stamped, labels, dir))
-}
-
-/// Whether the direction is enforced for an endpoint with these labels.
-fn is_enforced(mode: Mode, policies: &[Stamped], labels: &LabelSet, dir: Direction) -> bool
-    ensures { result ≡ labels_enforced mode policies.now labels.now dir }
+/// Whether a direction is enforced for an endpoint with these labels, where this is said of the direction.
+fn is_enforced(mode: Mode, labels: &LabelSet, said: &Said) -> bool
+    ensures { (policies : List OnePolicy) (dir : AnyDirection) → IsSaid policies labels.now dir said.now → result ≡ labels_enforced mode policies labels.now dir }
 {
     match mode {
         Mode::Always => true,
         Mode::Never => false,
-        Mode::Default => is_init(labels) || some_policy_says(policies, labels, dir),
+        Mode::Default => is_init(labels) || said.some,
     }
 }
 
@@ -160,12 +186,13 @@ pub fn resolve(
     requires short { AllByRecursion (λ stamped. IsShortPolicy stamped.policy) policies.now }
     ensures filters { IfOk result (λ filters. filters ≡ filters_for policies.now labels.now mode localhost) }
 {
+    let (ingress, egress) = all_said(alloc, policies, labels)?;
     Ok(Filters {
         never: matches!(mode, Mode::Never),
-        ingress_enforced: is_enforced(mode, policies, labels, Direction::Ingress),
-        egress_enforced: is_enforced(mode, policies, labels, Direction::Egress),
+        ingress_enforced: is_enforced(mode, labels, &ingress),
+        egress_enforced: is_enforced(mode, labels, &egress),
         localhost,
-        ingress: filters_in(alloc, policies, labels, Direction::Ingress)?,
-        egress: filters_in(alloc, policies, labels, Direction::Egress)?,
+        ingress: FilterList::from_vec(ingress.filters),
+        egress: FilterList::from_vec(egress.filters),
     })
 }
