@@ -32,7 +32,7 @@ pub fn port_key(dir: Direction, id: u32, proto: Proto, port: PortPrefix) -> MapK
 }
 
 /// The same key for another identity.
-pub fn with_id(key: &MapKey, id: u32) -> MapKey
+pub(crate) fn with_id(key: &MapKey, id: u32) -> MapKey
     ensures { result ≡ with_id id key.now }
 {
     MapKey {

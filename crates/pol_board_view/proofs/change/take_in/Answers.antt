@@ -1,4 +1,4 @@
-use Rattle.std.proofs.Common.{rules, subst}
+use Rattle.std.proofs.Common.{subst}
 use Rattle.pol_board_view.specs.declared.change.FaceChange.TheVariants as change
 use Rattle.pol_history.specs.Content.{content_of}
 use Rattle.pol_board_view.specs.declared.change.FaceChange.{FaceChange}

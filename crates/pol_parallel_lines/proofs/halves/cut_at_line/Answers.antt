@@ -1,4 +1,4 @@
-use Rattle.std.proofs.Common.{rules, length, ◌/◌}
+use Rattle.std.proofs.Common.{length, ◌/◌}
 use Rattle.pol_parallel_lines.proofs.BehindNewline.{cut_behind}
 use Rattle.pol_parallel_lines.proofs.halves.cut_at_line.Goals as goal
 

@@ -1,4 +1,3 @@
-use Rattle.std.proofs.Common.{rules}
 use Rattle.pol_sessions.proofs.line.play_line.Goals as goal
 
 pub returns-in-Look-clause-answered : goal.returns-in-Look-clause-answered

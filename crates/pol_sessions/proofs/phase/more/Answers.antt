@@ -1,4 +1,3 @@
-use Rattle.std.proofs.Common.{rules}
 use Rattle.pol_placed.proofs.OneMore.{session_more}
 use Rattle.pol_sessions.proofs.phase.more.Goals as goal
 

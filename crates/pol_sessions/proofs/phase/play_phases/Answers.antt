@@ -1,4 +1,4 @@
-use Rattle.std.proofs.Common.{rules, List, sym, subst}
+use Rattle.std.proofs.Common.{List, sym, subst}
 use Rattle.pol_answer.specs.declared.answer.Answer.{Answer}
 use Rattle.pol_script.specs.declared.command.Command.{Command}
 use Rattle.pol_placed.specs.Seats.{IsPhase}

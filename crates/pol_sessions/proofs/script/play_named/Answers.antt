@@ -1,4 +1,3 @@
-use Rattle.std.proofs.Common.{rules}
 use Rattle.pol_sessions.proofs.NewNode.{one_each-so, script-played, those-handed_out}
 use Rattle.pol_sessions.proofs.script.play_named.Goals as goal
 
