@@ -26,7 +26,7 @@ use Rattle.pol_repo.specs.Repository.{Repository}
 use Rattle.pol_core.specs.Parts.{Commits, WasCommitted}
 use Rattle.pol_core.specs.Rows.{RowsOf, live_held, new_row, row_held, rows_after}
 use Rattle.pol_core.specs.Stands.{Kept, StandsFor, Steps, options_of}
-use Rattle.pol_core.proofs.AtHistory.{at_commit, revision_at, state_at}
+use Rattle.pol_repo_history.proofs.AtHistory.{at_commit, revision_at, state_at}
 use Rattle.pol_core.proofs.Choices.{if_mapped}
 use Rattle.pol_core.proofs.RowsKept.{found_after, rows_same, take_later, works_later}
 

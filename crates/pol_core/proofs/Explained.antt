@@ -14,7 +14,7 @@ use Rattle.pol_core.specs.Serial.{IsExplained, IsSaid}
 use Rattle.pol_core.specs.Stands.{Kept, StandsFor, options_of}
 use Rattle.pol_core.specs.declared.asked.Asked.TheVariants.{Explain}
 use Rattle.pol_core.specs.declared.asked.SerialAnswer.TheVariants.{Replied, Traced}
-use Rattle.pol_core.proofs.AtHistory.{revision_at, state_at}
+use Rattle.pol_repo_history.proofs.AtHistory.{revision_at, state_at}
 
 module _ (k : Kept) (m : Machine) (stands : StandsFor k m) (query : Query) where
   abbrev options : Options

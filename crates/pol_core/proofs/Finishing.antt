@@ -48,7 +48,7 @@ use Rattle.pol_core.specs.Parts.{HasFewKeys, Finishes, FinishesSlot, FinishesTak
 use Rattle.pol_core.specs.Rows.{RowsOf, live_held, map_held, row_held, trie_of, with_one}
 use Rattle.pol_core.specs.Stands.{GoesFrom, IsKeptRow, IsKeptWork, IsTakenFor, Kept, StandsFor, Steps, options_of, taken_as}
 use Rattle.pol_core.specs.declared.row.MachineRow.{MachineRow}
-use Rattle.pol_core.proofs.AtHistory.{at_blocked, at_publish, revision_at}
+use Rattle.pol_repo_history.proofs.AtHistory.{at_blocked, at_publish, revision_at}
 use Rattle.pol_core.proofs.Changed.{count_over, differs_itself, equal, fits_false, fits_true, held_changed, held_same, none_over, not_equal, slot_same, with_same}
 use Rattle.pol_core.proofs.Choices.{if_either, if_mapped}
 use Rattle.pol_core.proofs.RowsKept.{full_same, row_later, rows_same, take_later}

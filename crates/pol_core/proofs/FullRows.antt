@@ -27,7 +27,7 @@ use Rattle.pol_core.specs.Rows.{row_held}
 use Rattle.pol_core.specs.Serial.{ListsRows, row_of, row_reported, rows_in, turn_of, turns_at, turns_in}
 use Rattle.pol_core.specs.Stands.{Kept, StandsFor, TellsFull, options_of}
 use Rattle.pol_core.specs.declared.row.MachineRow.{MachineRow}
-use Rattle.pol_core.proofs.AtHistory.{state_at}
+use Rattle.pol_repo_history.proofs.AtHistory.{state_at}
 use Rattle.pol_core.proofs.Led.{turns_of_slots}
 
 -- ---- a list of rows

@@ -1,7 +1,5 @@
 pub mod Choices
 pub mod Counting
-pub mod AtHistory
-pub mod Unlimited
 pub mod RowsKept
 pub mod Begun
 pub mod Looking

@@ -14,7 +14,7 @@ use Rattle.pol_history.proofs.LookedIn.{look-told}
 use Rattle.pol_repo.specs.Repository.{state_in}
 use Rattle.pol_core.specs.Rows.{live_held}
 use Rattle.pol_core.specs.Stands.{Kept, StandsFor, options_of}
-use Rattle.pol_core.proofs.AtHistory.{revision_at}
+use Rattle.pol_repo_history.proofs.AtHistory.{revision_at}
 
 pub maps_are_read : (options : Options) → MapsAreRead options
 maps_are_read options requests endpoint dir number proto port small =

@@ -26,10 +26,10 @@ use Rattle.pol_core.specs.Parts.{Takes, TakesOf, WasTaken, with_slot}
 use Rattle.pol_core.specs.Rows.{kept_in, since_of}
 use Rattle.pol_core.specs.Stands.{GoesFrom, IsKeptWork, IsTakenFor, Kept, StandsFor, Steps, options_of, taken_as}
 use Rattle.pol_core.specs.declared.row.MachineRow.{MachineRow}
-use Rattle.pol_core.proofs.AtHistory.{revision_at, state_at}
+use Rattle.pol_repo_history.proofs.AtHistory.{revision_at, state_at}
 use Rattle.pol_core.proofs.Choices.{if_either, if_mapped}
 use Rattle.pol_core.proofs.RowsKept.{takes_same}
-use Rattle.pol_core.proofs.Unlimited.{moves_at, taken_at}
+use Rattle.pol_repo_history.proofs.Unlimited.{moves_at, taken_at}
 
 -- ---- what is kept is of a revision of the history
 

@@ -25,6 +25,7 @@ use Rattle.pol_model.specs.Sizes.{IsShort}
 use Rattle.pol_model.specs.declared.options.Options.{Options}
 use Rattle.pol_model.specs.FullRows.{fits_limit}
 use Rattle.pol_repo.specs.Repository.{Repository}
+use Rattle.pol_repo_history.specs.AtHistory.{IsAt}
 use Rattle.pol_taken.specs.OfState.{IsTakenOf}
 use Rattle.pol_taken.specs.declared.taken.Taken.{Taken}
 use Rattle.pol_core.specs.Parts.{TakesOf, taken_in}
@@ -57,12 +58,6 @@ kept_of s = record {
 -- the options of the definitions: those of the repository, which knows no limit, with the limit
 abbrev pub options_of : Kept → Options
 options_of k = record k.repo.options { map_max = Some k.limit }
-
--- The repository's requests are the commits of the history, and none is prepared.
-pub record IsAt (options : Options) (history : List HistoryEvent) (repo : Repository) : Type 0 where
-  pub journal : repo.journal ≡ commits_in history
-  pub idle : repo.prepared ≡ None
-  pub options_same : repo.options ≡ record options { map_max = None }
 
 -- ---- the works
 

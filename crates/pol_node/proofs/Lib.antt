@@ -1,5 +1,5 @@
 pub mod Again
-pub mod AtHistory
+pub mod Answering
 pub mod FewSlots
 pub mod Following
 pub mod LastSlot
@@ -8,4 +8,3 @@ pub mod Places
 pub mod Reporting
 pub mod Turning
 pub mod Turns
-pub mod Unlimited

@@ -18,7 +18,8 @@ ghost use Rattle.pol_model.specs.Sizes.{IsShort};
 ghost use Rattle.pol_repo.specs.Cost.{label_peers};
 ghost use Rattle.pol_requests.specs.Prepared.{is_of_policy};
 ghost use Rattle.pol_taken.specs.OfState.{IsTakenOf};
-ghost use Rattle.pol_node.specs.Desk.{IsAt, IsCauseOf, IsNotTraced};
+ghost use Rattle.pol_repo_history.specs.AtHistory.{IsAt};
+ghost use Rattle.pol_node.specs.Desk.{IsCauseOf, IsNotTraced};
 ghost use Rattle.pol_node.specs.Finish.{Finishes, TellsPublished};
 
 use crate::report::{Finished, TraceError, Traced};

@@ -1,7 +1,7 @@
 use Rattle.std.proofs.Common.{ap, ◌∙◌}
 use Rattle.pol_repo.specs.Repository.{Repository, state_in}
 use Rattle.pol_core.specs.Stands.{options_in}
-use Rattle.pol_core.proofs.AtHistory.{revision_at}
+use Rattle.pol_repo_history.proofs.AtHistory.{revision_at}
 use Rattle.pol_core.proofs.serial.synced.Goals as goal
 
 pub returns-in-Ok-clause-said : goal.returns-in-Ok-clause-said

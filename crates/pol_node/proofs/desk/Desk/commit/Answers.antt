@@ -10,7 +10,8 @@ use Rattle.pol_history.proofs.Meetings.{are_of-commit}
 use Rattle.pol_repo.specs.Causes.{IsCause}
 use Rattle.pol_repo.specs.Repository.{state_in}
 use Rattle.pol_node.specs.Desk.{IsCauseOf}
-use Rattle.pol_node.proofs.AtHistory.{accepted_here, answered_here, at_shown, committed_at, refused_at, state_at}
+use Rattle.pol_node.proofs.Answering.{accepted_here, answered_here, at_shown, committed_at, refused_at}
+use Rattle.pol_repo_history.proofs.AtHistory.{state_at}
 use Rattle.pol_node.proofs.desk.Desk.commit.Goals as goal
 
 pub returns-in_err-ready-clause-cause : goal.returns-in_err-ready-clause-cause

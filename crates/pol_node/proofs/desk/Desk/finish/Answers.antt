@@ -8,8 +8,8 @@ use Rattle.pol_history.specs.Meet.{AreOf}
 use Rattle.pol_history.specs.Reports.{last_report}
 use Rattle.pol_history.proofs.Meetings.{are_of-blocked, are_of-publish, pass-grows, passes-grow_whole}
 use Rattle.pol_history_log.specs.Asked.{table_at}
-use Rattle.pol_node.specs.Desk.{IsAt}
-use Rattle.pol_node.proofs.AtHistory.{at_blocked, at_publish}
+use Rattle.pol_repo_history.specs.AtHistory.{IsAt}
+use Rattle.pol_repo_history.proofs.AtHistory.{at_blocked, at_publish}
 use Rattle.pol_node.proofs.Reporting.{blocked_here, either_way, leads_here, may_block, may_publish, next_by, published_here, reported_here, taken_before, taken_then, within}
 use Rattle.pol_node.proofs.desk.Desk.finish.Goals as goal
 

@@ -6,7 +6,7 @@ use Rattle.pol_model.specs.State.{State}
 use Rattle.pol_history.specs.Commits.{state_now}
 use Rattle.pol_history.specs.Machine.{endpoint_id}
 use Rattle.pol_repo.specs.Repository.{state_in}
-use Rattle.pol_node.proofs.AtHistory.{state_at}
+use Rattle.pol_repo_history.proofs.AtHistory.{state_at}
 use Rattle.pol_node.proofs.Living.{lives_by}
 use Rattle.pol_node.proofs.desk.Desk.is_live.Goals as goal
 

@@ -2,7 +2,7 @@ use Rattle.std.proofs.Common.{List, subst, sym}
 use Rattle.pol_history.specs.declared.event.HistoryEvent.{HistoryEvent}
 use Rattle.pol_history.specs.Meet.{AreOf}
 use Rattle.pol_history.proofs.Meetings.{are_of-none}
-use Rattle.pol_node.specs.Desk.{IsAt}
+use Rattle.pol_repo_history.specs.AtHistory.{IsAt}
 use Rattle.pol_node.proofs.desk.Desk.open.Goals as goal
 
 pub invariant_of-result : goal.invariant_of-result

@@ -6,7 +6,8 @@ use Rattle.pol_model.specs.declared.row.Endpoint.{Endpoint}
 use Rattle.pol_model.proofs.AscendingStates.{state_slots_ascend}
 use Rattle.pol_model_laws.proofs.KeepsAll.{state_keeps}
 use Rattle.pol_repo.specs.Repository.{state_in}
-use Rattle.pol_node.proofs.AtHistory.{at_shown, revision_at}
+use Rattle.pol_node.proofs.Answering.{at_shown}
+use Rattle.pol_repo_history.proofs.AtHistory.{revision_at}
 use Rattle.pol_node.proofs.FewSlots.{few_slots}
 use Rattle.pol_node.proofs.desk.Desk.show.Goals as goal
 

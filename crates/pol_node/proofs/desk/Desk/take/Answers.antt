@@ -15,9 +15,10 @@ use Rattle.pol_repo.specs.Repository.{Repository, state_in}
 use Rattle.pol_taken.specs.declared.error.TakeError.TheVariants as no_take
 use Rattle.pol_taken.specs.OfState.{IsTakenOf}
 use Rattle.pol_taken.specs.declared.taken.Taken.{Taken}
-use Rattle.pol_node.specs.Desk.{IsAt}
-use Rattle.pol_node.proofs.AtHistory.{at_shown, revision_at, state_at}
-use Rattle.pol_node.proofs.Unlimited.{moves_at, taken_at}
+use Rattle.pol_repo_history.specs.AtHistory.{IsAt}
+use Rattle.pol_node.proofs.Answering.{at_shown}
+use Rattle.pol_repo_history.proofs.AtHistory.{revision_at, state_at}
+use Rattle.pol_repo_history.proofs.Unlimited.{moves_at, taken_at}
 use Rattle.pol_node.proofs.desk.Desk.take.Goals as goal
 
 pub take-requires-clause-idle : goal.take-requires-clause-idle

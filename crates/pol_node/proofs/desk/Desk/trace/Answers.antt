@@ -1,6 +1,6 @@
 -- The repository is at the history that is shown.
 use Rattle.std.proofs.Common.{ap, ◌∙◌, Err}
-use Rattle.pol_node.proofs.AtHistory.{absent_at, at_shown, traced_at}
+use Rattle.pol_node.proofs.Answering.{absent_at, at_shown, traced_at}
 use Rattle.pol_node.proofs.desk.Desk.trace.Goals as goal
 
 pub returns-in-Ok-clause-traced : goal.returns-in-Ok-clause-traced

@@ -1,4 +1,4 @@
--- A repository knows nothing of the limit of maps, and what is taken of it is what is taken under the node's options.
+-- A repository knows nothing of the limit of maps, and what is taken of it is what is taken under options with a limit.
 use Rattle.std.proofs.Common.{ℕ, List, Option, subst}
 use Rattle.pol_sets.specs.declared.sets.Move.{Move}
 use Rattle.pol_sets.specs.declared.sets.SetRow.{SetRow}
@@ -12,8 +12,8 @@ use Rattle.pol_history.specs.Commits.{commits_in, state_now}
 use Rattle.pol_repo.specs.Repository.{Repository, state_in}
 use Rattle.pol_taken.specs.OfState.{IsTakenOf}
 use Rattle.pol_taken.specs.declared.taken.Taken.{Taken}
-use Rattle.pol_node.specs.Desk.{IsAt}
-use Rattle.pol_node.proofs.AtHistory.{state_at as state_there}
+use Rattle.pol_repo_history.specs.AtHistory.{IsAt}
+use Rattle.pol_repo_history.proofs.AtHistory.{state_at as state_there}
 
 module _ (options : Options) (history : List HistoryEvent) (repo : Repository) (at : IsAt options history repo) where
   pub taken_at : (slot : ℕ) (taken : Taken) → IsTakenOf repo.options (state_in repo) slot taken → IsTakenOf options (state_now options history) slot taken

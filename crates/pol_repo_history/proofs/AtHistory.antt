@@ -11,7 +11,7 @@ use Rattle.pol_history.specs.declared.event.HistoryEvent.TheVariants as event
 use Rattle.pol_history.specs.Commits.{commits_in, revision_of, state_now}
 use Rattle.pol_history.proofs.Cuts.{commits-append}
 use Rattle.pol_repo.specs.Repository.{Repository, state_in}
-use Rattle.pol_core.specs.Stands.{IsAt}
+use Rattle.pol_repo_history.specs.AtHistory.{IsAt}
 
 module _ (options : Options) (history : List HistoryEvent) (repo : Repository) (at : IsAt options history repo) where
   pub state_at : state_in repo ≡ state_now options history

@@ -1,9 +1,8 @@
--- A repository that is at a history has the state of its commits, and is at the history that a commit or a report makes.
-use Rattle.std.proofs.Common.{◌≡◌, ℕ, ◌+◌, List, [], ◌∷◌, ◌++◌, length, take, None, Some, refl, sym, ap, subst, ◌∙◌, arith, append-nil}
+-- What is told of a repository that is at the writer's history: a commit and its answer, a refusal, and a trace.
+use Rattle.std.proofs.Common.{◌≡◌, ℕ, ◌+◌, List, [], ◌∷◌, ◌++◌, length, take, None, Some, sym, ap, subst, ◌∙◌, arith}
 use Rattle.std.specs.List.{slice_get}
 use mathlib.Core.List.{IsPrefix}
-use Rattle.pol_mapkey.specs.Entries.{Entry as MapEntry}
-use Rattle.pol_model.specs.After.{after, state_of}
+use Rattle.pol_model.specs.After.{after}
 use Rattle.pol_model.specs.Commits.{Commits}
 use Rattle.pol_model.specs.Committed.{committed_of, identity_given, slots_of}
 use Rattle.pol_model.specs.Endpoints.{endpoint_of}
@@ -18,19 +17,20 @@ use Rattle.pol_model.specs.declared.options.Options.{Options}
 use Rattle.pol_model.specs.declared.request.Query.{Query}
 use Rattle.pol_model.specs.declared.request.Request.{Request}
 use Rattle.pol_model.proofs.Histories.{state_of-revision}
-use Rattle.pol_history.specs.declared.event.EndpointId.{EndpointId}
 use Rattle.pol_history.specs.declared.event.HistoryEvent.{HistoryEvent}
 use Rattle.pol_history.specs.declared.event.HistoryEvent.TheVariants as event
 use Rattle.pol_history.specs.Calls.{IsAbsent, IsAccepted, IsBetween, IsTraced}
 use Rattle.pol_history.specs.Commits.{commits_in, revision_of, state_after, state_now}
 use Rattle.pol_history.proofs.Beginnings.{prefix_cut, prefix_length, prefix_more}
-use Rattle.pol_history.proofs.Cuts.{commits-append, revision-append, state-now}
+use Rattle.pol_history.proofs.Cuts.{revision-append, state-now}
 use Rattle.pol_history.proofs.Lists.{get_seam}
 use Rattle.pol_history.proofs.Names.{state-more}
 use Rattle.pol_history.proofs.Own.{revision-prefix}
 use Rattle.pol_repo.specs.Causes.{IsCause}
 use Rattle.pol_repo.specs.Repository.{Repository, state_in}
-use Rattle.pol_node.specs.Desk.{IsAt, IsCauseOf}
+use Rattle.pol_repo_history.specs.AtHistory.{IsAt}
+use Rattle.pol_repo_history.proofs.AtHistory.{at_commit, revision_at, state_at}
+use Rattle.pol_node.specs.Desk.{IsCauseOf}
 
 -- the writer's history was shown
 pub at_shown : (options : Options) (seen still shown : List HistoryEvent) (repo : Repository) → IsAt options seen repo → shown ≡ still → still ≡ seen
@@ -38,44 +38,16 @@ pub at_shown : (options : Options) (seen still shown : List HistoryEvent) (repo 
 at_shown options seen still shown repo at all same = subst (λ (h : List HistoryEvent). IsAt options h repo) (sym (all ∙ same)) at
 
 module _ (options : Options) (history : List HistoryEvent) (repo : Repository) (at : IsAt options history repo) where
-  pub state_at : state_in repo ≡ state_now options history
-  state_at =
-      ap (λ (o : Options). state_of o repo.journal) at.options_same ∙ ap (λ (requests : List Request). state_of options requests) at.journal
+  revision_there : (state_in repo).revision ≡ revision_of history
+  revision_there = revision_at options history repo at
 
-  pub revision_at : (state_in repo).revision ≡ revision_of history
-  revision_at = state_of-revision repo.options repo.journal ∙ ap (λ (requests : List Request). length requests) at.journal
+  state_there : state_in repo ≡ state_now options history
+  state_there = state_at options history repo at
 
   -- where a revision is the repository's, the state after as many commits is its state
   pub state_then : (revision : ℕ) → revision ≡ (state_in repo).revision → state_after options history revision ≡ state_in repo
   state_then revision is =
-      ap (λ (n : ℕ). state_after options history n) (is ∙ revision_at) ∙ state-now options history ∙ sym state_at
-
-  -- ---- one event more
-
-  pub at_commit : (pass number : ℕ) (request : Request)
-      → IsAt options (history ++ event.Commit pass number request ∷ []) (record repo { journal = repo.journal ++ request ∷ []; prepared = None })
-  at_commit pass number request = record {
-    journal =
-        ap (λ (requests : List Request). requests ++ request ∷ []) at.journal
-        ∙ sym (commits-append history (event.Commit pass number request ∷ []));
-    idle = refl;
-    options_same = at.options_same;
-  }
-
-  at_same : (new : HistoryEvent) → commits_in (new ∷ []) ≡ [] → IsAt options (history ++ new ∷ []) repo
-  at_same new none = record {
-    journal =
-        at.journal
-        ∙ sym (commits-append history (new ∷ []) ∙ ap (λ (requests : List Request). commits_in history ++ requests) none ∙ append-nil (commits_in history));
-    idle = at.idle;
-    options_same = at.options_same;
-  }
-
-  pub at_publish : (endpoint : EndpointId) (revision : ℕ) (table : List MapEntry) → IsAt options (history ++ event.Publish endpoint revision table ∷ []) repo
-  at_publish endpoint revision table = at_same (event.Publish endpoint revision table) refl
-
-  pub at_blocked : (endpoint : EndpointId) (revision count : ℕ) → IsAt options (history ++ event.Blocked endpoint revision count ∷ []) repo
-  at_blocked endpoint revision count = at_same (event.Blocked endpoint revision count) refl
+      ap (λ (n : ℕ). state_after options history n) (is ∙ revision_there) ∙ state-now options history ∙ sym state_there
 
   -- ---- what a call tells of the present revision, to one who had seen a beginning of the history
 
@@ -83,7 +55,7 @@ module _ (options : Options) (history : List HistoryEvent) (repo : Repository) (
     between_at : (revision : ℕ) → revision ≡ (state_in repo).revision → IsBetween old history revision
     between_at revision is =
         let fewer = revision-prefix old history begins in
-        record { from = omega (arith, fewer, is, revision_at); upto = omega (arith, is, revision_at) }
+        record { from = omega (arith, fewer, is, revision_there); upto = omega (arith, is, revision_there) }
 
     pub refused_at : (request : Request) (error : CommitError) → IsCause (state_in repo) request error → IsCauseOf options old history request error
     refused_at request (Refused refused) cause = record {

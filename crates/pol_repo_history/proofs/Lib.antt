@@ -1,0 +1,2 @@
+pub mod AtHistory
+pub mod Unlimited
