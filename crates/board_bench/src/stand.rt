@@ -70,7 +70,7 @@ pub(crate) fn seated<N: NodeName>(
 
 /// The desk of the node of this name over a new board, the last of its passes, and the others. There may be no memory, or no
 /// place.
-#[tactic(auto, using(crate::proofs::Handed::last_handed_out))]
+#[tactic(auto, using(pol_node::proofs::Handed::last_handed_out))]
 pub(crate) fn open<N: NodeName, W: Wait>(
     rt: &W,
     alloc: Global,

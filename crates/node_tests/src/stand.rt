@@ -25,7 +25,7 @@ pub(crate) fn config(map_max: u32) -> Config
 }
 
 /// The node of this name, and the last pass that it hands out. There may be no memory, or no place.
-#[tactic(auto, using(crate::proofs::Handed::last_handed_out))]
+#[tactic(auto, using(pol_node::proofs::Handed::last_handed_out))]
 pub(crate) fn open<N: NodeName, W: Wait>(
     rt: &W,
     alloc: Global,

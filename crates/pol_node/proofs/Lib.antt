@@ -2,6 +2,7 @@ pub mod Again
 pub mod Answering
 pub mod FewSlots
 pub mod Following
+pub mod Handed
 pub mod LastSlot
 pub mod Living
 pub mod Places
