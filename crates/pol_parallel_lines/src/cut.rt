@@ -26,7 +26,6 @@ pub fn cut_lines<W: Threads + Sync>(
     cut_halves(rt, alloc, sessions, script, halvings(script.len(), BLOCK))
 }
 
-#[tactic(auto, using(crate::proofs::TwoHalves::cut_of_halves))]
 fn cut_halves<W: Threads + Sync>(
     rt: &W,
     alloc: Global,

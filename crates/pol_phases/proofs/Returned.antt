@@ -1,5 +1,5 @@
 -- Answers that are put back by the marks of the lines are those that are put back by the lines.
-use Rattle.std.proofs.Common.{zero, suc, ◌≡◌, ℕ, ◌+◌, ◌≤◌, List, [], ◌∷◌, ◌++◌, length, drop, map, None, Some, Ok, Err, refl, sym, ap, ◌∙◌, append_assoc, append-nil, arith}
+use Rattle.std.proofs.Common.{zero, suc, ◌≡◌, ℕ, ◌+◌, ◌≤◌, List, [], ◌∷◌, ◌++◌, length, drop, map, None, Some, Ok, Err, refl, sym, ap, ◌∙◌, append_assoc, append-nil, length-append, arith}
 use Rattle.pol_answer.specs.declared.answer.Answer.{Answer}
 use Rattle.pol_answer.specs.declared.answer.Answer.TheVariants as answer
 use Rattle.pol_script.specs.declared.command.Command.TheVariants as command
@@ -62,7 +62,7 @@ begun_is told current later is = ap (λ (first : List (List Answer)). first ∷ 
 -- These answers were given so far, to the lines in front of those that wait, and what is left answers these.
 pub record Leads (marks : List Mark) (told : List (List (List Answer))) (waiting : List Mark) (answers : List Answer) (number : ℕ) (left : List (List (List Answer))) : Type 0 where
   pub goes_on : answers_by 1 marks told ≡ answers ++ answers_by number waiting left
-  pub few : number + length waiting ≤ length marks + 1
+  pub few : number ≤ length answers + 1
 
 pub leads-first : (marks : List Mark) (told : List (List (List Answer))) (current : List (List Answer)) (later : List (List (List Answer))) → IsLeft told current later
     → Leads marks told marks [] 1 (current ∷ later)
@@ -89,7 +89,7 @@ leads-more marks told waiting rest answers more number next left m answer curren
       (sym (as_begun next rest (told_by m left)) ∙ ap (λ (t : List (List (List Answer))). answers_by next rest t) (sym (begun_is (told_by m left) current later rest_is)))
       ∙ sym (append_assoc answers (answer ∷ []) (answers_by next rest (current ∷ later)))
       ∙ ap (λ (as_told : List Answer). as_told ++ answers_by next rest (current ∷ later)) (sym pushed);
-  few = omega (arith, leads.few, after, number_few number m, ap length first);
+  few = omega (arith, leads.few, after, number_few number m, ap length pushed, length-append answers (answer ∷ []));
 }
 
 pub leads-all : (marks : List Mark) (told : List (List (List Answer))) (waiting : List Mark) (answers : List Answer) (number : ℕ) (left : List (List (List Answer))) → waiting ≡ []
@@ -97,7 +97,3 @@ pub leads-all : (marks : List Mark) (told : List (List (List Answer))) (waiting 
 leads-all marks told waiting answers number left none leads lines are =
     sym (append-nil answers) ∙ ap (λ (ms : List Mark). answers ++ answers_by number ms left) (sym none) ∙ sym leads.goes_on
     ∙ ap (λ (ms : List Mark). answers_by 1 ms told) are ∙ by_marks 1 lines told
-
-pub none_of : {A : Type 0} (xs : List A) → length xs ≡ 0 → xs ≡ []
-none_of [] empty = refl
-none_of (x ∷ xs) empty = absurd (omega (arith, empty))

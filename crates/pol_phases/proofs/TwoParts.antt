@@ -72,11 +72,11 @@ script_joined n (Ok c ∷ lines) more =
     ∙ with_front n c (session_of (Ok c)) (script_of n lines) (script_of n more) (script_whole n lines)
 
 pub cut_followed : (n : ℕ) (lines more : List Reading) (script later both : CutScript) → both.phases.items ≡ joined script.phases.items later.phases.items
-    → both.marks.items ≡ script.marks.items ++ later.marks.items → IsCutOf n lines script → IsCutOf n more later → IsCutOf n (lines ++ more) both
+    → both.marks ≡ script.marks ++ later.marks → IsCutOf n lines script → IsCutOf n more later → IsCutOf n (lines ++ more) both
 cut_followed n lines more script later both phases marks first second = record {
   phases = phases ∙ ap (λ (ps : List (List (List Command))). joined ps later.phases.items) first.phases
       ∙ ap (λ (ps : List (List (List Command))). joined (script_of n lines) ps) second.phases ∙ sym (script_joined n lines more);
-  marks = marks ∙ ap (λ ms. ms ++ later.marks.items) first.marks ∙ ap (λ ms. map mark_of lines ++ ms) second.marks ∙ sym (map-append mark_of lines more);
+  marks = marks ∙ ap (λ ms. ms ++ later.marks) first.marks ∙ ap (λ ms. map mark_of lines ++ ms) second.marks ∙ sym (map-append mark_of lines more);
 }
 
 -- ---- the last phase of a part, where it is taken off

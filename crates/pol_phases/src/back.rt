@@ -6,6 +6,7 @@ ghost use Rattle.pol_phases.specs.Marks.{IsLeft, answer_by, mark_of, number_by, 
 
 use crate::answers::Answers;
 use crate::mark::Mark;
+use crate::marks::Marks;
 use pol_answer::Answer;
 use pol_data::{Items, Memory};
 use std::alloc::Global;
@@ -16,15 +17,15 @@ use std::collections::VecDeque;
 /// The one error is want of memory.
 pub fn put_back(
     alloc: Global,
-    marks: Vec<Mark>,
+    marks: Marks,
     told: Vec<Items<Answers>>,
 ) -> Result<Vec<Answer>, Memory>
-    ensures { IfOk result (λ answers. (lines : List OneReading) → marks.items ≡ map mark_of lines → answers.items ≡ answers_to lines told.items) }
+    ensures { IfOk result (λ answers. (lines : List OneReading) → marks ≡ map mark_of lines → answers.items ≡ answers_to lines told.items) }
 {
     let mut left = Left::new(alloc, told);
-    let mut answers = Vec::with_capacity(alloc, marks.len())?;
-    let mut waiting = VecDeque::from_vec(marks);
-    while let Some(mark) = waiting.pop_front() {
+    let mut answers = Vec::with_capacity(alloc, marks.count())?;
+    let mut waiting = marks;
+    while let Some(mark) = waiting.next() {
         answers.push(left.answer(alloc, mark))?;
     }
     Ok(answers)

@@ -42,9 +42,14 @@ impl<T> Block<T> {
         })
     }
 
+    /// How many entries it has. No clause says so: no list depends on it.
+    pub(crate) fn count(&self) -> usize {
+        self.entries.len()
+    }
+
     /// Whether it has as many entries as a block has. No clause says so: no list depends on it.
     pub(crate) fn is_full(&self) -> bool {
-        self.entries.len() >= BLOCK
+        self.count() >= BLOCK
     }
 
     /// Whether it has no entry.

@@ -43,6 +43,15 @@ impl<T> Blocks<T> {
     {
         are_empty(&self.blocks)
     }
+
+    /// How many entries there are. No clause says so: no list depends on it.
+    pub(crate) fn count(&self) -> usize {
+        let mut count: usize = 0;
+        for place in 0..self.blocks.len() {
+            count = count.wrapping_add(self.blocks[place].count());
+        }
+        count
+    }
 }
 
 impl<T: Drop> Blocks<T> {

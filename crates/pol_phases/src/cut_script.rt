@@ -5,7 +5,7 @@ ghost use Rattle.pol_phases.specs.Cuts.{IsCutOf};
 
 use crate::commands::Commands;
 use crate::joining::joined;
-use crate::mark::Mark;
+use crate::marks::Marks;
 use pol_data::{Items, Memory};
 use std::alloc::Global;
 
@@ -15,7 +15,7 @@ pub struct CutScript {
     /// The commands of each session in each phase.
     pub phases: Vec<Items<Commands>>,
     /// What the answer to each line needs of it.
-    pub marks: Vec<Mark>,
+    pub marks: Marks,
 }
 
 impl CutScript {
@@ -27,8 +27,7 @@ impl CutScript {
     {
         let phases = joined(alloc, self.phases, later.phases)?;
         let mut marks = self.marks;
-        let mut more = later.marks;
-        marks.append(&mut more)?;
+        marks.append(later.marks)?;
         Ok(CutScript { phases, marks })
     }
 }

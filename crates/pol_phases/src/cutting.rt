@@ -8,6 +8,7 @@ ghost use Rattle.pol_phases.specs.Marks.{IsCut, IsOfSession};
 use crate::commands::Commands;
 use crate::cut_script::CutScript;
 use crate::mark::Mark;
+use crate::marks::Marks;
 use crate::session::session_of;
 use pol_data::{Items, Memory};
 use pol_script::{Command, Reading};
@@ -19,7 +20,7 @@ use std::mem::replace;
 pub fn cut(alloc: Global, sessions: u32, readings: Vec<Reading>) -> Result<CutScript, Memory>
     ensures { IfOk result (λ script. IsCutOf sessions readings.items script) }
 {
-    let mut cutting = Cutting::new(alloc, sessions, readings.len())?;
+    let mut cutting = Cutting::new(alloc, sessions)?;
     for reading in readings {
         cutting.take(alloc, sessions, reading)?;
     }
@@ -31,26 +32,26 @@ pub fn cut(alloc: Global, sessions: u32, readings: Vec<Reading>) -> Result<CutSc
 struct Cutting {
     ended: Vec<Items<Commands>>,
     current: Vec<Commands>,
-    marks: Vec<Mark>,
+    marks: Marks,
 }
 
 impl Cutting {
-    // No line yet, with room for the marks of so many.
-    fn new(alloc: Global, sessions: u32, lines: usize) -> Result<Cutting, Memory>
-        ensures { IfOk result (λ cutting. IsCut sessions [] cutting.ended.items cutting.current.items cutting.marks.items) }
+    // No line yet.
+    fn new(alloc: Global, sessions: u32) -> Result<Cutting, Memory>
+        ensures { IfOk result (λ cutting. IsCut sessions [] cutting.ended.items cutting.current.items cutting.marks) }
     {
         let current = no_commands(alloc, sessions)?;
         Ok(Cutting {
             ended: Vec::new(alloc),
             current,
-            marks: Vec::with_capacity(alloc, lines)?,
+            marks: Marks::new(alloc),
         })
     }
 
     // One line more.
     fn take(&mut self, alloc: Global, sessions: u32, reading: Reading) -> Result<(), Memory>
-        ensures { OnOk result ((lines : List OneReading) → IsCut sessions lines self.old.ended.items self.old.current.items self.old.marks.items
-            → IsCut sessions (lines ++ reading ∷ []) self.new.ended.items self.new.current.items self.new.marks.items) }
+        ensures { OnOk result ((lines : List OneReading) → IsCut sessions lines self.old.ended.items self.old.current.items self.old.marks
+            → IsCut sessions (lines ++ reading ∷ []) self.new.ended.items self.new.current.items self.new.marks) }
     {
         match reading {
             Err(fault) => self.marks.push(Mark::Faulty(fault))?,
@@ -73,7 +74,7 @@ impl Cutting {
     // The last phase ends.
     fn end(self) -> Result<CutScript, Memory>
         ensures phases { IfOk result (λ script. script.phases.items ≡ self.ended.items ++ self.current.items ∷ []) }
-        ensures marks { IfOk result (λ script. script.marks.items ≡ self.marks.items) }
+        ensures marks { IfOk result (λ script. script.marks ≡ self.marks) }
     {
         let Cutting {
             mut ended,

@@ -15,6 +15,7 @@ mod cut_script;
 mod cutting;
 mod joining;
 mod mark;
+mod marks;
 mod session;
 
 pub use answers::Answers;
@@ -23,3 +24,4 @@ pub use commands::Commands;
 pub use cut_script::CutScript;
 pub use cutting::cut;
 pub use mark::Mark;
+pub use marks::Marks;

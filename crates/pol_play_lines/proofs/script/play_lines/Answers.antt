@@ -14,7 +14,7 @@ play_script-requires-clause-one_each g c κs within =
 pub returns : goal.returns
 returns g c =
     let lines = readings_of c.args.script.now in
-    let h = held_by c.args.options c.in-Some.map_max 8 lines c.in_ok-cut.cut.phases.items c.in_ok-cut.cut.marks.items c.in_ok-played.played.told.items
+    let h = held_by c.args.options c.in-Some.map_max 8 lines c.in_ok-cut.cut.phases.items c.in_ok-cut.cut.marks c.in_ok-played.played.told.items
     c.in_ok-played.played.last c.in_ok-answers.answers.items c.in-Some.is (c.lines_are_seated.ensures c.args.script.now) c.in_ok-cut.ensures.cut.phases c.in_ok-cut.ensures.cut.marks
     c.in_ok-played.ensures c.in_ok-answers.ensures in
     record { one_each = h.one_answer; run = h.run; legal = h.legal; history = h.history }
