@@ -11,10 +11,6 @@ import program
 TYPE = re.compile(r"(?m)^(pub )?(?:pub\(\w+\) )?(?:enum|struct|trait|union|type) (\w+)")
 TWICE = {
     "Entries": "pol_audit pol_rule",
-    "Hints": "pol_pool pol_trie",
-    "Kind": "pol_mapkey pol_sanitize",
-    "Node": "pol_arena pol_lpm pol_node pol_trie",
-    "Slot": "pol_arena pol_lpm pol_node",
 }
 
 

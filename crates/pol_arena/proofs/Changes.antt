@@ -4,7 +4,7 @@ use Rattle.std.specs.Prelude.{option_map}
 use Rattle.std.proofs.lemmas.Bool.{cases_eq, cases_lt, eq-eqb, ne_eqb}
 use Rattle.std.proofs.lemmas.Option.{slice_get-get_or}
 use Rattle.std.proofs.lemmas.List.{get_or_past, get_or_read, get_or-set_same, get_or-set_other, get_or_append_left, get_or-append_right, get_or-replicate, get_or_at, take_at, length-set, length_push, length-replicate}
-use Rattle.pol_arena.specs.declared.node.Node.{Node}
+use Rattle.pol_arena.specs.declared.node.ChainNode.{ChainNode}
 use Rattle.pol_arena.specs.Twin.{Entry, Twin, newest_on, entry_of, oldest, without_oldest, after_drop}
 use Rattle.pol_arena.specs.Queue.{behind, is_newest, without_node, gap_before, ages_of, IsGap, AllLinked, IsKept}
 use Rattle.pol_arena.proofs.Indices.{behind_below, behind-zero, behind-behind, behind-place, behind-next, next-behind}
@@ -80,23 +80,23 @@ module _ {T : Type 0} where
       let len = length_push es e in
       slice_get-get_or (es ++ e ∷ []) (length (es ++ e ∷ []) - 1) e (omega arith) ∙ ap Some (get_or_at es e [] e (length (es ++ e ∷ []) - 1) (omega arith))
 
-  ages_of-push : (ns : List (Node T)) (n : Node T) (last : ℕ) → last < 2 ^ 32 → length ns < 2 ^ 32 → ages_of last (ns ++ n ∷ []) ≡ ages_of last ns ++ record { node = behind last (length ns); chain = n.chain; value = n.value } ∷ []
+  ages_of-push : (ns : List (ChainNode T)) (n : ChainNode T) (last : ℕ) → last < 2 ^ 32 → length ns < 2 ^ 32 → ages_of last (ns ++ n ∷ []) ≡ ages_of last ns ++ record { node = behind last (length ns); chain = n.chain; value = n.value } ∷ []
   ages_of-push [] n last h k = ap (λ i. record { node = i; chain = n.chain; value = n.value } ∷ []) (sym (behind-zero last h))
   ages_of-push (m ∷ ns) n last h k =
       ap (λ es. record { node = last; chain = m.chain; value = m.value } ∷ es)
       (ages_of-push ns n (behind last 1) (behind_below last 1) (omega arith) ∙ ap (λ i. ages_of (behind last 1) ns ++ record { node = i; chain = n.chain; value = n.value } ∷ []) (behind-behind last 1 (length ns) (suc (length ns)) h (omega arith) (omega arith)))
 
-  IsGap-front : (chain : ℕ) (ns : List (Node T)) (n : Node T) (gap : ℕ) → IsGap chain (ns ++ n ∷ []) gap → IsGap chain ns gap
+  IsGap-front : (chain : ℕ) (ns : List (ChainNode T)) (n : ChainNode T) (gap : ℕ) → IsGap chain (ns ++ n ∷ []) gap → IsGap chain ns gap
   IsGap-front chain [] n gap g = tt
   IsGap-front chain (m ∷ ns) n zero g = g
   IsGap-front chain (m ∷ ns) n (suc gap) g = (g.0, IsGap-front chain ns n gap g.1)
 
-  AllLinked-front : (ns : List (Node T)) (n : Node T) → AllLinked (ns ++ n ∷ []) → AllLinked ns
+  AllLinked-front : (ns : List (ChainNode T)) (n : ChainNode T) → AllLinked (ns ++ n ∷ []) → AllLinked ns
   AllLinked-front [] n l = tt
   AllLinked-front (m ∷ ns) n l = (IsGap-front m.chain ns n m.gap l.0, AllLinked-front ns n l.1)
 
   -- the newest node of a chain has a place
-  newest_within : (chain : ℕ) (ns : List (Node T)) (last head : ℕ) → last < 2 ^ 32 → length ns < 2 ^ 32 → newest_on chain (ages_of last ns) ≡ Some head → behind last head < length ns
+  newest_within : (chain : ℕ) (ns : List (ChainNode T)) (last head : ℕ) → last < 2 ^ 32 → length ns < 2 ^ 32 → newest_on chain (ages_of last ns) ≡ Some head → behind last head < length ns
   newest_within chain ns last head h k is =
       let found = gap_of chain ns in
       elim (cases_lt found.0 (length ns)) [
@@ -104,9 +104,9 @@ module _ {T : Type 0} where
         | inr past ↦ (let e = newest_absent chain ns last found.0 found.1 past in absurd (let wrong : ⊥ = cc in wrong))
       ]
 
-  module _ {ns : List (Node T)} {newest : List (Option ℕ)} {last spare capacity : ℕ} (kept : IsKept ns newest last spare capacity) where
+  module _ {ns : List (ChainNode T)} {newest : List (Option ℕ)} {last spare capacity : ℕ} (kept : IsKept ns newest last spare capacity) where
     -- more room and more chains
-    pub kept_room : (ms : List (Node T)) (heads : List (Option ℕ)) (more : ℕ) → ms ≡ ns → heads ≡ newest → capacity ≤ more → IsKept ms heads last spare more
+    pub kept_room : (ms : List (ChainNode T)) (heads : List (Option ℕ)) (more : ℕ) → ms ≡ ns → heads ≡ newest → capacity ≤ more → IsKept ms heads last spare more
     kept_room ms heads more same_nodes same_heads grown =
         let room = kept.room in
         rw (same_nodes, same_heads) (record {
@@ -154,7 +154,7 @@ module _ {T : Type 0} where
           room = omega arith;
         }
 
-    module _ (ms : List (Node T)) (n : Node T) (is : ns ≡ ms ++ n ∷ []) where
+    module _ (ms : List (ChainNode T)) (n : ChainNode T) (is : ns ≡ ms ++ n ∷ []) where
       -- the entry that a drop takes
       abbrev gone : Entry T
       gone = record { node = behind last (length ms); chain = n.chain; value = n.value }

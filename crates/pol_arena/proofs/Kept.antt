@@ -5,14 +5,14 @@ use Rattle.std.proofs.lemmas.Option.{IfSome_then}
 use Rattle.std.specs.List.{IsDistinct, AllByRecursion}
 use Rattle.std.proofs.lemmas.Bool.{cases_eq, cases_lt, eq-eqb, ne_eqb}
 use Rattle.std.proofs.lemmas.List.{get_or_past}
-use Rattle.pol_arena.specs.declared.node.Node.{Node}
+use Rattle.pol_arena.specs.declared.node.ChainNode.{ChainNode}
 use Rattle.pol_arena.specs.Twin.{Entry, Twin, newest_on, entry_of, value_of, older_than, IsSound}
 use Rattle.pol_arena.specs.Queue.{behind, ages_of, IsKept}
 use Rattle.pol_arena.proofs.Indices.{behind_below, self-behind}
 use Rattle.pol_arena.proofs.Ages.{entry_absent, place_within, value_at, older_found, older_absent}
 
 module _ {T : Type 0} where
-  pub length_ages : (ns : List (Node T)) (last : ℕ) → length (ages_of last ns) ≡ length ns
+  pub length_ages : (ns : List (ChainNode T)) (last : ℕ) → length (ages_of last ns) ≡ length ns
   length_ages [] last = refl
   length_ages (n ∷ ns) last = ap suc (length_ages ns (behind last 1))
 
@@ -25,7 +25,7 @@ module _ {T : Type 0} where
         | inr differs ↦ (ne_eqb node e.node (λ s. differs (sym s)), others_differ node es (rw (ne_eqb e.node node differs) at none))
       ]
 
-  nodes_distinct : (ns : List (Node T)) (last : ℕ) → last < 2 ^ 32 → length ns < 2 ^ 32 → IsDistinct nat_eq (map (λ e. e.node) (ages_of last ns))
+  nodes_distinct : (ns : List (ChainNode T)) (last : ℕ) → last < 2 ^ 32 → length ns < 2 ^ 32 → IsDistinct nat_eq (map (λ e. e.node) (ages_of last ns))
   unfolding IsDistinct
   nodes_distinct [] last h k = tt
   nodes_distinct (n ∷ ns) last h k =
@@ -50,7 +50,7 @@ module _ {T : Type 0} where
         | inr past ↦ (let none = get_or_past newest chain None past in let some = newest_there chain es k d w refl in let head = heads chain in absurd (let wrong : ⊥ = cc in wrong))
       ]
 
-  module _ {ns : List (Node T)} {newest : List (Option ℕ)} {last spare capacity : ℕ} (kept : IsKept ns newest last spare capacity) where
+  module _ {ns : List (ChainNode T)} {newest : List (Option ℕ)} {last spare capacity : ℕ} (kept : IsKept ns newest last spare capacity) where
     pub kept_sound : (t : Twin T) → record { ages = ages_of last ns; chains = length newest; spare = spare } ≡ t → IsSound t
     kept_sound t view =
         let size = length_ages ns last in
@@ -65,21 +65,21 @@ module _ {T : Type 0} where
     kept_place node ages view h used =
         place_within ns last node kept.in_range h (subst (λ (es : List (Entry T)). IsSome (entry_of node es)) (sym view) used)
 
-    pub kept_value : (node : ℕ) (ages : List (Entry T)) (n : Node T) → ages_of last ns ≡ ages → node < 2 ^ 32 → IsSome (entry_of node ages) → n ≡ get_or ns (behind last node) n → value_of node ages ≡ Some n.value
+    pub kept_value : (node : ℕ) (ages : List (Entry T)) (n : ChainNode T) → ages_of last ns ≡ ages → node < 2 ^ 32 → IsSome (entry_of node ages) → n ≡ get_or ns (behind last node) n → value_of node ages ≡ Some n.value
     kept_value node ages n view h used read =
         subst (λ (es : List (Entry T)). value_of node es ≡ Some n.value) view
-        (value_at ns last node (behind last node) n kept.in_range h refl (kept_place node ages view h used) ∙ ap (λ (m : Node T). Some m.value) (sym read))
+        (value_at ns last node (behind last node) n kept.in_range h refl (kept_place node ages view h used) ∙ ap (λ (m : ChainNode T). Some m.value) (sym read))
 
-    pub kept_older : (node : ℕ) (ages : List (Entry T)) (n : Node T) → ages_of last ns ≡ ages → node < 2 ^ 32 → n ≡ get_or ns (behind last node) n → behind last node + n.gap + 1 < length ns → older_than node ages ≡ Some (behind last (behind last node + n.gap + 1))
+    pub kept_older : (node : ℕ) (ages : List (Entry T)) (n : ChainNode T) → ages_of last ns ≡ ages → node < 2 ^ 32 → n ≡ get_or ns (behind last node) n → behind last node + n.gap + 1 < length ns → older_than node ages ≡ Some (behind last (behind last node + n.gap + 1))
     kept_older node ages n view h read within =
         let fits = kept.fits in
-        let gap = ap (λ (m : Node T). m.gap) read in
+        let gap = ap (λ (m : ChainNode T). m.gap) read in
         subst (λ (es : List (Entry T)). older_than node es ≡ Some (behind last (behind last node + n.gap + 1))) view
-        (older_found ns last node (behind last node) n kept.in_range h (omega arith) kept.linked refl (omega arith) ∙ ap (λ (m : Node T). Some (behind last (behind last node + m.gap + 1))) (sym read))
+        (older_found ns last node (behind last node) n kept.in_range h (omega arith) kept.linked refl (omega arith) ∙ ap (λ (m : ChainNode T). Some (behind last (behind last node + m.gap + 1))) (sym read))
 
-    pub kept_oldest : (node : ℕ) (ages : List (Entry T)) (n : Node T) → ages_of last ns ≡ ages → node < 2 ^ 32 → IsSome (entry_of node ages) → n ≡ get_or ns (behind last node) n → length ns ≤ behind last node + n.gap + 1 → older_than node ages ≡ None
+    pub kept_oldest : (node : ℕ) (ages : List (Entry T)) (n : ChainNode T) → ages_of last ns ≡ ages → node < 2 ^ 32 → IsSome (entry_of node ages) → n ≡ get_or ns (behind last node) n → length ns ≤ behind last node + n.gap + 1 → older_than node ages ≡ None
     kept_oldest node ages n view h used read past =
-        let gap = ap (λ (m : Node T). m.gap) read in
+        let gap = ap (λ (m : ChainNode T). m.gap) read in
         subst (λ (es : List (Entry T)). older_than node es ≡ None) view
         (older_absent ns last node (behind last node) n kept.in_range h kept.linked refl (kept_place node ages view h used) (omega arith))
 

@@ -2,7 +2,7 @@
 
 /// A value on a chain.
 #[derive(Drop)]
-pub(crate) struct Node<T> {
+pub(crate) struct ChainNode<T> {
     pub(crate) value: T,
     pub(crate) chain: u64,
     /// How many nodes lie between this one and the older one of its chain. Where that one was dropped, or never was,

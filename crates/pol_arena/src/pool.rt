@@ -3,7 +3,7 @@ ghost use Rattle.std.specs.Prelude.{◌≡◌, ◌+◌, ◌-◌, ◌^◌, ◌<�
 ghost use Rattle.std.specs.Borrow.{sem};
 ghost use Rattle.pol_arena.specs.Pool.{empty_pool, node_at, IsInUse, nodes_in_use, next_node, after_put, after_take, Updates, IsSound};
 
-use crate::slot::Slot;
+use crate::slot::PoolSlot;
 use pol_data::Memory;
 use std::alloc::Global;
 use std::marker::Model;
@@ -14,7 +14,7 @@ use std::marker::Model;
 /// A free node's slot names the node that was taken before it, so a pool keeps one slot a node and nothing else.
 #[derive(Drop)]
 pub struct Pool<T> {
-    slots: Vec<Slot<T>>,
+    slots: Vec<PoolSlot<T>>,
     // How many nodes are free, and the one that was taken last, where there is one.
     free: u32,
     first: u32,
@@ -84,7 +84,7 @@ impl<T> Pool<T> {
         self.spare -= 1;
         if self.free == 0 {
             let node = self.slots.len() as u32;
-            self.slots.push_reserved(Slot::Used(value));
+            self.slots.push_reserved(PoolSlot::Used(value));
             return node;
         }
         let node = self.first;

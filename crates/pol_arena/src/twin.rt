@@ -3,7 +3,7 @@ ghost use Rattle.std.specs.Prelude.{◌≡◌, ◌+◌, ◌-◌, ◌^◌, ◌<�
 ghost use Rattle.pol_arena.specs.Twin.{Entry, empty_twin, newest_on, older_than, entry_of, value_of, oldest, IsInUse, after_push, after_drop, IsSound};
 ghost use Rattle.pol_arena.specs.Queue.{gap_before, without_node};
 
-use crate::node::Node;
+use crate::node::ChainNode;
 use pol_data::Memory;
 use std::alloc::Global;
 use std::collections::VecDeque;
@@ -18,7 +18,7 @@ use std::marker::Model;
 #[derive(Drop)]
 pub struct Twin<T> {
     // The newest first.
-    nodes: VecDeque<Node<T>>,
+    nodes: VecDeque<ChainNode<T>>,
     // The newest node of each chain.
     newest: Vec<Option<u32>>,
     // The index of the node that was pushed last.
@@ -117,7 +117,8 @@ impl<T> Twin<T> {
         let head = self.newest[chain as usize];
         let gap = gap_before(head, self.last, self.nodes.len() as u32);
         let node = self.last.wrapping_add(1);
-        self.nodes.push_front_reserved(Node { value, chain, gap });
+        self.nodes
+            .push_front_reserved(ChainNode { value, chain, gap });
         self.newest[chain as usize] = Some(node);
         self.last = node;
         self.spare -= 1;
@@ -171,7 +172,7 @@ impl<T> Twin<T> {
         ensures empty { IsNone result ↔ (length self.old.ages ≡ 0) }
         ensures sound { IsSound self.new }
     {
-        let Node {
+        let ChainNode {
             value,
             chain,
             gap: _,

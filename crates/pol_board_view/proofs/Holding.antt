@@ -4,7 +4,7 @@ use Rattle.std.specs.FinMap as finite
 use Rattle.std.specs.Cmp.Lexicographic.{bytes_decides}
 use Rattle.indexmap.specs.IndexMap.{IndexMap, get}
 use Rattle.std.proofs.lemmas.Bool.Decides.{nat_tests}
-use Rattle.pol_addresses.specs.AddressTable.{AddressTable, number_in}
+use Rattle.pol_prefixes.specs.AddressTable.{AddressTable, number_in}
 use Rattle.pol_data.specs.contracts.text.TextPartialEq.TheImpl as text
 use Rattle.pol_change_list.specs.declared.change.Change.{Change}
 use Rattle.pol_change_list.specs.Changes.{changed}

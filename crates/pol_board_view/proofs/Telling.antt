@@ -4,7 +4,7 @@ use Rattle.std.specs.Arc.{arc_value}
 use mathlib.Core.List.{IsPrefix}
 use Rattle.indexmap.specs.IndexMap.{IndexMap, get}
 use Rattle.pol_data.specs.contracts.text.TextPartialEq.TheImpl as text
-use Rattle.pol_addresses.specs.AddressTable.{AddressTable}
+use Rattle.pol_prefixes.specs.AddressTable.{AddressTable}
 use Rattle.pol_change_list.specs.declared.change.Change.{Change as Edit}
 use Rattle.pol_mapkey.specs.Entries.{Entry as MapEntry}
 use Rattle.pol_model.specs.After.{state_of}

@@ -2,7 +2,7 @@
 use Rattle.std.specs.Prelude.{◌≡◌, ℕ, Bool, true, false, List, [], ◌∷◌, ◌++◌, take, Option, None, Some}
 use Rattle.std.specs.Arc.{arc_value}
 use Rattle.pol_addr.specs.declared.address.Addr.{Addr}
-use Rattle.pol_addresses.specs.AddressTable.{AddressTable, number_in}
+use Rattle.pol_prefixes.specs.AddressTable.{AddressTable, number_in}
 use Rattle.pol_model.specs.After.{state_of}
 use Rattle.pol_model.specs.declared.options.Options.{Options}
 use Rattle.pol_model.specs.declared.request.Request.{Request}

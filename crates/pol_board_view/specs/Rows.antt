@@ -4,7 +4,7 @@ use Rattle.std.specs.Arc.{arc_value}
 use Rattle.std.specs.FinMap as finite
 use Rattle.indexmap.specs.IndexMap.{IndexMap, get}
 use Rattle.pol_addr.specs.declared.address.Addr.{Addr}
-use Rattle.pol_addresses.specs.AddressTable.{AddressTable, number_in}
+use Rattle.pol_prefixes.specs.AddressTable.{AddressTable, number_in}
 use Rattle.pol_data.specs.contracts.text.TextPartialEq.TheImpl as text
 use Rattle.pol_change_list.specs.declared.change.Change.{Change}
 use Rattle.pol_change_list.specs.Changes.{IsAscending, changed, set_count}

@@ -8,7 +8,7 @@ use Rattle.std.proofs.lemmas.List.{length-take}
 use Rattle.std.proofs.lemmas.Option.{same_Some}
 use mathlib.Core.List.{IsPrefix}
 use Rattle.pol_addr.specs.declared.address.Addr.{Addr}
-use Rattle.pol_addresses.specs.AddressTable.{number_in}
+use Rattle.pol_prefixes.specs.AddressTable.{number_in}
 use Rattle.pol_delta.specs.Work.{map_of}
 use Rattle.pol_distill.specs.Sorted.{HaveSets}
 use Rattle.pol_change_list.specs.Changes.{changed, table_of}

@@ -4,7 +4,7 @@ use Rattle.std.specs.Arc.{arc_value}
 use Rattle.std.specs.FinMap as finite
 use Rattle.std.specs.Str.{bytes_eq}
 use Rattle.indexmap.specs.IndexMap.{IndexMap, get}
-use Rattle.pol_addresses.specs.AddressTable.{number_in}
+use Rattle.pol_prefixes.specs.AddressTable.{number_in}
 use Rattle.pol_data.specs.contracts.text.TextPartialEq.TheImpl as text
 use Rattle.pol_trie.specs.PolicyMap.{PolicyMap}
 use Rattle.pol_history.specs.Content.{BoardRow, PublishedMap}

@@ -38,7 +38,7 @@ pub struct Machine {
 
 impl Model for Machine {
     ghost use Rattle.std.specs.Coded.{codes};
-    ghost use Rattle.pol_addresses.specs.AddressTable.{address_code};
+    ghost use Rattle.pol_prefixes.specs.AddressTable.{address_code};
     ghost use Rattle.pol_trie.specs.PolicyMap.{policy_map_code};
     ghost use Rattle.pol_core.specs.Stands.{Stored};
 

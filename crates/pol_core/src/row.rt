@@ -8,7 +8,7 @@ ghost use Rattle.pol_core.specs.Rows.{by_name, map_held, row_held};
 
 use crate::double::DoubleTrie;
 use indexmap::IndexMap;
-use pol_addresses::Addresses;
+use pol_prefixes::Addresses;
 use pol_data::{Steps, Text};
 use pol_history::{LastReport, Reply};
 use pol_model::{Query, Remote};

@@ -6,12 +6,12 @@ use Rattle.pol_addr.specs.declared.network.Prefix.{Prefix}
 use Rattle.pol_addr.specs.Cidr.{IsPrefix}
 use Rattle.pol_addr.specs.Prefix.{half, covers}
 use Rattle.pol_addr.proofs.Containment.{covers_refl, covers_trans, covers_from_half, covers_from_covered, same_from_covered}
-use Rattle.pol_lpm.specs.declared.node.Node.{Node}
+use Rattle.pol_lpm.specs.declared.node.PrefixNode.{PrefixNode}
 use Rattle.pol_lpm.specs.Trie.{child, IsTree}
 use Rattle.pol_addr.proofs.Halves.{cases_side, same_half, not_both, half_no_cover, covers_len, half_over, half_moved, covers_moved}
 
 -- node `c` came under the key j, between node `n` under the key i and what was below it on this side
-pub record Attached (at at' : ℕ → Option Node) (i j : ℕ) (n n' c : Node) (high : Bool) : Type 0 where
+pub record Attached (at at' : ℕ → Option PrefixNode) (i j : ℕ) (n n' c : PrefixNode) (high : Bool) : Type 0 where
   pub parent : at i ≡ Some n
   pub vacant : at j ≡ None
   pub new : at' j ≡ Some c
@@ -23,17 +23,17 @@ pub record Attached (at at' : ℕ → Option Node) (i j : ℕ) (n n' c : Node) (
   pub to_new : child n' high ≡ Some j
   pub other_side : child n' (not high) ≡ child n (not high)
   pub others : (k : ℕ) → k ≢ i → k ≢ j → at' k ≡ at k
-  pub moved : (d : Bool) (k : ℕ) → child c d ≡ Some k → (m : Node) × (at k ≡ Some m) × (covers (half c.prefix d) m.prefix ≡ true)
-  pub below : (k : ℕ) (m : Node) → child n high ≡ Some k → at k ≡ Some m → (d : Bool) × (child c d ≡ Some k) × (covers (half c.prefix d) m.prefix ≡ true)
+  pub moved : (d : Bool) (k : ℕ) → child c d ≡ Some k → (m : PrefixNode) × (at k ≡ Some m) × (covers (half c.prefix d) m.prefix ≡ true)
+  pub below : (k : ℕ) (m : PrefixNode) → child n high ≡ Some k → at k ≡ Some m → (d : Bool) × (child c d ≡ Some k) × (covers (half c.prefix d) m.prefix ≡ true)
 
-module _ (at at' : ℕ → Option Node) (i j : ℕ) (n n' c : Node) (high : Bool) (t : IsTree at) (h : Attached at at' i j n n' c high) where
+module _ (at at' : ℕ → Option PrefixNode) (i j : ℕ) (n n' c : PrefixNode) (high : Bool) (t : IsTree at) (h : Attached at at' i j n n' c high) where
   -- where a node of the new trie comes from
-  data Origin (k : ℕ) (m : Node) : Type 0 where
+  data Origin (k : ℕ) (m : PrefixNode) : Type 0 where
     is_new : k ≡ j → m ≡ c → Origin k m
     is_parent : k ≡ i → m ≡ n' → Origin k m
     is_other : k ≢ i → at k ≡ Some m → Origin k m
 
-  origin : (k : ℕ) (m : Node) → at' k ≡ Some m → Origin k m
+  origin : (k : ℕ) (m : PrefixNode) → at' k ≡ Some m → Origin k m
   origin k m is =
       elim (cases_eq k j) [
         | inl same ↦ is_new same (same_Some m c (sym is ∙ ap at' same ∙ h.new))
@@ -44,7 +44,7 @@ module _ (at at' : ℕ → Option Node) (i j : ℕ) (n n' c : Node) (high : Bool
       ]
 
   -- an old node stands where it stood
-  pub attached_keeps : (k : ℕ) (m : Node) → at k ≡ Some m → (m' : Node) × (at' k ≡ Some m') × (m'.prefix ≡ m.prefix) × (m'.number ≡ m.number)
+  pub attached_keeps : (k : ℕ) (m : PrefixNode) → at k ≡ Some m → (m' : PrefixNode) × (at' k ≡ Some m') × (m'.prefix ≡ m.prefix) × (m'.number ≡ m.number)
   attached_keeps k m is =
       elim (cases_eq k i) [
         | inl same ↦
@@ -53,11 +53,11 @@ module _ (at at' : ℕ → Option Node) (i j : ℕ) (n n' c : Node) (high : Bool
         | inr differs ↦ (m, h.others k differs (λ same. none-some m (sym h.vacant ∙ ap at (sym same) ∙ is)) ∙ is, refl, refl)
       ]
 
-  kept : (k : ℕ) (m : Node) → at k ≡ Some m → (m' : Node) × (at' k ≡ Some m') × (m'.prefix ≡ m.prefix)
+  kept : (k : ℕ) (m : PrefixNode) → at k ≡ Some m → (m' : PrefixNode) × (at' k ≡ Some m') × (m'.prefix ≡ m.prefix)
   kept k m is = let (m', is', same, _) = attached_keeps k m is in (m', is', same)
 
   -- the old node of a prefix, unless it is the new one
-  pub attached_from : (k : ℕ) (m : Node) → at' k ≡ Some m → ((k ≡ j) × (m ≡ c)) ⊎ ((m₀ : Node) × (at k ≡ Some m₀) × (m.prefix ≡ m₀.prefix) × (m.number ≡ m₀.number))
+  pub attached_from : (k : ℕ) (m : PrefixNode) → at' k ≡ Some m → ((k ≡ j) × (m ≡ c)) ⊎ ((m₀ : PrefixNode) × (at k ≡ Some m₀) × (m.prefix ≡ m₀.prefix) × (m.number ≡ m₀.number))
   attached_from k m is =
       elim (origin k m is) [
         | is_new same is_c ↦ inl (same, is_c)
@@ -65,41 +65,41 @@ module _ (at at' : ℕ → Option Node) (i j : ℕ) (n n' c : Node) (high : Bool
         | is_other _ was ↦ inr (m, was, refl, refl)
       ]
 
-  before : (k : ℕ) (m : Node) → at' k ≡ Some m → ((k ≡ j) × (m ≡ c)) ⊎ ((m₀ : Node) × (at k ≡ Some m₀) × (m.prefix ≡ m₀.prefix))
+  before : (k : ℕ) (m : PrefixNode) → at' k ≡ Some m → ((k ≡ j) × (m ≡ c)) ⊎ ((m₀ : PrefixNode) × (at k ≡ Some m₀) × (m.prefix ≡ m₀.prefix))
   before k m is = elim (attached_from k m is) [ inl fresh ↦ inl fresh | inr old ↦ inr (old.0, old.1, old.2) ]
 
   -- what the new node covers, among what the old ones reach
-  reached_below : (b : ℕ) (q : Node) → at b ≡ Some q → covers (half n.prefix high) q.prefix ≡ true → (k : ℕ) × (l : Node) × (d : Bool) × (at k ≡ Some l) × (child c d ≡ Some k) × (covers (half c.prefix d) l.prefix ≡ true) × (covers l.prefix q.prefix ≡ true)
+  reached_below : (b : ℕ) (q : PrefixNode) → at b ≡ Some q → covers (half n.prefix high) q.prefix ≡ true → (k : ℕ) × (l : PrefixNode) × (d : Bool) × (at k ≡ Some l) × (child c d ≡ Some k) × (covers (half c.prefix d) l.prefix ≡ true) × (covers l.prefix q.prefix ≡ true)
   reached_below b q is over =
       let (k, l, linked, is_l, over_l) = t.reached i b n q high h.parent is over in
       let (d, linked', under) = h.below k l linked is_l in
       (k, l, d, is_l, linked', under, over_l)
 
   -- the new prefix stood nowhere
-  pub absent : (k : ℕ) (m : Node) → at k ≡ Some m → c.prefix ≡ m.prefix → ⊥
+  pub absent : (k : ℕ) (m : PrefixNode) → at k ≡ Some m → c.prefix ≡ m.prefix → ⊥
   absent k m is same =
       let (_, l, d, is_l, _, under, over) = reached_below k m is (rw (← same) h.under) in
       let (_, longer) = covers_from_half c.prefix l.prefix d h.new_valid (t.valid _ l is_l) under in
       omega (arith, longer, covers_len l.prefix m.prefix over, ap (λ p. p.len) same)
 
   -- an old child of the same place, in the new trie
-  Reaches : Node → Bool → Prefix → Type 0
-  Reaches p d q = (k : ℕ) × (l : Node) × (child p d ≡ Some k) × (at' k ≡ Some l) × (covers l.prefix q ≡ true)
+  Reaches : PrefixNode → Bool → Prefix → Type 0
+  Reaches p d q = (k : ℕ) × (l : PrefixNode) × (child p d ≡ Some k) × (at' k ≡ Some l) × (covers l.prefix q ≡ true)
 
-  still : (p : Node) (d : Bool) (k : ℕ) (l : Node) (q : Prefix) → child p d ≡ Some k → at k ≡ Some l → covers l.prefix q ≡ true → Reaches p d q
+  still : (p : PrefixNode) (d : Bool) (k : ℕ) (l : PrefixNode) (q : Prefix) → child p d ≡ Some k → at k ≡ Some l → covers l.prefix q ≡ true → Reaches p d q
   unfolding Reaches
   still p d k l q linked is over =
       let (l', is', same) = kept k l is in
       (k, l', linked, is', covers_moved l.prefix l'.prefix q q same refl over)
 
-  valid' : (k : ℕ) (m : Node) → at' k ≡ Some m → IsPrefix m.prefix
+  valid' : (k : ℕ) (m : PrefixNode) → at' k ≡ Some m → IsPrefix m.prefix
   valid' k m is =
       elim (before k m is) [
         | inl fresh ↦ rw fresh.1 h.new_valid
         | inr old ↦ rw old.2 (t.valid k old.0 old.1)
       ]
 
-  linked' : (a : ℕ) (p : Node) (d : Bool) (k : ℕ) → at' a ≡ Some p → child p d ≡ Some k → (l : Node) × (at' k ≡ Some l) × (covers (half p.prefix d) l.prefix ≡ true)
+  linked' : (a : ℕ) (p : PrefixNode) (d : Bool) (k : ℕ) → at' a ≡ Some p → child p d ≡ Some k → (l : PrefixNode) × (at' k ≡ Some l) × (covers (half p.prefix d) l.prefix ≡ true)
   linked' a p d k is link =
       elim (origin a p is) [
         | is_new _ is_c ↦
@@ -124,7 +124,7 @@ module _ (at at' : ℕ → Option Node) (i j : ℕ) (n n' c : Node) (high : Bool
       ]
 
   -- below the new node
-  reached_from_new : (b : ℕ) (q : Node) (d : Bool) → at' b ≡ Some q → covers (half c.prefix d) q.prefix ≡ true → Reaches c d q.prefix
+  reached_from_new : (b : ℕ) (q : PrefixNode) (d : Bool) → at' b ≡ Some q → covers (half c.prefix d) q.prefix ≡ true → Reaches c d q.prefix
   reached_from_new b q d is over =
       elim (before b q is) [
         | inl fresh ↦ absurd (half_no_cover c.prefix d h.new_valid (ap (λ x. covers (half c.prefix d) x.prefix) (sym fresh.1) ∙ over))
@@ -137,7 +137,7 @@ module _ (at at' : ℕ → Option Node) (i j : ℕ) (n n' c : Node) (high : Bool
       ]
 
   -- on the parent's side of the new node
-  reached_from_parent : (b : ℕ) (q : Node) → at' b ≡ Some q → covers (half n.prefix high) q.prefix ≡ true → covers c.prefix q.prefix ≡ true
+  reached_from_parent : (b : ℕ) (q : PrefixNode) → at' b ≡ Some q → covers (half n.prefix high) q.prefix ≡ true → covers c.prefix q.prefix ≡ true
   reached_from_parent b q is over =
       elim (before b q is) [
         | inl fresh ↦ ap (λ x. covers c.prefix x.prefix) fresh.1 ∙ covers_refl c.prefix h.new_valid
@@ -148,7 +148,7 @@ module _ (at at' : ℕ → Option Node) (i j : ℕ) (n n' c : Node) (high : Bool
       ]
 
   -- from another old node to the new one
-  reached_new : (a : ℕ) (p : Node) (d : Bool) → a ≢ i → at a ≡ Some p → covers (half p.prefix d) c.prefix ≡ true → Reaches p d c.prefix
+  reached_new : (a : ℕ) (p : PrefixNode) (d : Bool) → a ≢ i → at a ≡ Some p → covers (half p.prefix d) c.prefix ≡ true → Reaches p d c.prefix
   unfolding Reaches
   reached_new a p d differs is over =
       let (over_p, shorter) = covers_from_half p.prefix c.prefix d (t.valid a p is) h.new_valid over in
@@ -172,7 +172,7 @@ module _ (at at' : ℕ → Option Node) (i j : ℕ) (n n' c : Node) (high : Bool
         ]
       ]
 
-  reached_below_parent : (b : ℕ) (p q : Node) (d : Bool) → p ≡ n' → at' b ≡ Some q → covers (half p.prefix d) q.prefix ≡ true → Reaches p d q.prefix
+  reached_below_parent : (b : ℕ) (p q : PrefixNode) (d : Bool) → p ≡ n' → at' b ≡ Some q → covers (half p.prefix d) q.prefix ≡ true → Reaches p d q.prefix
   unfolding Reaches
   reached_below_parent b p q d is_n is_q over =
       let prefix_is : n.prefix ≡ p.prefix = sym (ap (λ x. x.prefix) is_n ∙ h.same_prefix) in
@@ -190,7 +190,7 @@ module _ (at at' : ℕ → Option Node) (i j : ℕ) (n n' c : Node) (high : Bool
             ]
       ]
 
-  reached' : (a b : ℕ) (p q : Node) (d : Bool) → at' a ≡ Some p → at' b ≡ Some q → covers (half p.prefix d) q.prefix ≡ true → Reaches p d q.prefix
+  reached' : (a b : ℕ) (p q : PrefixNode) (d : Bool) → at' a ≡ Some p → at' b ≡ Some q → covers (half p.prefix d) q.prefix ≡ true → Reaches p d q.prefix
   unfolding Reaches
   reached' a b p q d is is_q over =
       elim (origin a p is) [
@@ -208,7 +208,7 @@ module _ (at at' : ℕ → Option Node) (i j : ℕ) (n n' c : Node) (high : Bool
         ]
       ]
 
-  apart' : (a b : ℕ) (p q : Node) → at' a ≡ Some p → at' b ≡ Some q → p.prefix ≡ q.prefix → a ≡ b
+  apart' : (a b : ℕ) (p q : PrefixNode) → at' a ≡ Some p → at' b ≡ Some q → p.prefix ≡ q.prefix → a ≡ b
   apart' a b p q is is_q same =
       elim (before a p is) [
         | inl fresh ↦ elim (before b q is_q) [

@@ -7,22 +7,22 @@ use Rattle.slab.specs.Slab.{Slab, get}
 use Rattle.pol_addr.specs.declared.network.Prefix.{Prefix}
 use Rattle.pol_addr.specs.Prefix.{covers, world}
 use Rattle.pol_addr.proofs.Containment.{same_from_covered}
-use Rattle.pol_lpm.specs.declared.node.Node.{Node}
+use Rattle.pol_lpm.specs.declared.node.PrefixNode.{PrefixNode}
 use Rattle.pol_lpm.specs.Trie.{IsTree, StandsOver, NoneBetween, IsNumberUpTo, NoNumberUpTo, IsBest, len_at}
 use Rattle.pol_lpm.proofs.Steps.{len_at-node}
 
 pub some_none : (o : Option ℕ) → IsSome o → o ≡ None → ⊥
 some_none o some none = absurd (cc)
 
-module _ (s : Slab Node) (t : IsTree (get s)) (target : Prefix) where
+module _ (s : Slab PrefixNode) (t : IsTree (get s)) (target : Prefix) where
   -- two nodes of one length that cover the target are one
-  alone : (i j : ℕ) (n m : Node) → get s i ≡ Some n → get s j ≡ Some m → covers n.prefix target ≡ true → covers m.prefix target ≡ true → m.prefix.len ≡ n.prefix.len → m ≡ n
+  alone : (i j : ℕ) (n m : PrefixNode) → get s i ≡ Some n → get s j ≡ Some m → covers n.prefix target ≡ true → covers m.prefix target ≡ true → m.prefix.len ≡ n.prefix.len → m ≡ n
   alone i j n m is is_m over over_m same =
       let key : j ≡ i = t.apart j i m n is_m is (same_from_covered m.prefix n.prefix target over_m over same) in
       same_Some m n (sym is_m ∙ ap (get s) key ∙ is)
 
   -- the first node's number, if it has one, and else the best of those above it
-  best_from : (most : ℕ) (k : ℕ) (c : Node) (best : Option ℕ) → get s k ≡ Some c → covers c.prefix target ≡ true → ((j : ℕ) (m : Node) → get s j ≡ Some m → covers m.prefix target ≡ true → m.prefix.len < c.prefix.len → m.prefix.len ≤ most) → most < c.prefix.len → MatchOption best (NoNumberUpTo s target most) (IsNumberUpTo s target most) → (o : Option ℕ) → c.number ≡ o → MatchOption (option_or o best) (NoNumberUpTo s target c.prefix.len) (IsNumberUpTo s target c.prefix.len)
+  best_from : (most : ℕ) (k : ℕ) (c : PrefixNode) (best : Option ℕ) → get s k ≡ Some c → covers c.prefix target ≡ true → ((j : ℕ) (m : PrefixNode) → get s j ≡ Some m → covers m.prefix target ≡ true → m.prefix.len < c.prefix.len → m.prefix.len ≤ most) → most < c.prefix.len → MatchOption best (NoNumberUpTo s target most) (IsNumberUpTo s target most) → (o : Option ℕ) → c.number ≡ o → MatchOption (option_or o best) (NoNumberUpTo s target c.prefix.len) (IsNumberUpTo s target c.prefix.len)
   best_from most k c best is over above shorter before (Some x) numbered = record {
     key = k;
     node = c;
@@ -51,12 +51,12 @@ module _ (s : Slab Node) (t : IsTree (get s)) (target : Prefix) where
         ];
   }
 
-  pub best_step : (limit i k : ℕ) (c : Node) (best : Option ℕ) → get s k ≡ Some c → StandsOver s target limit k → NoneBetween s target i k → len_at s i < len_at s k → IsBest s target i best → IsBest s target k (option_or c.number best)
+  pub best_step : (limit i k : ℕ) (c : PrefixNode) (best : Option ℕ) → get s k ≡ Some c → StandsOver s target limit k → NoneBetween s target i k → len_at s i < len_at s k → IsBest s target i best → IsBest s target k (option_or c.number best)
   best_step limit i k c best is h between deeper before =
       let same : h.node ≡ c = same_Some h.node c (sym h.there ∙ is) in
       let over : covers c.prefix target ≡ true = ap (λ x. covers x.prefix target) (sym same) ∙ h.over in
       let len_k = len_at-node s k c is in
-      let at_most : (j : ℕ) (m : Node) → get s j ≡ Some m → covers m.prefix target ≡ true → m.prefix.len < c.prefix.len → m.prefix.len ≤ len_at s i = λ j m is_m over_m less.
+      let at_most : (j : ℕ) (m : PrefixNode) → get s j ≡ Some m → covers m.prefix target ≡ true → m.prefix.len < c.prefix.len → m.prefix.len ≤ len_at s i = λ j m is_m over_m less.
       elim (cases_lt (len_at s i) m.prefix.len) [
         | inl longer ↦ absurd (omega (arith, between j m is_m over_m longer, len_k, less))
         | inr fine ↦ fine
@@ -64,7 +64,7 @@ module _ (s : Slab Node) (t : IsTree (get s)) (target : Prefix) where
       subst (λ most. MatchOption (option_or c.number best) (NoNumberUpTo s target most) (IsNumberUpTo s target most)) (sym len_k)
       (best_from (len_at s i) k c best is over at_most (omega (arith, len_k, deeper)) before c.number refl)
 
-  first : (root : Node) → get s 0 ≡ Some root → covers root.prefix target ≡ true → root.prefix.len ≡ 0 → (o : Option ℕ) → root.number ≡ o → MatchOption o (NoNumberUpTo s target root.prefix.len) (IsNumberUpTo s target root.prefix.len)
+  first : (root : PrefixNode) → get s 0 ≡ Some root → covers root.prefix target ≡ true → root.prefix.len ≡ 0 → (o : Option ℕ) → root.number ≡ o → MatchOption o (NoNumberUpTo s target root.prefix.len) (IsNumberUpTo s target root.prefix.len)
   first root is over zero (Some x) numbered = record {
     key = 0;
     node = root;
@@ -77,7 +77,7 @@ module _ (s : Slab Node) (t : IsTree (get s)) (target : Prefix) where
   first root is over zero None numbered = λ j m is_m over_m short.
       ap (λ x. x.number) (alone 0 j root m is is_m over over_m (omega arith)) ∙ numbered
 
-  pub best_start : (limit : ℕ) (root : Node) → get s 0 ≡ Some root → StandsOver s target limit 0 → root.prefix ≡ world → IsBest s target 0 root.number
+  pub best_start : (limit : ℕ) (root : PrefixNode) → get s 0 ≡ Some root → StandsOver s target limit 0 → root.prefix ≡ world → IsBest s target 0 root.number
   best_start limit root is h prefix_is =
       let same : h.node ≡ root = same_Some h.node root (sym h.there ∙ is) in
       let over : covers root.prefix target ≡ true = ap (λ x. covers x.prefix target) (sym same) ∙ h.over in

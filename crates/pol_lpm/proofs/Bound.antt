@@ -5,7 +5,7 @@ use Rattle.slab.specs.Slab.{Slab, get, slab_len}
 use Rattle.pol_addr.specs.declared.network.Prefix.{Prefix}
 use Rattle.pol_addr.specs.Order.{prefix_cmp}
 use Rattle.pol_addr.proofs.Order.{prefix_cmp_total}
-use Rattle.pol_lpm.specs.declared.node.Node.{Node}
+use Rattle.pol_lpm.specs.declared.node.PrefixNode.{PrefixNode}
 use Rattle.pol_lpm.specs.Sizes.{sum_of, one, count, links, IsTight}
 use Rattle.pol_lpm.specs.Trie.{IsTrie, numbered, entry_before, map_of}
 use Rattle.pol_lpm.proofs.Balance.{count_le}
@@ -33,7 +33,7 @@ fresh_before : (p : Prefix) (number : Option ℕ) (es : List (Prefix × ℕ)) �
 fresh_before p None es none fresh = fresh
 fresh_before p (Some x) es none fresh = (none, fresh)
 
-fresh_numbered : (xs : List (Option Node)) → Apart xs → Fresh (numbered xs)
+fresh_numbered : (xs : List (Option PrefixNode)) → Apart xs → Fresh (numbered xs)
 fresh_numbered [] apart = tt
 fresh_numbered (None ∷ xs) apart = fresh_numbered xs (apart_tail None xs apart)
 fresh_numbered (Some o ∷ xs) apart =
@@ -45,33 +45,33 @@ length_before : (p : Prefix) (number : Option ℕ) (es : List (Prefix × ℕ)) �
 length_before p None es = omega arith
 length_before p (Some x) es = omega arith
 
-length_numbered : (xs : List (Option Node)) → length (numbered xs) ≡ sum_of (λ n. count n.number) xs
+length_numbered : (xs : List (Option PrefixNode)) → length (numbered xs) ≡ sum_of (λ n. count n.number) xs
 length_numbered [] = refl
 length_numbered (None ∷ xs) = length_numbered xs
 length_numbered (Some o ∷ xs) = omega (arith, length_before o.prefix o.number (numbered xs), length_numbered xs)
 
-numbers_len : (s : Slab Node) → IsTrie s → map.len (map_of s) ≡ sum_of (λ n. count n.number) s.slots
+numbers_len : (s : Slab PrefixNode) → IsTrie s → map.len (map_of s) ≡ sum_of (λ n. count n.number) s.slots
 numbers_len s t =
     let tree = t.tree in
     len_fresh (numbered s.slots) (fresh_numbered s.slots tree.apart) ∙ length_numbered s.slots
 
 -- ---- the bounds
-numbers_most : (xs : List (Option Node)) → sum_of (λ n. count n.number) xs ≤ sum_of one xs
+numbers_most : (xs : List (Option PrefixNode)) → sum_of (λ n. count n.number) xs ≤ sum_of one xs
 numbers_most [] = omega arith
 numbers_most (None ∷ xs) = numbers_most xs
 numbers_most (Some n ∷ xs) = omega (arith, count_le n.number, numbers_most xs)
 
-pub nodes_least : (s : Slab Node) → IsTrie s → map.len (map_of s) ≤ slab_len s
+pub nodes_least : (s : Slab PrefixNode) → IsTrie s → map.len (map_of s) ≤ slab_len s
 nodes_least s t = omega (arith, numbers_len s t, sum_one s.slots, numbers_most s.slots)
 
-most_by : (s : Slab Node) → IsTrie s → IsTight s → (xs : List (Option Node)) → s.slots ≡ xs → sum_of one xs ≤ 2 * sum_of (λ n. count n.number) xs + 1
+most_by : (s : Slab PrefixNode) → IsTrie s → IsTight s → (xs : List (Option PrefixNode)) → s.slots ≡ xs → sum_of one xs ≤ 2 * sum_of (λ n. count n.number) xs + 1
 most_by s t tight [] is = omega arith
 most_by s t tight (None ∷ xs) is =
     let none : (j : ℕ) → slot xs j ≡ None = λ j. absent j (slot xs j) refl in
     let sum : sum_of one xs ≡ 0 = sum_none one xs none in
     omega (arith, sum)
   where
-    absent : (j : ℕ) (o : Option Node) → slot xs j ≡ o → slot xs j ≡ None
+    absent : (j : ℕ) (o : Option PrefixNode) → slot xs j ≡ o → slot xs j ≡ None
     absent j None at = at
     absent j (Some n) at = absurd (no_nodes s t (ap (λ ys. slot ys 0) is) (suc j) n (ap (λ ys. slot ys (suc j)) is ∙ at))
 most_by s t tight (Some root ∷ xs) is =
@@ -82,5 +82,5 @@ most_by s t tight (Some root ∷ xs) is =
     let needed = sum_needed xs (λ j n at. tight (suc j) n (λ same. omega (arith, same)) (λ same. omega (arith, same)) (ap (λ ys. slot ys (suc j)) is ∙ at)) in
     omega (arith, all, all_links, all_nodes, needed)
 
-pub nodes_most : (s : Slab Node) → IsTrie s → IsTight s → slab_len s ≤ 2 * map.len (map_of s) + 1
+pub nodes_most : (s : Slab PrefixNode) → IsTrie s → IsTight s → slab_len s ≤ 2 * map.len (map_of s) + 1
 nodes_most s t tight = omega (arith, numbers_len s t, sum_one s.slots, most_by s t tight s.slots refl)

@@ -7,7 +7,7 @@ use Rattle.pol_addr.specs.Cidr.{IsPrefix}
 use Rattle.pol_addr.specs.Prefix.{world}
 use Rattle.pol_addr.proofs.Containment.{covers_from_half}
 use Rattle.pol_addr.proofs.Halves.{half_moved, covers_moved}
-use Rattle.pol_lpm.specs.declared.node.Node.{Node}
+use Rattle.pol_lpm.specs.declared.node.PrefixNode.{PrefixNode}
 use Rattle.pol_lpm.specs.Trie.{child, with_child, IsTree, IsTrie, HasRoot, FitsBelow, HasOnly, number_of, Numbers, SameNumbers, StillThere, AllStillThere}
 use Rattle.pol_lpm.specs.Sizes.{weight, IsBalanced, IsTightBut, loosened}
 use Rattle.pol_lpm.proofs.Balance.{key_of-link_of, balanced_attached, balanced_spliced, balanced_numbered}
@@ -17,24 +17,24 @@ use Rattle.pol_lpm.proofs.Splice.{Spliced, spliced_tree, spliced_keeps, spliced_
 use Rattle.pol_lpm.proofs.Lookup.{number_in-absent}
 use Rattle.pol_lpm.proofs.Numbers.{number_of-node, same_number, numbers_at}
 
-with_child-this : (n : Node) (high : Bool) (key : Option ℕ) → child (with_child n high key) high ≡ key
+with_child-this : (n : PrefixNode) (high : Bool) (key : Option ℕ) → child (with_child n high key) high ≡ key
 with_child-this n true key = key_of-link_of key
 with_child-this n false key = key_of-link_of key
 
-with_child-other : (n : Node) (high : Bool) (key : Option ℕ) → child (with_child n high key) (not high) ≡ child n (not high)
+with_child-other : (n : PrefixNode) (high : Bool) (key : Option ℕ) → child (with_child n high key) (not high) ≡ child n (not high)
 with_child-other n true key = refl
 with_child-other n false key = refl
 
-with_child-prefix : (n : Node) (high : Bool) (key : Option ℕ) → (with_child n high key).prefix ≡ n.prefix
+with_child-prefix : (n : PrefixNode) (high : Bool) (key : Option ℕ) → (with_child n high key).prefix ≡ n.prefix
 with_child-prefix n true key = refl
 with_child-prefix n false key = refl
 
-with_child-number : (n : Node) (high : Bool) (key : Option ℕ) → (with_child n high key).number ≡ n.number
+with_child-number : (n : PrefixNode) (high : Bool) (key : Option ℕ) → (with_child n high key).number ≡ n.number
 with_child-number n true key = refl
 with_child-number n false key = refl
 
 -- a root that is still there
-IsTrie-rooted : (s : Slab Node) → IsTree (get s) → HasRoot (get s) → IsBalanced s → IsTrie s
+IsTrie-rooted : (s : Slab PrefixNode) → IsTree (get s) → HasRoot (get s) → IsBalanced s → IsTrie s
 IsTrie-rooted s t root balanced = record {
   fresh = λ none. absurd (none-some root.0 (sym none ∙ root.1));
   rooted = λ i n is. root;
@@ -42,21 +42,21 @@ IsTrie-rooted s t root balanced = record {
   balanced = balanced;
 }
 
-root_there : (at : ℕ → Option Node) → HasRoot at → IsSome (at 0)
+root_there : (at : ℕ → Option PrefixNode) → HasRoot at → IsSome (at 0)
 root_there at (root, is, _) = ap is_some is
 
-pub HasRoot-kept : (old new : ℕ → Option Node) → HasRoot old → ((n : Node) → old 0 ≡ Some n → (m : Node) × (new 0 ≡ Some m) × (m.prefix ≡ n.prefix)) → HasRoot new
+pub HasRoot-kept : (old new : ℕ → Option PrefixNode) → HasRoot old → ((n : PrefixNode) → old 0 ≡ Some n → (m : PrefixNode) × (new 0 ≡ Some m) × (m.prefix ≡ n.prefix)) → HasRoot new
 HasRoot-kept old new (root, is, prefix_is) keeps = let (m, is', same) = keeps root is in (m, is', same ∙ prefix_is)
 
-pub still_twice : (old mid new : Slab Node) → AllStillThere old mid → AllStillThere mid new → AllStillThere old new
+pub still_twice : (old mid new : Slab PrefixNode) → AllStillThere old mid → AllStillThere mid new → AllStillThere old new
 still_twice old mid new first second j n is =
     let (m, is', same) = first j n is in
     let (m', is'', same') = second j m is' in
     (m', is'', same' ∙ same)
 
-module _ (old mid new : Slab Node) (i key : ℕ) (high : Bool) (c : Node) (t : IsTrie old) (fits : FitsBelow old i high c) (vacant : get old key ≡ None)
+module _ (old mid new : Slab PrefixNode) (i key : ℕ) (high : Bool) (c : PrefixNode) (t : IsTrie old) (fits : FitsBelow old i high c) (vacant : get old key ≡ None)
     (inserted : Updates old mid key (Some c)) (linked : Updates mid new i (Some (with_child fits.parent high (Some key)))) where
-  not_key : (k : ℕ) (n : Node) → get old k ≡ Some n → k ≢ key
+  not_key : (k : ℕ) (n : PrefixNode) → get old k ≡ Some n → k ≢ key
   not_key k n is same = none-some n (sym vacant ∙ ap (get old) (sym same) ∙ is)
 
   pub attached : Attached (get old) (get new) i key fits.parent (with_child fits.parent high (Some key)) c high
@@ -79,7 +79,7 @@ module _ (old mid new : Slab Node) (i key : ℕ) (high : Bool) (c : Node) (t : I
   tree' : IsTree (get new)
   tree' = attached_tree (get old) (get new) i key fits.parent (with_child fits.parent high (Some key)) c high t.tree attached
 
-  keeps : (k : ℕ) (m : Node) → get old k ≡ Some m → (m' : Node) × (get new k ≡ Some m') × (m'.prefix ≡ m.prefix) × (m'.number ≡ m.number)
+  keeps : (k : ℕ) (m : PrefixNode) → get old k ≡ Some m → (m' : PrefixNode) × (get new k ≡ Some m') × (m'.prefix ≡ m.prefix) × (m'.number ≡ m.number)
   keeps = attached_keeps (get old) (get new) i key fits.parent (with_child fits.parent high (Some key)) c high t.tree attached
 
   pub attached_kept : AllStillThere old new
@@ -95,7 +95,7 @@ module _ (old mid new : Slab Node) (i key : ℕ) (high : Bool) (c : Node) (t : I
   pub attached_tight : (k : ℕ) → IsTightBut (get old) k → (key ≢ k → 2 ≤ weight c) → IsTightBut (get new) k
   attached_tight = tight_attached (get old) (get new) i key fits.parent (with_child fits.parent high (Some key)) c high attached
 
-  pub attached_parent : (n : Node) → get old i ≡ Some n → get new i ≡ Some (with_child n high (Some key))
+  pub attached_parent : (n : PrefixNode) → get old i ≡ Some n → get new i ≡ Some (with_child n high (Some key))
   attached_parent n is = linked.changed ∙ ap (λ x. Some (with_child x high (Some key))) (same_Some fits.parent n (sym fits.there ∙ is))
 
   pub attached_absent : number_of old c.prefix ≡ None
@@ -112,18 +112,18 @@ module _ (old mid new : Slab Node) (i key : ℕ) (high : Bool) (c : Node) (t : I
       ]))
 
 -- the link to the parent is found before and after the insertion
-pub parent_after : (old mid : Slab Node) (i key : ℕ) (n : Node) (slot : Option Node) → get old i ≡ Some n → get old key ≡ None → Updates old mid key slot → get mid i ≡ Some n
+pub parent_after : (old mid : Slab PrefixNode) (i key : ℕ) (n : PrefixNode) (slot : Option PrefixNode) → get old i ≡ Some n → get old key ≡ None → Updates old mid key slot → get mid i ≡ Some n
 parent_after old mid i key n slot is vacant inserted = inserted.others i (λ same. none-some n (sym vacant ∙ ap (get old) (sym same) ∙ is)) ∙ is
 
 -- what a link leads to is another node, whose prefix is longer
-pub link_longer : (at : ℕ → Option Node) (t : IsTree at) (i k : ℕ) (n m : Node) (high : Bool) → at i ≡ Some n → at k ≡ Some m → child n high ≡ Some k → n.prefix.len < m.prefix.len
+pub link_longer : (at : ℕ → Option PrefixNode) (t : IsTree at) (i k : ℕ) (n m : PrefixNode) (high : Bool) → at i ≡ Some n → at k ≡ Some m → child n high ≡ Some k → n.prefix.len < m.prefix.len
 link_longer at t i k n m high is is_m link =
     let (c, is_c, over) = t.linked i n high k is link in
     let same : c ≡ m = same_Some c m (sym is_c ∙ is_m) in
     let (_, longer) = covers_from_half n.prefix c.prefix high (t.valid i n is) (t.valid k c is_c) over in
     omega (arith, longer, ap (λ x. x.prefix.len) same)
 
-module _ (old mid new : Slab Node) (i k : ℕ) (high : Bool) (only : Option ℕ) (t : IsTrie old) (h : HasOnly old i high k only)
+module _ (old mid new : Slab PrefixNode) (i k : ℕ) (high : Bool) (only : Option ℕ) (t : IsTrie old) (h : HasOnly old i high k only)
     (linked : Updates old mid i (Some (with_child h.parent high only))) where
   apart_keys : i ≢ k
   apart_keys same =
@@ -153,13 +153,13 @@ module _ (old mid new : Slab Node) (i k : ℕ) (high : Bool) (only : Option ℕ)
     spliced' : IsTree (get new)
     spliced' = spliced_tree (get old) (get new) i k h.parent (with_child h.parent high only) h.node high t.tree spliced
 
-    spliced_kept : (l : ℕ) (n : Node) → l ≢ k → get old l ≡ Some n → (m : Node) × (get new l ≡ Some m) × (m.prefix ≡ n.prefix) × (m.number ≡ n.number)
+    spliced_kept : (l : ℕ) (n : PrefixNode) → l ≢ k → get old l ≡ Some n → (m : PrefixNode) × (get new l ≡ Some m) × (m.prefix ≡ n.prefix) × (m.number ≡ n.number)
     spliced_kept = spliced_keeps (get old) (get new) i k h.parent (with_child h.parent high only) h.node high t.tree spliced
 
     pub splice_others : StillThere old new k
     splice_others l n differs is = let (m, is', same, _) = spliced_kept l n differs is in (m, is', same)
 
-    not_root : (n : Node) → get old 0 ≡ Some n → n.prefix ≡ world → 0 ≢ k
+    not_root : (n : PrefixNode) → get old 0 ≡ Some n → n.prefix ≡ world → 0 ≢ k
     not_root n is prefix_is same =
         let nodes : n ≡ h.node = same_Some n h.node (sym is ∙ ap (get old) same ∙ h.is) in
         omega (arith, link_longer (get old) t.tree i k h.parent h.node high h.there h.is h.link, ap (λ x. x.prefix.len) nodes, ap (λ p. p.len) prefix_is)
@@ -177,7 +177,7 @@ module _ (old mid new : Slab Node) (i k : ℕ) (high : Bool) (only : Option ℕ)
     pub spliced_tight : IsTightBut (get old) k → IsTightBut (get new) (loosened only i)
     spliced_tight tight = tight_spliced (get old) (get new) i k h.parent (with_child h.parent high only) h.node high spliced tight only (with_child-this h.parent high only)
 
-    pub spliced_left : IsTightBut (get old) k → (n : Node) → i ≢ 0 → get new i ≡ Some n → 1 ≤ weight n
+    pub spliced_left : IsTightBut (get old) k → (n : PrefixNode) → i ≢ 0 → get new i ≡ Some n → 1 ≤ weight n
     spliced_left tight n root is =
         let s = spliced in
         subst (λ x. 1 ≤ weight x) (same_Some (with_child h.parent high only) n (sym s.relinked ∙ is)) (left_above (get old) (get new) i k h.parent (with_child h.parent high only) h.node high spliced tight root)
@@ -193,16 +193,16 @@ module _ (old mid new : Slab Node) (i k : ℕ) (high : Bool) (only : Option ℕ)
         record { key = g.key; node = n; there = is; prefix = sym prefix ∙ g.prefix; number = sym number ∙ g.number })
 
 -- ---- a number that is set
-module _ (old new : Slab Node) (i : ℕ) (n : Node) (number : Option ℕ) (t : IsTrie old) (is : get old i ≡ Some n) (u : Updates old new i (Some (record n { number = number }))) where
+module _ (old new : Slab PrefixNode) (i : ℕ) (n : PrefixNode) (number : Option ℕ) (t : IsTrie old) (is : get old i ≡ Some n) (u : Updates old new i (Some (record n { number = number }))) where
   -- the old node has the same prefix and the same links
-  record Old (k : ℕ) (m : Node) : Type 0 where
-    node : Node
+  record Old (k : ℕ) (m : PrefixNode) : Type 0 where
+    node : PrefixNode
     there : get old k ≡ Some node
     prefix : m.prefix ≡ node.prefix
     links : (d : Bool) → child m d ≡ child node d
     other : k ≢ i → m ≡ node
 
-  old_of : (k : ℕ) (m : Node) → get new k ≡ Some m → Old k m
+  old_of : (k : ℕ) (m : PrefixNode) → get new k ≡ Some m → Old k m
   old_of k m is' =
       elim (cases_eq k i) [
         | inl same ↦
@@ -211,7 +211,7 @@ module _ (old new : Slab Node) (i : ℕ) (n : Node) (number : Option ℕ) (t : I
         | inr differs ↦ record { node = m; there = sym (u.others k differs) ∙ is'; prefix = refl; links = λ d. refl; other = λ _. refl }
       ]
 
-  new_of : (k : ℕ) (m : Node) → get old k ≡ Some m → (m' : Node) × (get new k ≡ Some m') × (m'.prefix ≡ m.prefix)
+  new_of : (k : ℕ) (m : PrefixNode) → get old k ≡ Some m → (m' : PrefixNode) × (get new k ≡ Some m') × (m'.prefix ≡ m.prefix)
   new_of k m is' =
       elim (cases_eq k i) [
         | inl same ↦ (record n { number = number }, ap (get new) same ∙ u.changed, ap (λ x. x.prefix) (same_Some n m (sym is ∙ ap (get old) (sym same) ∙ is')))

@@ -3,17 +3,17 @@ use Rattle.std.proofs.Common.{◌≡◌, ◌≢◌, ℕ, zero, suc, cond, List, 
 use Rattle.std.proofs.lemmas.Option.{none-some, same_Some}
 use Rattle.std.specs.FinMap.{find}
 use Rattle.pol_addr.specs.declared.network.Prefix.{Prefix}
-use Rattle.pol_lpm.specs.declared.node.Node.{Node}
+use Rattle.pol_lpm.specs.declared.node.PrefixNode.{PrefixNode}
 use Rattle.pol_addr.specs.Order.{prefix_cmp}
 use Rattle.pol_lpm.specs.Trie.{entry_before, numbered}
 use Rattle.pol_addr.proofs.Order.{tied_same, not_tied, cases_same}
 
 -- what stands in a slot
-abbrev pub slot : List (Option Node) → ℕ → Option Node
+abbrev pub slot : List (Option PrefixNode) → ℕ → Option PrefixNode
 slot slots j = get_or slots j None
 
 -- the number of a prefix
-abbrev pub number_in : List (Option Node) → Prefix → Option ℕ
+abbrev pub number_in : List (Option PrefixNode) → Prefix → Option ℕ
 number_in slots q = find prefix_cmp q (numbered slots)
 
 past_entry : (q p : Prefix) (o : Option ℕ) (rest : List (Prefix × ℕ)) → q ≢ p → find prefix_cmp q (entry_before p o rest) ≡ find prefix_cmp q rest
@@ -25,21 +25,21 @@ at_entry p None rest none = none
 at_entry p (Some x) rest none = ap (λ b. cond b (Some x) (find prefix_cmp p rest)) (tied_same p p refl)
 
 -- a prefix that no node has is not found
-pub number_in-absent : (slots : List (Option Node)) (q : Prefix) → ((j : ℕ) (n : Node) → slot slots j ≡ Some n → n.prefix ≢ q) → number_in slots q ≡ None
+pub number_in-absent : (slots : List (Option PrefixNode)) (q : Prefix) → ((j : ℕ) (n : PrefixNode) → slot slots j ≡ Some n → n.prefix ≢ q) → number_in slots q ≡ None
 number_in-absent [] q none = refl
 number_in-absent (None ∷ rest) q none = number_in-absent rest q (λ j n is. none (suc j) n is)
 number_in-absent (Some o ∷ rest) q none =
     past_entry q o.prefix o.number (numbered rest) (λ same. none 0 o refl (sym same)) ∙ number_in-absent rest q (λ j n is. none (suc j) n is)
 
 -- no two nodes have one prefix
-abbrev pub Apart : List (Option Node) → Type 0
-Apart slots = (i j : ℕ) (n m : Node) → slot slots i ≡ Some n → slot slots j ≡ Some m → n.prefix ≡ m.prefix → i ≡ j
+abbrev pub Apart : List (Option PrefixNode) → Type 0
+Apart slots = (i j : ℕ) (n m : PrefixNode) → slot slots i ≡ Some n → slot slots j ≡ Some m → n.prefix ≡ m.prefix → i ≡ j
 
-pub apart_tail : (o : Option Node) (rest : List (Option Node)) → Apart (o ∷ rest) → Apart rest
+pub apart_tail : (o : Option PrefixNode) (rest : List (Option PrefixNode)) → Apart (o ∷ rest) → Apart rest
 apart_tail o rest apart i j n m is is' same = omega (arith, apart (suc i) (suc j) n m is is' same)
 
 -- the number of a node is that of its prefix
-pub number_in-node : (slots : List (Option Node)) → Apart slots → (j : ℕ) (n : Node) → slot slots j ≡ Some n → number_in slots n.prefix ≡ n.number
+pub number_in-node : (slots : List (Option PrefixNode)) → Apart slots → (j : ℕ) (n : PrefixNode) → slot slots j ≡ Some n → number_in slots n.prefix ≡ n.number
 number_in-node [] apart j n is = absurd (none-some n is)
 number_in-node (None ∷ rest) apart zero n is = absurd (none-some n is)
 number_in-node (None ∷ rest) apart (suc j) n is = number_in-node rest (apart_tail None rest apart) j n is
@@ -52,7 +52,7 @@ number_in-node (Some o ∷ rest) apart (suc j) n is =
     ∙ number_in-node rest (apart_tail (Some o) rest apart) j n is
 
 -- a prefix has a node or none
-pub locate : (slots : List (Option Node)) (q : Prefix) → ((j : ℕ) × (n : Node) × (slot slots j ≡ Some n) × (n.prefix ≡ q)) ⊎ ((j : ℕ) (n : Node) → slot slots j ≡ Some n → n.prefix ≢ q)
+pub locate : (slots : List (Option PrefixNode)) (q : Prefix) → ((j : ℕ) × (n : PrefixNode) × (slot slots j ≡ Some n) × (n.prefix ≡ q)) ⊎ ((j : ℕ) (n : PrefixNode) → slot slots j ≡ Some n → n.prefix ≢ q)
 locate [] q = inr (λ j n is. absurd (none-some n is))
 locate (o ∷ rest) q =
     elim (locate rest q) [
@@ -60,11 +60,11 @@ locate (o ∷ rest) q =
       | inr none ↦ locate_first o rest q none
     ]
   where
-    beyond : (o : Option Node) (rest : List (Option Node)) (q : Prefix) → ((j : ℕ) (n : Node) → slot rest j ≡ Some n → n.prefix ≢ q) → ((n : Node) → o ≡ Some n → n.prefix ≢ q) → (j : ℕ) (n : Node) → slot (o ∷ rest) j ≡ Some n → n.prefix ≢ q
+    beyond : (o : Option PrefixNode) (rest : List (Option PrefixNode)) (q : Prefix) → ((j : ℕ) (n : PrefixNode) → slot rest j ≡ Some n → n.prefix ≢ q) → ((n : PrefixNode) → o ≡ Some n → n.prefix ≢ q) → (j : ℕ) (n : PrefixNode) → slot (o ∷ rest) j ≡ Some n → n.prefix ≢ q
     beyond o rest q none here zero n is = here n is
     beyond o rest q none here (suc j) n is = none j n is
 
-    locate_first : (o : Option Node) (rest : List (Option Node)) (q : Prefix) → ((j : ℕ) (n : Node) → slot rest j ≡ Some n → n.prefix ≢ q) → ((j : ℕ) × (n : Node) × (slot (o ∷ rest) j ≡ Some n) × (n.prefix ≡ q)) ⊎ ((j : ℕ) (n : Node) → slot (o ∷ rest) j ≡ Some n → n.prefix ≢ q)
+    locate_first : (o : Option PrefixNode) (rest : List (Option PrefixNode)) (q : Prefix) → ((j : ℕ) (n : PrefixNode) → slot rest j ≡ Some n → n.prefix ≢ q) → ((j : ℕ) × (n : PrefixNode) × (slot (o ∷ rest) j ≡ Some n) × (n.prefix ≡ q)) ⊎ ((j : ℕ) (n : PrefixNode) → slot (o ∷ rest) j ≡ Some n → n.prefix ≢ q)
     locate_first None rest q none = inr (λ j n. beyond None rest q none (λ m is. absurd (none-some m is)) j n)
     locate_first (Some m) rest q none =
         elim (cases_same m.prefix q) [

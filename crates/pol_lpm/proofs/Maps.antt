@@ -8,7 +8,7 @@ use Rattle.pol_addr.specs.declared.address.Addr.{Addr}
 use Rattle.pol_addr.specs.declared.network.Prefix.{Prefix}
 use Rattle.pol_addr.specs.Prefix.{host_prefix, contains, covers}
 use Rattle.pol_addr.proofs.Containment.{contains-covers}
-use Rattle.pol_lpm.specs.declared.node.Node.{Node}
+use Rattle.pol_lpm.specs.declared.node.PrefixNode.{PrefixNode}
 use Rattle.pol_addr.specs.Order.{prefix_cmp}
 use Rattle.pol_lpm.specs.Sizes.{IsTight}
 use Rattle.pol_lpm.specs.Table.{IsLongestMatch, NoneMatches}
@@ -16,44 +16,44 @@ use Rattle.pol_lpm.specs.Trie.{IsTree, IsTrie, numbered, number_of, map_of, Numb
 use Rattle.pol_addr.proofs.Order.{prefix_cmp_total, prefix_cmp-IsAntisymmetric}
 use Rattle.pol_lpm.proofs.Numbers.{HasNumber, HasNumber-from, number_of-node}
 
-pub get-map_of : (s : Slab Node) (q : Prefix) → map.get (map_of s) q ≡ number_of s q
+pub get-map_of : (s : Slab PrefixNode) (q : Prefix) → map.get (map_of s) q ≡ number_of s q
 get-map_of s q = map.get-from_entries prefix_cmp_total (numbered s.slots) q
 
-pub map_of-insert : (old new : Slab Node) (p : Prefix) (x : ℕ) → Numbers old new p (Some x) → map_of new ≡ map.insert (map_of old) p x
+pub map_of-insert : (old new : Slab PrefixNode) (p : Prefix) (x : ℕ) → Numbers old new p (Some x) → map_of new ≡ map.insert (map_of old) p x
 map_of-insert old new p x numbers =
     map.same_map prefix_cmp_total prefix_cmp-IsAntisymmetric (map_of new) (map.insert (map_of old) p x) (λ q.
     get-map_of new q ∙ numbers q
     ∙ sym (map.get-insert prefix_cmp_total (map_of old) p x q ∙ ap (cond (eq_by_cmp prefix_cmp q p) (Some x)) (get-map_of old q)))
 
-pub map_of-remove : (old new : Slab Node) (p : Prefix) → Numbers old new p None → map_of new ≡ map.remove (map_of old) p
+pub map_of-remove : (old new : Slab PrefixNode) (p : Prefix) → Numbers old new p None → map_of new ≡ map.remove (map_of old) p
 map_of-remove old new p numbers =
     map.same_map prefix_cmp_total prefix_cmp-IsAntisymmetric (map_of new) (map.remove (map_of old) p) (λ q.
     get-map_of new q ∙ numbers q
     ∙ sym (map.get-remove prefix_cmp_total (map_of old) p q ∙ ap (cond (eq_by_cmp prefix_cmp q p) None) (get-map_of old q)))
 
 -- more room changes nothing
-pub IsTrie-room : (s new : Slab Node) → new ≡ record s { capacity = new.capacity } → IsTrie s → IsTrie new
+pub IsTrie-room : (s new : Slab PrefixNode) → new ≡ record s { capacity = new.capacity } → IsTrie s → IsTrie new
 IsTrie-room s new same t = subst IsTrie (sym same) (record { fresh = t.fresh; rooted = t.rooted; tree = t.tree; balanced = t.balanced })
 
-pub tight_room : (s new : Slab Node) → new ≡ record s { capacity = new.capacity } → IsTight s → IsTight new
+pub tight_room : (s new : Slab PrefixNode) → new ≡ record s { capacity = new.capacity } → IsTight s → IsTight new
 tight_room s new same tight i n root other is = tight i n root other (sym (ap (λ x. get x i) same) ∙ is)
 
-pub numbers_room : (s new : Slab Node) → new ≡ record s { capacity = new.capacity } → SameNumbers s new
+pub numbers_room : (s new : Slab PrefixNode) → new ≡ record s { capacity = new.capacity } → SameNumbers s new
 numbers_room s new same q = ap (λ x. number_of x q) same
 
 -- a number that comes after a change that left all numbers
-pub numbers_after : (old mid new : Slab Node) (p : Prefix) (x : Option ℕ) → SameNumbers old mid → Numbers mid new p x → Numbers old new p x
+pub numbers_after : (old mid new : Slab PrefixNode) (p : Prefix) (x : Option ℕ) → SameNumbers old mid → Numbers mid new p x → Numbers old new p x
 numbers_after old mid new p x first second q = second q ∙ ap (cond (eq_by_cmp prefix_cmp q p) x) (first q)
 
 -- ---- the longest match
-node_found : (s : Slab Node) (t : IsTree (get s)) (p : Prefix) → IsSome (map.get (map_of s) p) → (x : ℕ) × HasNumber s p x
+node_found : (s : Slab PrefixNode) (t : IsTree (get s)) (p : Prefix) → IsSome (map.get (map_of s) p) → (x : ℕ) × HasNumber s p x
 node_found s t p some = go (number_of s p) refl (ap is_some (sym (get-map_of s p)) ∙ some)
   where
     go : (o : Option ℕ) → number_of s p ≡ o → IsSome o → (x : ℕ) × HasNumber s p x
     go None is some = absurd (cc)
     go (Some x) is some = (x, HasNumber-from s t p x is)
 
-module _ (s : Slab Node) (t : IsTree (get s)) (addr : Addr) where
+module _ (s : Slab PrefixNode) (t : IsTree (get s)) (addr : Addr) where
   -- a node whose prefix contains the address covers it as a prefix
   over_address : (p : Prefix) (x : ℕ) (h : HasNumber s p x) → IsTrue (contains p addr) → covers h.node.prefix (host_prefix addr) ≡ true
   over_address p x h inside =

@@ -8,7 +8,7 @@ use Rattle.pol_addr.specs.Cidr.{IsPrefix}
 use Rattle.pol_addr.specs.Prefix.{world, bit_of, half, covers}
 use Rattle.pol_addr.proofs.World.{world-IsPrefix, strictly}
 use Rattle.pol_addr.proofs.Containment.{covers_refl, covers_half, covers_from_covered, same_from_covered}
-use Rattle.pol_lpm.specs.declared.node.Node.{Node}
+use Rattle.pol_lpm.specs.declared.node.PrefixNode.{PrefixNode}
 use Rattle.std.specs.Ordering.{eq_by_cmp}
 use Rattle.pol_addr.specs.Order.{prefix_cmp}
 use Rattle.pol_lpm.specs.Trie.{child, with_child, IsTree, IsTrie, IsDeepest, IsSpot, FitsBelow, Numbers, SameNumbers, number_of}
@@ -21,11 +21,11 @@ use Rattle.pol_lpm.proofs.Balance.{leaf_of, key_of-next, count_none}
 use Rattle.pol_lpm.proofs.Sums.{sum_none, sum_updated}
 use Rattle.pol_lpm.proofs.Edits.{link_longer}
 
-pub none_from_test : (o : Option Node) → (IsSome o → ⊥) → o ≡ None
+pub none_from_test : (o : Option PrefixNode) → (IsSome o → ⊥) → o ≡ None
 none_from_test None not = refl
 none_from_test (Some n) not = absurd (not refl)
 
-pub spot_at : (s : Slab Node) (p : Prefix) (i : ℕ) (n : Node) (b : Bool) (len : ℕ) → IsPrefix p → IsDeepest s p p.len i → get s i ≡ Some n → len ≡ n.prefix.len → b ≡ bit_of p len → IsSpot s p i b
+pub spot_at : (s : Slab PrefixNode) (p : Prefix) (i : ℕ) (n : PrefixNode) (b : Bool) (len : ℕ) → IsPrefix p → IsDeepest s p p.len i → get s i ≡ Some n → len ≡ n.prefix.len → b ≡ bit_of p len → IsSpot s p i b
 spot_at s p i n b len valid d is len_is bit =
     let h = d.stands in
     let same : h.node ≡ n = same_Some h.node n (sym h.there ∙ is) in
@@ -40,9 +40,9 @@ spot_at s p i n b len valid d is len_is bit =
     }
 
 -- ---- the first node
-module _ (old new : Slab Node) (key : ℕ) (root : Node) (none : (i : ℕ) (n : Node) → get old i ≡ Some n → ⊥) (u : Updates old new key (Some root))
+module _ (old new : Slab PrefixNode) (key : ℕ) (root : PrefixNode) (none : (i : ℕ) (n : PrefixNode) → get old i ≡ Some n → ⊥) (u : Updates old new key (Some root))
     (prefix_is : root.prefix ≡ world) (no_number : root.number ≡ None) (no_low : root.low ≡ 0) (no_high : root.high ≡ 0) where
-  only_root : (i : ℕ) (n : Node) → get new i ≡ Some n → (i ≡ key) × (n ≡ root)
+  only_root : (i : ℕ) (n : PrefixNode) → get new i ≡ Some n → (i ≡ key) × (n ≡ root)
   only_root i n is =
       elim (cases_eq i key) [
         | inl same ↦ (same, same_Some n root (sym is ∙ ap (get new) same ∙ u.changed))
@@ -68,11 +68,11 @@ module _ (old new : Slab Node) (key : ℕ) (root : Node) (none : (i : ℕ) (n : 
   none_before : (i : ℕ) → get old i ≡ None
   none_before i = go (get old i) refl
     where
-      go : (o : Option Node) → get old i ≡ o → o ≡ None
+      go : (o : Option PrefixNode) → get old i ≡ o → o ≡ None
       go None is = refl
       go (Some n) is = absurd (none i n is)
 
-  first_sum : (f : Node → ℕ) → sum_of f new.slots + 0 ≡ 0 + f root
+  first_sum : (f : PrefixNode → ℕ) → sum_of f new.slots + 0 ≡ 0 + f root
   first_sum f = sum_updated f old new key None (Some root) (none_before key) u ∙ ap (λ x. x + f root) (sum_none f old.slots none_before)
 
   pub root_trie : key ≡ 0 → IsTrie new
@@ -102,7 +102,7 @@ leaf_child : (p : Prefix) (number : Option ℕ) (d : Bool) → child (leaf_of p 
 leaf_child p number true = refl
 leaf_child p number false = refl
 
-pub fits_leaf : (s : Slab Node) (i : ℕ) (high : Bool) (n : Node) (p : Prefix) (number : Option ℕ) → get s i ≡ Some n → IsPrefix p → covers (half n.prefix high) p ≡ true → ((k : ℕ) → child n high ≡ Some k → ⊥) → FitsBelow s i high (leaf_of p number)
+pub fits_leaf : (s : Slab PrefixNode) (i : ℕ) (high : Bool) (n : PrefixNode) (p : Prefix) (number : Option ℕ) → get s i ≡ Some n → IsPrefix p → covers (half n.prefix high) p ≡ true → ((k : ℕ) → child n high ≡ Some k → ⊥) → FitsBelow s i high (leaf_of p number)
 fits_leaf s i high n p number is valid under free = record {
   parent = n;
   there = is;
@@ -132,7 +132,7 @@ pub over_number : (p : Prefix) (number : Option ℕ) (b : Bool) (k : Option ℕ)
 over_number p number true k = refl
 over_number p number false k = refl
 
-pub fits_over : (s : Slab Node) (i : ℕ) (high : Bool) (n : Node) (p : Prefix) (number : Option ℕ) (b : Bool) (k : ℕ) (m : Node) → get s i ≡ Some n → IsPrefix p → covers (half n.prefix high) p ≡ true → child n high ≡ Some k → get s k ≡ Some m → covers (half p b) m.prefix ≡ true → FitsBelow s i high (with_child (leaf_of p number) b (Some k))
+pub fits_over : (s : Slab PrefixNode) (i : ℕ) (high : Bool) (n : PrefixNode) (p : Prefix) (number : Option ℕ) (b : Bool) (k : ℕ) (m : PrefixNode) → get s i ≡ Some n → IsPrefix p → covers (half n.prefix high) p ≡ true → child n high ≡ Some k → get s k ≡ Some m → covers (half p b) m.prefix ≡ true → FitsBelow s i high (with_child (leaf_of p number) b (Some k))
 fits_over s i high n p number b k m is valid under link is_m over =
     let same = over_prefix p number b (Some k) in
     record {
@@ -151,11 +151,11 @@ fits_over s i high n p number b k m is valid under link is_m over =
     }
 
 -- without a root there is no node
-pub no_nodes : (s : Slab Node) → IsTrie s → get s 0 ≡ None → (i : ℕ) (n : Node) → get s i ≡ Some n → ⊥
+pub no_nodes : (s : Slab PrefixNode) → IsTrie s → get s 0 ≡ None → (i : ℕ) (n : PrefixNode) → get s i ≡ Some n → ⊥
 no_nodes s t missing i n is = let (root, there, _) = t.rooted i n is in none-some root (sym missing ∙ there)
 
 -- ---- a prefix beside the node that stands in its spot
-module _ (s : Slab Node) (t : IsTree (get s)) (p : Prefix) (i : ℕ) (high : Bool) (spot : IsSpot s p i high) (k : ℕ) (m : Node) (link : child spot.parent high ≡ Some k) (is : get s k ≡ Some m) where
+module _ (s : Slab PrefixNode) (t : IsTree (get s)) (p : Prefix) (i : ℕ) (high : Bool) (spot : IsSpot s p i high) (k : ℕ) (m : PrefixNode) (link : child spot.parent high ≡ Some k) (is : get s k ≡ Some m) where
   valid_m : IsPrefix m.prefix
   valid_m = t.valid k m is
 
@@ -202,7 +202,7 @@ module _ (s : Slab Node) (t : IsTree (get s)) (p : Prefix) (i : ℕ) (high : Boo
         omega (arith, most)
 
     -- and the new prefix fits as a leaf below it
-    pub leaf_fits : (s' : Slab Node) (key : ℕ) (number number' : Option ℕ) → get s' key ≡ Some (with_child (leaf_of fork number) (bit_of m.prefix fork.len) (Some k)) → FitsBelow s' key (bit_of p fork.len) (leaf_of p number')
+    pub leaf_fits : (s' : Slab PrefixNode) (key : ℕ) (number number' : Option ℕ) → get s' key ≡ Some (with_child (leaf_of fork number) (bit_of m.prefix fork.len) (Some k)) → FitsBelow s' key (bit_of p fork.len) (leaf_of p number')
     leaf_fits s' key number number' there =
         let bit = bit_of m.prefix fork.len in
         let prefix_is = over_prefix fork number bit (Some k) in
@@ -211,7 +211,7 @@ module _ (s : Slab Node) (t : IsTree (get s)) (p : Prefix) (i : ℕ) (high : Boo
         (λ l link'. let (side, _) = only_child fork number bit (bit_of p fork.len) k l link' in fork_parts side)
 
 -- a prefix without a number came in before another one got its number
-pub numbers_twice : (old mid new : Slab Node) (fork p : Prefix) (x : Option ℕ) → number_of old fork ≡ None → Numbers old mid fork None → Numbers mid new p x → Numbers old new p x
+pub numbers_twice : (old mid new : Slab PrefixNode) (fork p : Prefix) (x : Option ℕ) → number_of old fork ≡ None → Numbers old mid fork None → Numbers mid new p x → Numbers old new p x
 numbers_twice old mid new fork p x absent first second q =
     let mid_is : number_of mid q ≡ number_of old q =
     elim (cases_same q fork) [

@@ -7,7 +7,7 @@ use Rattle.pol_addr.specs.declared.network.Prefix.{Prefix}
 use Rattle.pol_addr.specs.Prefix.{covers}
 use Rattle.pol_addr.proofs.Containment.{covers_trans, covers_from_covered}
 use Rattle.pol_addr.proofs.Halves.{covers_len}
-use Rattle.pol_lpm.specs.declared.node.Node.{Node}
+use Rattle.pol_lpm.specs.declared.node.PrefixNode.{PrefixNode}
 use Rattle.pol_lpm.specs.declared.walk.Reached.{Reached}
 use Rattle.pol_lpm.specs.Starts.{HasReached}
 use Rattle.pol_lpm.specs.Trie.{IsTree, HasRoot, IsDeepest, IsNumberUpTo, NoNumberUpTo, IsNumberOver, NoNumberOver, number_of, len_at}
@@ -16,19 +16,19 @@ use Rattle.pol_lpm.proofs.Best.{best_start, some_none}
 use Rattle.pol_lpm.proofs.Numbers.{HasNumber, HasNumber-from, number_of-node}
 
 -- ---- after a change that no prefix over the target's way took part in
-module _ (old new : Slab Node) (t : IsTree (get old)) (t' : IsTree (get new)) (target : Prefix)
+module _ (old new : Slab PrefixNode) (t : IsTree (get old)) (t' : IsTree (get new)) (target : Prefix)
     (same : (q : Prefix) → covers q target ≡ true → number_of new q ≡ number_of old q) where
-  before : (j : ℕ) (m : Node) → get new j ≡ Some m → covers m.prefix target ≡ true → (x : ℕ) → m.number ≡ Some x → HasNumber old m.prefix x
+  before : (j : ℕ) (m : PrefixNode) → get new j ≡ Some m → covers m.prefix target ≡ true → (x : ℕ) → m.number ≡ Some x → HasNumber old m.prefix x
   before j m is over x numbered = HasNumber-from old t m.prefix x (sym (same m.prefix over) ∙ number_of-node new t' j m is ∙ numbered)
 
-  none_at : (most : ℕ) → NoNumberUpTo old target most → (j : ℕ) (m : Node) → get new j ≡ Some m → covers m.prefix target ≡ true → m.prefix.len ≤ most → (o : Option ℕ) → m.number ≡ o → o ≡ None
+  none_at : (most : ℕ) → NoNumberUpTo old target most → (j : ℕ) (m : PrefixNode) → get new j ≡ Some m → covers m.prefix target ≡ true → m.prefix.len ≤ most → (o : Option ℕ) → m.number ≡ o → o ≡ None
   none_at most none j m is over short None e = refl
   none_at most none j m is over short (Some x) e =
       let g = before j m is over x e in
       let gone = none g.key g.node g.there (ap (λ p. covers p target) g.prefix ∙ over) (omega (arith, short, ap (λ p. p.len) g.prefix)) in
       absurd (none-some x (sym gone ∙ g.number))
 
-  longest_at : (most x : ℕ) (h : IsNumberUpTo old target most x) (j : ℕ) (m : Node) → get new j ≡ Some m → covers m.prefix target ≡ true → m.prefix.len ≤ most → IsSome m.number → (o : Option ℕ) → m.number ≡ o → m.prefix.len ≤ h.node.prefix.len
+  longest_at : (most x : ℕ) (h : IsNumberUpTo old target most x) (j : ℕ) (m : PrefixNode) → get new j ≡ Some m → covers m.prefix target ≡ true → m.prefix.len ≤ most → IsSome m.number → (o : Option ℕ) → m.number ≡ o → m.prefix.len ≤ h.node.prefix.len
   longest_at most x h j m is over short some None e = absurd (some_none m.number some e)
   longest_at most x h j m is over short some (Some y) e =
       let g = before j m is over y e in
@@ -49,8 +49,8 @@ module _ (old new : Slab Node) (t : IsTree (get old)) (t' : IsTree (get new)) (t
         longest = λ j m is over short some. omega (arith, longest_at most x h j m is over short some m.number refl, ap (λ p. p.len) g.prefix);
       }
 
-pub reached_kept : (old new : Slab Node) → IsTree (get old) → IsTree (get new) → (r : Reached)
-    → ((n : Node) → get old r.at ≡ Some n → covers n.prefix r.to ≡ true → (m : Node) × (get new r.at ≡ Some m) × (m.prefix ≡ n.prefix))
+pub reached_kept : (old new : Slab PrefixNode) → IsTree (get old) → IsTree (get new) → (r : Reached)
+    → ((n : PrefixNode) → get old r.at ≡ Some n → covers n.prefix r.to ≡ true → (m : PrefixNode) × (get new r.at ≡ Some m) × (m.prefix ≡ n.prefix))
     → ((q : Prefix) → covers q r.to ≡ true → number_of new q ≡ number_of old q) → HasReached old r → HasReached new r
 reached_kept old new t t' r still same h =
     let st = h.stands in
@@ -65,7 +65,7 @@ reached_kept old new t t' r still same h =
     }
 
 -- ---- towards a longer prefix
-best_further : (s : Slab Node) (near far : Prefix) → covers near far ≡ true → (most : ℕ) → most ≤ near.len → (best : Option ℕ) → MatchOption best (NoNumberUpTo s near most) (IsNumberUpTo s near most) → MatchOption best (NoNumberUpTo s far most) (IsNumberUpTo s far most)
+best_further : (s : Slab PrefixNode) (near far : Prefix) → covers near far ≡ true → (most : ℕ) → most ≤ near.len → (best : Option ℕ) → MatchOption best (NoNumberUpTo s near most) (IsNumberUpTo s near most) → MatchOption best (NoNumberUpTo s far most) (IsNumberUpTo s far most)
 best_further s near far further most within None none = λ j m is over short. none j m is (covers_from_covered m.prefix near far over further (omega (arith, short, within))) short
 best_further s near far further most within (Some x) h = record {
   key = h.key;
@@ -77,7 +77,7 @@ best_further s near far further most within (Some x) h = record {
   longest = λ j m is over short some. h.longest j m is (covers_from_covered m.prefix near far over further (omega (arith, short, within))) short some;
 }
 
-pub reached_further : (s : Slab Node) (r : Reached) (to : Prefix) → HasReached s r → covers r.to to ≡ true → HasReached s (record { to = to; at = r.at; number = r.number; visits = r.visits })
+pub reached_further : (s : Slab PrefixNode) (r : Reached) (to : Prefix) → HasReached s r → covers r.to to ≡ true → HasReached s (record { to = to; at = r.at; number = r.number; visits = r.visits })
 reached_further s r to h further =
     let st = h.stands in
     let n = st.node in
@@ -89,7 +89,7 @@ reached_further s r to h further =
     }
 
 -- ---- at the root, and at the end
-pub reached_root : (s : Slab Node) → IsTree (get s) → (to : Prefix) (root : Node) → HasRoot (get s) → IsPrefix to → get s 0 ≡ Some root → HasReached s (record { to = to; at = 0; number = root.number; visits = 1 })
+pub reached_root : (s : Slab PrefixNode) → IsTree (get s) → (to : Prefix) (root : PrefixNode) → HasRoot (get s) → IsPrefix to → get s 0 ≡ Some root → HasReached s (record { to = to; at = 0; number = root.number; visits = 1 })
 reached_root s t to root has valid is =
     let h = root_stands s to (to.len + 1) has valid (omega arith) in
     record {
@@ -99,7 +99,7 @@ reached_root s t to root has valid is =
     }
 
 -- the number that a walk knows at its end is that of the longest node
-best_is_over : (s : Slab Node) (target : Prefix) (most : ℕ) → ((j : ℕ) (m : Node) → get s j ≡ Some m → covers m.prefix target ≡ true → m.prefix.len ≤ target.len → m.prefix.len ≤ most) → most ≤ target.len → (best : Option ℕ) → MatchOption best (NoNumberUpTo s target most) (IsNumberUpTo s target most) → MatchOption best (NoNumberOver s target) (IsNumberOver s target)
+best_is_over : (s : Slab PrefixNode) (target : Prefix) (most : ℕ) → ((j : ℕ) (m : PrefixNode) → get s j ≡ Some m → covers m.prefix target ≡ true → m.prefix.len ≤ target.len → m.prefix.len ≤ most) → most ≤ target.len → (best : Option ℕ) → MatchOption best (NoNumberUpTo s target most) (IsNumberUpTo s target most) → MatchOption best (NoNumberOver s target) (IsNumberOver s target)
 best_is_over s target most all within None none = λ j m is over short. none j m is over (all j m is over short)
 best_is_over s target most all within (Some x) h = record {
   key = h.key;
@@ -111,7 +111,7 @@ best_is_over s target most all within (Some x) h = record {
   longest = λ j m is over short some. h.longest j m is over (all j m is over short) some;
 }
 
-pub reached_end : (s : Slab Node) (r : Reached) → HasReached s r → IsDeepest s r.to (r.to.len + 1) r.at → MatchOption r.number (NoNumberOver s r.to) (IsNumberOver s r.to)
+pub reached_end : (s : Slab PrefixNode) (r : Reached) → HasReached s r → IsDeepest s r.to (r.to.len + 1) r.at → MatchOption r.number (NoNumberOver s r.to) (IsNumberOver s r.to)
 reached_end s r h d =
     let st = d.stands in
     let len = len_at-node s r.at st.node st.there in

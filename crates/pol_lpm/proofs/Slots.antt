@@ -9,20 +9,20 @@ use Rattle.slab.specs.declared.Entry.TheVariants.{Vacant, Occupied}
 use Rattle.slab.proofs.SlabLemmas.{ContainsKey-within, Updates-set}
 use Rattle.slab.proofs.EntryLemmas.{occupied_at, next_is_vacant, next_within, IsSound-push, IsSound-fill, IsSound-vacate, IsSound-rewrite}
 use Rattle.pol_addr.specs.Cidr.{IsPrefix}
-use Rattle.pol_lpm.specs.declared.node.Node.{Node}
-use Rattle.pol_lpm.specs.declared.slot.Slot.{Slot}
+use Rattle.pol_lpm.specs.declared.node.PrefixNode.{PrefixNode}
+use Rattle.pol_lpm.specs.declared.slot.NodeSlot.{NodeSlot}
 use Rattle.pol_lpm.specs.Slots.{entry_of, node_in, IsValid, seen_as, AreSlots}
 
 -- a node's prefix is one, where there is a node
-abbrev pub Fits : Option Node → Type 0
+abbrev pub Fits : Option PrefixNode → Type 0
 Fits o = IfSome o (λ n. IsPrefix n.prefix)
 
 -- ---- a slot that is read
-pub within : (slots : List Slot) (key : ℕ) → ContainsKey (seen_as slots 0 0) key → key < length slots
+pub within : (slots : List NodeSlot) (key : ℕ) → ContainsKey (seen_as slots 0 0) key → key < length slots
 within slots key there =
     omega (arith, ContainsKey-within (seen_as slots 0 0) key there, length-map (map entry_of slots) value_of, length-map slots entry_of)
 
-module _ (slots : List Slot) (key : ℕ) (slot : Slot) (inside : key < length slots) (read : slot ≡ get_or slots key slot) where
+module _ (slots : List NodeSlot) (key : ℕ) (slot : NodeSlot) (inside : key < length slots) (read : slot ≡ get_or slots key slot) where
   entry_read : get_or (map entry_of slots) key (entry_of slot) ≡ entry_of slot
   entry_read = get_or-map entry_of slots key slot (entry_of slot) inside ∙ ap entry_of (sym read)
 
@@ -36,20 +36,20 @@ module _ (slots : List Slot) (key : ℕ) (slot : Slot) (inside : key < length sl
   pub valid_read : (len next : ℕ) → AreSlots slots len next → IsValid slot
   valid_read len next h = go (node_in slot) node_read
     where
-      go : (o : Option Node) → get (seen_as slots 0 0) key ≡ o → Fits o
+      go : (o : Option PrefixNode) → get (seen_as slots 0 0) key ≡ o → Fits o
       go None is = tt
       go (Some n) is = h.valid key n is
 
 -- ---- a slot that is written
-slots_set : (slots : List Slot) (key : ℕ) (slot : Slot) → map value_of (map entry_of (set slots key slot)) ≡ set (map value_of (map entry_of slots)) key (node_in slot)
+slots_set : (slots : List NodeSlot) (key : ℕ) (slot : NodeSlot) → map value_of (map entry_of (set slots key slot)) ≡ set (map value_of (map entry_of slots)) key (node_in slot)
 slots_set slots key slot = ap (map value_of) (map-set entry_of slots key slot) ∙ map-set value_of (map entry_of slots) key (entry_of slot)
 
-pub written : (slots : List Slot) (key : ℕ) (slot : Slot) (next room next' room' : ℕ) → key < length slots → Updates (seen_as slots next room) (seen_as (set slots key slot) next' room') key (node_in slot)
+pub written : (slots : List NodeSlot) (key : ℕ) (slot : NodeSlot) (next room next' room' : ℕ) → key < length slots → Updates (seen_as slots next room) (seen_as (set slots key slot) next' room') key (node_in slot)
 written slots key slot next room next' room' inside =
     Updates-set (seen_as slots next room) (seen_as (set slots key slot) next' room') key (node_in slot)
     (omega (arith, inside, length-map (map entry_of slots) value_of, length-map slots entry_of)) (slots_set slots key slot)
 
-valid_written : (slots : List Slot) (key : ℕ) (slot : Slot) → key < length slots → Fits (node_in slot) → ((i : ℕ) (n : Node) → get (seen_as slots 0 0) i ≡ Some n → IsPrefix n.prefix) → (i : ℕ) (n : Node) → get (seen_as (set slots key slot) 0 0) i ≡ Some n → IsPrefix n.prefix
+valid_written : (slots : List NodeSlot) (key : ℕ) (slot : NodeSlot) → key < length slots → Fits (node_in slot) → ((i : ℕ) (n : PrefixNode) → get (seen_as slots 0 0) i ≡ Some n → IsPrefix n.prefix) → (i : ℕ) (n : PrefixNode) → get (seen_as (set slots key slot) 0 0) i ≡ Some n → IsPrefix n.prefix
 valid_written slots key slot inside fits all i n is =
     let new = seen_as (set slots key slot) 0 0 in
     let updates = written slots key slot 0 0 0 0 inside in
@@ -58,10 +58,10 @@ valid_written slots key slot inside fits all i n is =
       | inr other ↦ all i n (sym (updates.others i other) ∙ is)
     ]
 
-entries_set : (slots : List Slot) (key : ℕ) (slot : Slot) (len next : ℕ) → IsSound (set (map entry_of slots) key (entry_of slot)) len next → IsSound (map entry_of (set slots key slot)) len next
+entries_set : (slots : List NodeSlot) (key : ℕ) (slot : NodeSlot) (len next : ℕ) → IsSound (set (map entry_of slots) key (entry_of slot)) len next → IsSound (map entry_of (set slots key slot)) len next
 entries_set slots key slot len next sound = subst (λ es. IsSound es len next) (sym (map-set entry_of slots key slot)) sound
 
-module _ (slots : List Slot) (len next : ℕ) (h : AreSlots slots len next) where
+module _ (slots : List NodeSlot) (len next : ℕ) (h : AreSlots slots len next) where
   pub free_within : next ≢ length slots → next < length slots
   free_within before =
       omega (arith, next_within (map entry_of slots) len next h.sound (λ e. before (e ∙ length-map slots entry_of)), length-map slots entry_of)
@@ -69,7 +69,7 @@ module _ (slots : List Slot) (len next : ℕ) (h : AreSlots slots len next) wher
   pub free_key : get (seen_as slots 0 0) next ≡ None
   free_key = next_is_vacant (map entry_of slots) len next h.sound
 
-  pub AreSlots-set : (key : ℕ) (slot : Slot) (n : Node) → ContainsKey (seen_as slots 0 0) key → entry_of slot ≡ Occupied n → IsPrefix n.prefix → AreSlots (set slots key slot) len next
+  pub AreSlots-set : (key : ℕ) (slot : NodeSlot) (n : PrefixNode) → ContainsKey (seen_as slots 0 0) key → entry_of slot ≡ Occupied n → IsPrefix n.prefix → AreSlots (set slots key slot) len next
   AreSlots-set key slot n there is fits =
       let found = occupied_at (map entry_of slots) key there in
       let sound = IsSound-rewrite (map entry_of slots) len next key found.0 n h.sound found.1 in
@@ -79,7 +79,7 @@ module _ (slots : List Slot) (len next : ℕ) (h : AreSlots slots len next) wher
         small = omega (arith, length-set slots key slot, h.small);
       }
 
-  pub AreSlots-freed : (key : ℕ) (slot : Slot) → ContainsKey (seen_as slots 0 0) key → entry_of slot ≡ Vacant next → AreSlots (set slots key slot) (len - 1) key
+  pub AreSlots-freed : (key : ℕ) (slot : NodeSlot) → ContainsKey (seen_as slots 0 0) key → entry_of slot ≡ Vacant next → AreSlots (set slots key slot) (len - 1) key
   AreSlots-freed key slot there is =
       let found = occupied_at (map entry_of slots) key there in
       let sound = IsSound-vacate (map entry_of slots) len next key found.0 h.sound found.1 in
@@ -89,7 +89,7 @@ module _ (slots : List Slot) (len next : ℕ) (h : AreSlots slots len next) wher
         small = omega (arith, length-set slots key slot, h.small);
       }
 
-  pub AreSlots-filled : (old slot : Slot) (after : ℕ) (n : Node) → next < length slots → old ≡ get_or slots next old → entry_of old ≡ Vacant after → entry_of slot ≡ Occupied n → IsPrefix n.prefix → AreSlots (set slots next slot) (len + 1) after
+  pub AreSlots-filled : (old slot : NodeSlot) (after : ℕ) (n : PrefixNode) → next < length slots → old ≡ get_or slots next old → entry_of old ≡ Vacant after → entry_of slot ≡ Occupied n → IsPrefix n.prefix → AreSlots (set slots next slot) (len + 1) after
   AreSlots-filled old slot after n inside read was is fits =
       let sound = IsSound-fill (map entry_of slots) len next after n h.sound (entry_found slots next old inside read ∙ ap Some was) in
       record {
@@ -99,13 +99,13 @@ module _ (slots : List Slot) (len next : ℕ) (h : AreSlots slots len next) wher
       }
 
 -- ---- a slot more
-node_more : (os : List (Option Node)) (o : Option Node) (i : ℕ) (n : Node) → get_or (os ++ o ∷ []) i None ≡ Some n → (get_or os i None ≡ Some n) ⊎ (o ≡ Some n)
+node_more : (os : List (Option PrefixNode)) (o : Option PrefixNode) (i : ℕ) (n : PrefixNode) → get_or (os ++ o ∷ []) i None ≡ Some n → (get_or os i None ≡ Some n) ⊎ (o ≡ Some n)
 node_more [] o zero n is = inr is
 node_more [] o (suc i) n is = absurd (cc)
 node_more (x ∷ os) o zero n is = inl is
 node_more (x ∷ os) o (suc i) n is = node_more os o i n is
 
-pub AreSlots-pushed : (slots new : List Slot) (len next : ℕ) (slot : Slot) (n : Node) → AreSlots slots len next → new ≡ slots ++ slot ∷ [] → next ≡ length slots → entry_of slot ≡ Occupied n → IsPrefix n.prefix → length slots + 1 < 2 ^ 32 → AreSlots new (len + 1) (next + 1)
+pub AreSlots-pushed : (slots new : List NodeSlot) (len next : ℕ) (slot : NodeSlot) (n : PrefixNode) → AreSlots slots len next → new ≡ slots ++ slot ∷ [] → next ≡ length slots → entry_of slot ≡ Occupied n → IsPrefix n.prefix → length slots + 1 < 2 ^ 32 → AreSlots new (len + 1) (next + 1)
 AreSlots-pushed slots new len next slot n h longer at_end is fits small =
     let es = map entry_of slots in
     let entries : map entry_of new ≡ es ++ Occupied n ∷ [] =

@@ -6,12 +6,12 @@ use Rattle.pol_addr.specs.declared.network.Prefix.{Prefix}
 use Rattle.pol_addr.specs.Cidr.{IsPrefix}
 use Rattle.pol_addr.specs.Prefix.{half, covers}
 use Rattle.pol_addr.proofs.Containment.{covers_refl, covers_trans, covers_from_half, covers_from_covered, same_from_covered}
-use Rattle.pol_lpm.specs.declared.node.Node.{Node}
+use Rattle.pol_lpm.specs.declared.node.PrefixNode.{PrefixNode}
 use Rattle.pol_lpm.specs.Trie.{child, IsTree}
 use Rattle.pol_addr.proofs.Halves.{cases_side, same_half, covers_len, half_over, half_moved, covers_moved, not_itself}
 
 -- node `m` went from the key j, and its only child, if it has one, came in its place below node `n`
-pub record Spliced (at at' : ℕ → Option Node) (i j : ℕ) (n n' m : Node) (high : Bool) : Type 0 where
+pub record Spliced (at at' : ℕ → Option PrefixNode) (i j : ℕ) (n n' m : PrefixNode) (high : Bool) : Type 0 where
   pub parent : at i ≡ Some n
   pub there : at j ≡ Some m
   pub link : child n high ≡ Some j
@@ -24,7 +24,7 @@ pub record Spliced (at at' : ℕ → Option Node) (i j : ℕ) (n n' m : Node) (h
   pub moved : (d : Bool) (k : ℕ) → child m d ≡ Some k → child n' high ≡ Some k
   pub from : (k : ℕ) → child n' high ≡ Some k → (d : Bool) × (child m d ≡ Some k)
 
-module _ (at at' : ℕ → Option Node) (i j : ℕ) (n n' m : Node) (high : Bool) (t : IsTree at) (h : Spliced at at' i j n n' m high) where
+module _ (at at' : ℕ → Option PrefixNode) (i j : ℕ) (n n' m : PrefixNode) (high : Bool) (t : IsTree at) (h : Spliced at at' i j n n' m high) where
   valid_n : IsPrefix n.prefix
   valid_n = t.valid i n h.parent
 
@@ -32,7 +32,7 @@ module _ (at at' : ℕ → Option Node) (i j : ℕ) (n n' m : Node) (high : Bool
   valid_m = t.valid j m h.there
 
   -- what stands under a key of the node
-  is_m : (k : ℕ) (l : Node) → k ≡ j → at k ≡ Some l → l ≡ m
+  is_m : (k : ℕ) (l : PrefixNode) → k ≡ j → at k ≡ Some l → l ≡ m
   is_m k l same is = same_Some l m (sym is ∙ ap at same ∙ h.there)
 
   under : covers (half n.prefix high) m.prefix ≡ true
@@ -52,7 +52,7 @@ module _ (at at' : ℕ → Option Node) (i j : ℕ) (n n' m : Node) (high : Bool
       omega (arith, shorter_n, ap (λ x. x.prefix.len) prefixes)
 
   -- no other node has the node below it
-  only_parent : (a : ℕ) (p : Node) (e : Bool) → at a ≡ Some p → child p e ≡ Some j → (a ≡ i) × (e ≡ high)
+  only_parent : (a : ℕ) (p : PrefixNode) (e : Bool) → at a ≡ Some p → child p e ≡ Some j → (a ≡ i) × (e ≡ high)
   only_parent a p e is link =
       let (c, is_c, over_c) = t.linked a p e j is link in
       let over : covers (half p.prefix e) m.prefix ≡ true = ap (λ x. covers (half p.prefix e) x.prefix) (sym (is_m j c refl is_c)) ∙ over_c in
@@ -79,11 +79,11 @@ module _ (at at' : ℕ → Option Node) (i j : ℕ) (n n' m : Node) (high : Bool
         ]
       ]
 
-  data Origin (k : ℕ) (q : Node) : Type 0 where
+  data Origin (k : ℕ) (q : PrefixNode) : Type 0 where
     is_parent : k ≡ i → q ≡ n' → Origin k q
     is_other : k ≢ i → k ≢ j → at k ≡ Some q → Origin k q
 
-  origin : (k : ℕ) (q : Node) → at' k ≡ Some q → Origin k q
+  origin : (k : ℕ) (q : PrefixNode) → at' k ≡ Some q → Origin k q
   origin k q is =
       elim (cases_eq k i) [
         | inl same ↦ is_parent same (same_Some q n' (sym is ∙ ap at' same ∙ h.relinked))
@@ -93,17 +93,17 @@ module _ (at at' : ℕ → Option Node) (i j : ℕ) (n n' m : Node) (high : Bool
         ]
       ]
 
-  pub spliced_from : (k : ℕ) (q : Node) → at' k ≡ Some q → (k ≢ j) × (q₀ : Node) × (at k ≡ Some q₀) × (q.prefix ≡ q₀.prefix) × (q.number ≡ q₀.number)
+  pub spliced_from : (k : ℕ) (q : PrefixNode) → at' k ≡ Some q → (k ≢ j) × (q₀ : PrefixNode) × (at k ≡ Some q₀) × (q.prefix ≡ q₀.prefix) × (q.number ≡ q₀.number)
   spliced_from k q is =
       elim (origin k q is) [
         | is_parent same is_n ↦ (λ key. apart_keys (sym same ∙ key), n, ap at same ∙ h.parent, ap (λ x. x.prefix) is_n ∙ h.same_prefix, ap (λ x. x.number) is_n ∙ h.same_number)
         | is_other _ differs was ↦ (differs, q, was, refl, refl)
       ]
 
-  before : (k : ℕ) (q : Node) → at' k ≡ Some q → (k ≢ j) × (q₀ : Node) × (at k ≡ Some q₀) × (q.prefix ≡ q₀.prefix)
+  before : (k : ℕ) (q : PrefixNode) → at' k ≡ Some q → (k ≢ j) × (q₀ : PrefixNode) × (at k ≡ Some q₀) × (q.prefix ≡ q₀.prefix)
   before k q is = let (differs, q₀, was, same, _) = spliced_from k q is in (differs, q₀, was, same)
 
-  pub spliced_keeps : (k : ℕ) (q : Node) → k ≢ j → at k ≡ Some q → (q' : Node) × (at' k ≡ Some q') × (q'.prefix ≡ q.prefix) × (q'.number ≡ q.number)
+  pub spliced_keeps : (k : ℕ) (q : PrefixNode) → k ≢ j → at k ≡ Some q → (q' : PrefixNode) × (at' k ≡ Some q') × (q'.prefix ≡ q.prefix) × (q'.number ≡ q.number)
   spliced_keeps k q differs is =
       elim (cases_eq k i) [
         | inl same ↦
@@ -112,22 +112,22 @@ module _ (at at' : ℕ → Option Node) (i j : ℕ) (n n' m : Node) (high : Bool
         | inr differs' ↦ (q, h.others k differs' differs ∙ is, refl, refl)
       ]
 
-  kept : (k : ℕ) (q : Node) → k ≢ j → at k ≡ Some q → (q' : Node) × (at' k ≡ Some q') × (q'.prefix ≡ q.prefix)
+  kept : (k : ℕ) (q : PrefixNode) → k ≢ j → at k ≡ Some q → (q' : PrefixNode) × (at' k ≡ Some q') × (q'.prefix ≡ q.prefix)
   kept k q differs is = let (q', is', same, _) = spliced_keeps k q differs is in (q', is', same)
 
-  Reaches : Node → Bool → Prefix → Type 0
-  Reaches p d q = (k : ℕ) × (l : Node) × (child p d ≡ Some k) × (at' k ≡ Some l) × (covers l.prefix q ≡ true)
+  Reaches : PrefixNode → Bool → Prefix → Type 0
+  Reaches p d q = (k : ℕ) × (l : PrefixNode) × (child p d ≡ Some k) × (at' k ≡ Some l) × (covers l.prefix q ≡ true)
 
-  still : (p : Node) (d : Bool) (k : ℕ) (l : Node) (q : Prefix) → child p d ≡ Some k → k ≢ j → at k ≡ Some l → covers l.prefix q ≡ true → Reaches p d q
+  still : (p : PrefixNode) (d : Bool) (k : ℕ) (l : PrefixNode) (q : Prefix) → child p d ≡ Some k → k ≢ j → at k ≡ Some l → covers l.prefix q ≡ true → Reaches p d q
   unfolding Reaches
   still p d k l q link differs is over =
       let (l', is', same) = kept k l differs is in
       (k, l', link, is', covers_moved l.prefix l'.prefix q q same refl over)
 
-  valid' : (k : ℕ) (q : Node) → at' k ≡ Some q → IsPrefix q.prefix
+  valid' : (k : ℕ) (q : PrefixNode) → at' k ≡ Some q → IsPrefix q.prefix
   valid' k q is = let (_, q₀, was, same) = before k q is in rw same (t.valid k q₀ was)
 
-  apart' : (a b : ℕ) (p q : Node) → at' a ≡ Some p → at' b ≡ Some q → p.prefix ≡ q.prefix → a ≡ b
+  apart' : (a b : ℕ) (p q : PrefixNode) → at' a ≡ Some p → at' b ≡ Some q → p.prefix ≡ q.prefix → a ≡ b
   apart' a b p q is is_q same =
       let (_, p₀, was_p, same_p) = before a p is in
       let (_, q₀, was_q, same_q) = before b q is_q in
@@ -139,10 +139,10 @@ module _ (at at' : ℕ → Option Node) (i j : ℕ) (n n' m : Node) (high : Bool
   child_of_m : (d : Bool) (k : ℕ) → child m d ≡ Some k → k ≢ j
   child_of_m d k link key = apart_keys (sym (only_parent j m d h.there (link ∙ ap Some key)).0)
 
-  Linked : Node → Bool → ℕ → Type 0
-  Linked p d k = (l : Node) × (at' k ≡ Some l) × (covers (half p.prefix d) l.prefix ≡ true)
+  Linked : PrefixNode → Bool → ℕ → Type 0
+  Linked p d k = (l : PrefixNode) × (at' k ≡ Some l) × (covers (half p.prefix d) l.prefix ≡ true)
 
-  linked_from_parent : (p : Node) (d : Bool) (k : ℕ) → p ≡ n' → child p d ≡ Some k → Linked p d k
+  linked_from_parent : (p : PrefixNode) (d : Bool) (k : ℕ) → p ≡ n' → child p d ≡ Some k → Linked p d k
   unfolding Linked
   linked_from_parent p d k is_n link =
       let prefix_is : p.prefix ≡ n.prefix = ap (λ x. x.prefix) is_n ∙ h.same_prefix in
@@ -160,7 +160,7 @@ module _ (at at' : ℕ → Option Node) (i j : ℕ) (n n' m : Node) (high : Bool
             (c', is', half_moved n.prefix p.prefix c.prefix c'.prefix (not high) d prefix_is other same over)
       ]
 
-  linked' : (a : ℕ) (p : Node) (d : Bool) (k : ℕ) → at' a ≡ Some p → child p d ≡ Some k → Linked p d k
+  linked' : (a : ℕ) (p : PrefixNode) (d : Bool) (k : ℕ) → at' a ≡ Some p → child p d ≡ Some k → Linked p d k
   unfolding Linked
   linked' a p d k is link =
       elim (origin a p is) [
@@ -172,7 +172,7 @@ module _ (at at' : ℕ → Option Node) (i j : ℕ) (n n' m : Node) (high : Bool
       ]
 
   -- what the node reached, its child reaches
-  reached_past : (b : ℕ) (q₀ : Node) → b ≢ j → at b ≡ Some q₀ → covers (half n.prefix high) q₀.prefix ≡ true → Reaches n' high q₀.prefix
+  reached_past : (b : ℕ) (q₀ : PrefixNode) → b ≢ j → at b ≡ Some q₀ → covers (half n.prefix high) q₀.prefix ≡ true → Reaches n' high q₀.prefix
   unfolding Reaches
   reached_past b q₀ differs is over =
       let (k, l, link, is_l, over_l) = t.reached i b n q₀ high h.parent is over in
@@ -187,7 +187,7 @@ module _ (at at' : ℕ → Option Node) (i j : ℕ) (n n' m : Node) (high : Bool
             still n' high k' l' q₀.prefix (h.moved e k' link') (child_of_m e k' link') is_l' over_l'
       ]
 
-  reached_from_parent : (b : ℕ) (p : Node) (q₀ : Node) (d : Bool) → p ≡ n' → b ≢ j → at b ≡ Some q₀ → covers (half p.prefix d) q₀.prefix ≡ true → Reaches p d q₀.prefix
+  reached_from_parent : (b : ℕ) (p : PrefixNode) (q₀ : PrefixNode) (d : Bool) → p ≡ n' → b ≢ j → at b ≡ Some q₀ → covers (half p.prefix d) q₀.prefix ≡ true → Reaches p d q₀.prefix
   unfolding Reaches
   reached_from_parent b p q₀ d is_n differs is over =
       let prefix_is : n.prefix ≡ p.prefix = sym (ap (λ x. x.prefix) is_n ∙ h.same_prefix) in
@@ -200,7 +200,7 @@ module _ (at at' : ℕ → Option Node) (i j : ℕ) (n n' m : Node) (high : Bool
             still p d k l q₀.prefix (ap (λ x. child x d) is_n ∙ ap (child n') other ∙ h.other_side ∙ link) (not_high k link) is_l over_l
       ]
 
-  reached_old : (a b : ℕ) (p q₀ : Node) (d : Bool) → at' a ≡ Some p → b ≢ j → at b ≡ Some q₀ → covers (half p.prefix d) q₀.prefix ≡ true → Reaches p d q₀.prefix
+  reached_old : (a b : ℕ) (p q₀ : PrefixNode) (d : Bool) → at' a ≡ Some p → b ≢ j → at b ≡ Some q₀ → covers (half p.prefix d) q₀.prefix ≡ true → Reaches p d q₀.prefix
   unfolding Reaches
   reached_old a b p q₀ d is differs was over =
       elim (origin a p is) [
@@ -210,7 +210,7 @@ module _ (at at' : ℕ → Option Node) (i j : ℕ) (n n' m : Node) (high : Bool
             still p d k l q₀.prefix link (λ key. differs' (only_parent a p d was_p (link ∙ ap Some key)).0) is_l over_l
       ]
 
-  reached' : (a b : ℕ) (p q : Node) (d : Bool) → at' a ≡ Some p → at' b ≡ Some q → covers (half p.prefix d) q.prefix ≡ true → Reaches p d q.prefix
+  reached' : (a b : ℕ) (p q : PrefixNode) (d : Bool) → at' a ≡ Some p → at' b ≡ Some q → covers (half p.prefix d) q.prefix ≡ true → Reaches p d q.prefix
   unfolding Reaches
   reached' a b p q d is is_q over =
       let (differs, q₀, was, same) = before b q is_q in

@@ -7,7 +7,7 @@ use Rattle.pol_addr.specs.declared.network.Prefix.{Prefix}
 use Rattle.pol_addr.specs.Prefix.{covers}
 use Rattle.pol_addr.proofs.Containment.{covers_trans}
 use Rattle.pol_addr.proofs.Halves.{covers_len}
-use Rattle.pol_lpm.specs.declared.node.Node.{Node}
+use Rattle.pol_lpm.specs.declared.node.PrefixNode.{PrefixNode}
 use Rattle.pol_lpm.specs.declared.walk.Reached.{Reached}
 use Rattle.pol_lpm.specs.declared.starts.TheConstants.{START_BITS}
 use Rattle.pol_lpm.specs.Starts.{HasReached, AreStarts, AreStartsOutside}
@@ -41,7 +41,7 @@ place_pushed (z ∷ xs) zero x y is = inr is
 place_pushed (z ∷ xs) (suc j) x y is = place_pushed xs j x y is
 
 -- ---- one start more
-pub starts_pushed : (s : Slab Node) (xs : List Reached) (x : Reached) → AreStarts s xs → HasReached s x → x.to.len ≤ START_BITS → AreStarts s (xs ++ x ∷ [])
+pub starts_pushed : (s : Slab PrefixNode) (xs : List Reached) (x : Reached) → AreStarts s xs → HasReached s x → x.to.len ≤ START_BITS → AreStarts s (xs ++ x ∷ [])
 starts_pushed s xs x are reached few j r is =
     elim (place_pushed xs j x r is) [
       | inl last ↦ (subst (HasReached s) (sym last) reached, omega (arith, ap (λ y. y.to.len) last, few))
@@ -49,14 +49,14 @@ starts_pushed s xs x are reached few j r is =
     ]
 
 -- ---- one start written, of those before and behind
-pub done_written : (s : Slab Node) (xs : List Reached) (i : ℕ) (x : Reached) → HasReached s x → ((j : ℕ) (r : Reached) → j < i → slice_get xs j ≡ Some r → HasReached s r) → (j : ℕ) (r : Reached) → j < i + 1 → slice_get (slice_set xs i x) j ≡ Some r → HasReached s r
+pub done_written : (s : Slab PrefixNode) (xs : List Reached) (i : ℕ) (x : Reached) → HasReached s x → ((j : ℕ) (r : Reached) → j < i → slice_get xs j ≡ Some r → HasReached s r) → (j : ℕ) (r : Reached) → j < i + 1 → slice_get (slice_set xs i x) j ≡ Some r → HasReached s r
 done_written s xs i x reached done j r before is =
     elim (place_written xs i j x r is) [
       | inl this ↦ subst (HasReached s) (sym this.1) reached
       | inr other ↦ done j r (omega (arith, before, other.0)) other.1
     ]
 
-pub outside_written : (s : Slab Node) (over : Prefix) (xs : List Reached) (i : ℕ) (old x : Reached) → AreStartsOutside s over xs → slice_get xs i ≡ Some old → x.to ≡ old.to → HasReached s x → AreStartsOutside s over (slice_set xs i x)
+pub outside_written : (s : Slab PrefixNode) (over : Prefix) (xs : List Reached) (i : ℕ) (old x : Reached) → AreStartsOutside s over xs → slice_get xs i ≡ Some old → x.to ≡ old.to → HasReached s x → AreStartsOutside s over (slice_set xs i x)
 outside_written s over xs i old x are was to reached j r is =
     elim (place_written xs i j x r is) [
       | inl this ↦ (λ _. subst (HasReached s) (sym this.1) reached, omega (arith, ap (λ y. y.to.len) this.1, ap (λ p. p.len) to, (are i old was).1))
@@ -64,12 +64,12 @@ outside_written s over xs i old x are was to reached j r is =
     ]
 
 -- ---- after a change of the trie
-pub starts_kept : (old new : Slab Node) → IsTree (get old) → IsTree (get new) → AllStillThere old new → SameNumbers old new → (xs : List Reached) → AreStarts old xs → AreStarts new xs
+pub starts_kept : (old new : Slab PrefixNode) → IsTree (get old) → IsTree (get new) → AllStillThere old new → SameNumbers old new → (xs : List Reached) → AreStarts old xs → AreStarts new xs
 starts_kept old new t t' still same xs are i r is =
     let (reached, few) = are i r is in
     (reached_kept old new t t' r (λ n there _. still r.at n there) (λ q _. same q) reached, few)
 
-pub starts_outside : (old new : Slab Node) → IsTree (get old) → IsTree (get new) → (over p : Prefix) (number : Option ℕ) → covers over p ≡ true → StillThereOutside old new over → Numbers old new p number → (xs : List Reached) → AreStarts old xs → AreStartsOutside new over xs
+pub starts_outside : (old new : Slab PrefixNode) → IsTree (get old) → IsTree (get new) → (over p : Prefix) (number : Option ℕ) → covers over p ≡ true → StillThereOutside old new over → Numbers old new p number → (xs : List Reached) → AreStarts old xs → AreStartsOutside new over xs
 starts_outside old new t t' over p number above still numbers xs are i r is =
     let (reached, few) = are i r is in (
       λ outside.
@@ -82,15 +82,15 @@ starts_outside old new t t' over p number above still numbers xs are i r is =
       few,
     )
 
-pub all_outside : (old new : Slab Node) (over : Prefix) → AllStillThere old new → StillThereOutside old new over
+pub all_outside : (old new : Slab PrefixNode) (over : Prefix) → AllStillThere old new → StillThereOutside old new over
 all_outside old new over still j n _ is = still j n is
 
 -- ---- all, where the prefix is too long to cover one, or each was made once more
-pub too_long : (s : Slab Node) (over : Prefix) (xs : List Reached) → START_BITS < over.len → AreStartsOutside s over xs → AreStarts s xs
+pub too_long : (s : Slab PrefixNode) (over : Prefix) (xs : List Reached) → START_BITS < over.len → AreStartsOutside s over xs → AreStarts s xs
 too_long s over xs long are i r is =
     let (outside, few) = are i r is in
     (outside (false_from_ne_true _ (λ covered. omega (arith, covers_len over r.to covered, few, long))), few)
 
 -- ---- more room for nodes changes nothing
-pub starts_room : (s new : Slab Node) → new ≡ record s { capacity = new.capacity } → IsTrie s → IsTrie new → (xs : List Reached) → AreStarts s xs → AreStarts new xs
+pub starts_room : (s new : Slab PrefixNode) → new ≡ record s { capacity = new.capacity } → IsTrie s → IsTrie new → (xs : List Reached) → AreStarts s xs → AreStarts new xs
 starts_room s new same t t' = starts_kept s new t.tree t'.tree (λ j n is. (n, ap (λ x. get x j) same ∙ is, refl)) (numbers_room s new same)

@@ -4,16 +4,16 @@ use Rattle.std.specs.Prelude.{count_by}
 use Rattle.std.proofs.lemmas.List.Sums.{sum_by-cons}
 use Rattle.std.proofs.lemmas.Option.{none-some}
 use Rattle.slab.specs.Slab.{Slab, get, Updates}
-use Rattle.pol_lpm.specs.declared.node.Node.{Node}
+use Rattle.pol_lpm.specs.declared.node.PrefixNode.{PrefixNode}
 use Rattle.pol_lpm.specs.Sizes.{sum_of, one, count, links, weight}
 use Rattle.pol_lpm.proofs.Lookup.{slot}
 
 -- what a slot adds to the sum
-abbrev pub weigh : (Node → ℕ) → Option Node → ℕ
+abbrev pub weigh : (PrefixNode → ℕ) → Option PrefixNode → ℕ
 weigh f None = 0
 weigh f (Some n) = f n
 
-sum_first : (f : Node → ℕ) (o : Option Node) (rest : List (Option Node)) → sum_of f (o ∷ rest) ≡ weigh f o + sum_of f rest
+sum_first : (f : PrefixNode → ℕ) (o : Option PrefixNode) (rest : List (Option PrefixNode)) → sum_of f (o ∷ rest) ≡ weigh f o + sum_of f rest
 sum_first f None rest = omega arith
 sum_first f (Some n) rest = refl
 
@@ -26,12 +26,12 @@ sooner k same = omega (arith, same)
 both_later : (j k : ℕ) → j ≢ k → suc j ≢ suc k
 both_later j k differs same = differs (omega (arith, same))
 
-pub sum_none : (f : Node → ℕ) (xs : List (Option Node)) → ((j : ℕ) → slot xs j ≡ None) → sum_of f xs ≡ 0
+pub sum_none : (f : PrefixNode → ℕ) (xs : List (Option PrefixNode)) → ((j : ℕ) → slot xs j ≡ None) → sum_of f xs ≡ 0
 sum_none f [] none = refl
 sum_none f (None ∷ xs) none = sum_none f xs (λ j. none (suc j))
 sum_none f (Some n ∷ xs) none = absurd (none-some n (sym (none 0)))
 
-sum_same : (f : Node → ℕ) (xs ys : List (Option Node)) → ((j : ℕ) → slot ys j ≡ slot xs j) → sum_of f ys ≡ sum_of f xs
+sum_same : (f : PrefixNode → ℕ) (xs ys : List (Option PrefixNode)) → ((j : ℕ) → slot ys j ≡ slot xs j) → sum_of f ys ≡ sum_of f xs
 sum_same f [] ys same = sum_none f ys same
 sum_same f (x ∷ xs) [] same = sym (sum_none f (x ∷ xs) (λ j. sym (same j)))
 sum_same f (x ∷ xs) (y ∷ ys) same =
@@ -39,7 +39,7 @@ sum_same f (x ∷ xs) (y ∷ ys) same =
     omega (arith, sum_first f x xs, sum_first f y ys, first, sum_same f xs ys (λ j. same (suc j)))
 
 -- one slot was written
-sum_written : (f : Node → ℕ) (xs ys : List (Option Node)) (k : ℕ) → ((j : ℕ) → j ≢ k → slot ys j ≡ slot xs j) → sum_of f ys + weigh f (slot xs k) ≡ sum_of f xs + weigh f (slot ys k)
+sum_written : (f : PrefixNode → ℕ) (xs ys : List (Option PrefixNode)) (k : ℕ) → ((j : ℕ) → j ≢ k → slot ys j ≡ slot xs j) → sum_of f ys + weigh f (slot xs k) ≡ sum_of f xs + weigh f (slot ys k)
 sum_written f [] [] k others = refl
 sum_written f [] (y ∷ ys) zero others = omega (arith, sum_first f y ys, sum_none f ys (λ j. others (suc j) (later j)))
 sum_written f [] (y ∷ ys) (suc k) others =
@@ -56,24 +56,24 @@ sum_written f (x ∷ xs) (y ∷ ys) (suc k) others =
     let first : weigh f y ≡ weigh f x = ap (weigh f) (others 0 (sooner k)) in
     omega (arith, sum_first f x xs, sum_first f y ys, first, sum_written f xs ys k (λ j differs. others (suc j) (both_later j k differs)))
 
-pub sum_updated : (f : Node → ℕ) (old new : Slab Node) (k : ℕ) (was is : Option Node) → get old k ≡ was → Updates old new k is → sum_of f new.slots + weigh f was ≡ sum_of f old.slots + weigh f is
+pub sum_updated : (f : PrefixNode → ℕ) (old new : Slab PrefixNode) (k : ℕ) (was is : Option PrefixNode) → get old k ≡ was → Updates old new k is → sum_of f new.slots + weigh f was ≡ sum_of f old.slots + weigh f is
 sum_updated f old new k was is before u =
     let first : weigh f (get old k) ≡ weigh f was = ap (weigh f) before in
     let second : weigh f (get new k) ≡ weigh f is = ap (weigh f) u.changed in
     omega (arith, sum_written f old.slots new.slots k u.others, first, second)
 
 -- how many values a slab has
-pub sum_one : (xs : List (Option Node)) → count_by is_some xs ≡ sum_of one xs
+pub sum_one : (xs : List (Option PrefixNode)) → count_by is_some xs ≡ sum_of one xs
 sum_one [] = refl
 sum_one (None ∷ xs) =
-    let first : count_by is_some (None ∷ xs) ≡ 0 + count_by is_some xs = sum_by-cons (λ (o : Option Node). cond (is_some o) 1 0) None xs in
+    let first : count_by is_some (None ∷ xs) ≡ 0 + count_by is_some xs = sum_by-cons (λ (o : Option PrefixNode). cond (is_some o) 1 0) None xs in
     omega (arith, first, sum_one xs)
 sum_one (Some n ∷ xs) =
-    let first : count_by is_some (Some n ∷ xs) ≡ 1 + count_by is_some xs = sum_by-cons (λ (o : Option Node). cond (is_some o) 1 0) (Some n) xs in
+    let first : count_by is_some (Some n ∷ xs) ≡ 1 + count_by is_some xs = sum_by-cons (λ (o : Option PrefixNode). cond (is_some o) 1 0) (Some n) xs in
     omega (arith, first, sum_one xs)
 
 -- where each node is needed there are as many numbers and links
-pub sum_needed : (xs : List (Option Node)) → ((j : ℕ) (n : Node) → slot xs j ≡ Some n → 2 ≤ weight n) → 2 * sum_of one xs ≤ sum_of links xs + 2 * sum_of (λ n. count n.number) xs
+pub sum_needed : (xs : List (Option PrefixNode)) → ((j : ℕ) (n : PrefixNode) → slot xs j ≡ Some n → 2 ≤ weight n) → 2 * sum_of one xs ≤ sum_of links xs + 2 * sum_of (λ n. count n.number) xs
 sum_needed [] all = omega arith
 sum_needed (None ∷ xs) all = sum_needed xs (λ j n is. all (suc j) n is)
 sum_needed (Some n ∷ xs) all = omega (arith, all 0 n refl, sum_needed xs (λ j m is. all (suc j) m is))

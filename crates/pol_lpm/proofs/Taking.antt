@@ -8,7 +8,7 @@ use Rattle.pol_addr.specs.declared.network.Prefix.{Prefix}
 use Rattle.pol_addr.specs.Cidr.{IsPrefix}
 use Rattle.pol_addr.specs.Prefix.{half, covers}
 use Rattle.pol_addr.proofs.Containment.{covers_from_half, covers_refl, same_from_covered}
-use Rattle.pol_lpm.specs.declared.node.Node.{Node}
+use Rattle.pol_lpm.specs.declared.node.PrefixNode.{PrefixNode}
 use Rattle.pol_lpm.specs.Trie.{child, IsTree, IsTrie, IsSpot, IsNodeOf, HasOnly, Numbers, StillThere, StillThereOutside, number_of}
 use Rattle.pol_addr.proofs.Halves.{covers_len}
 use Rattle.pol_lpm.proofs.Lookup.{number_in-absent}
@@ -19,19 +19,19 @@ use Rattle.pol_lpm.specs.Sizes.{count}
 use Rattle.pol_lpm.proofs.Balance.{links-only}
 use Rattle.pol_lpm.proofs.Edits.{link_longer}
 
-pub some_from_test : (o : Option Node) → IsSome o → (n : Node) × (o ≡ Some n)
+pub some_from_test : (o : Option PrefixNode) → IsSome o → (n : PrefixNode) × (o ≡ Some n)
 some_from_test None some = absurd (cc)
 some_from_test (Some n) some = (n, refl)
 
 -- the root has the prefix of length 0
-pub root_node : (s : Slab Node) (t : IsTrie s) (p : Prefix) → IsSome (get s 0) → IsPrefix p → p.len ≡ 0 → IsNodeOf s p 0
+pub root_node : (s : Slab PrefixNode) (t : IsTrie s) (p : Prefix) → IsSome (get s 0) → IsPrefix p → p.len ≡ 0 → IsNodeOf s p 0
 root_node s t p some valid zero =
     let (n, is) = some_from_test (get s 0) some in
     let (root, there, prefix_is) = t.rooted 0 n is in
     record { node = root; there = there; prefix = prefix_is ∙ sym (world_from_len p valid zero) }
 
 -- the node of a prefix stands in the prefix's spot
-pub in_spot : (s : Slab Node) (t : IsTree (get s)) (p : Prefix) (i : ℕ) (high : Bool) (spot : IsSpot s p i high) (j : ℕ) (n : Node) → get s j ≡ Some n → n.prefix ≡ p → child spot.parent high ≡ Some j
+pub in_spot : (s : Slab PrefixNode) (t : IsTree (get s)) (p : Prefix) (i : ℕ) (high : Bool) (spot : IsSpot s p i high) (j : ℕ) (n : PrefixNode) → get s j ≡ Some n → n.prefix ≡ p → child spot.parent high ≡ Some j
 in_spot s t p i high spot j n is same =
     let (k, c, link, is_c, over) = t.reached i j spot.parent n high spot.there is (ap (covers (half spot.parent.prefix high)) same ∙ spot.under) in
     let over_p : covers c.prefix p ≡ true = ap (covers c.prefix) (sym same) ∙ over in
@@ -43,26 +43,26 @@ in_spot s t p i high spot j n is same =
     ]
 
 -- a prefix is longer than the node above its spot
-pub spot_shorter : (s : Slab Node) (t : IsTree (get s)) (p : Prefix) (i : ℕ) (high : Bool) (spot : IsSpot s p i high) → spot.parent.prefix.len < p.len
+pub spot_shorter : (s : Slab PrefixNode) (t : IsTree (get s)) (p : Prefix) (i : ℕ) (high : Bool) (spot : IsSpot s p i high) → spot.parent.prefix.len < p.len
 spot_shorter s t p i high spot = (covers_from_half spot.parent.prefix p high (t.valid i spot.parent spot.there) spot.valid spot.under).1
 
-pub spot_over : (s : Slab Node) (t : IsTree (get s)) (p : Prefix) (i : ℕ) (high : Bool) (spot : IsSpot s p i high) (n : Node) → get s i ≡ Some n → covers n.prefix p ≡ true
+pub spot_over : (s : Slab PrefixNode) (t : IsTree (get s)) (p : Prefix) (i : ℕ) (high : Bool) (spot : IsSpot s p i high) (n : PrefixNode) → get s i ≡ Some n → covers n.prefix p ≡ true
 spot_over s t p i high spot n is =
     ap (λ x. covers x.prefix p) (same_Some n spot.parent (sym is ∙ spot.there)) ∙ (covers_from_half spot.parent.prefix p high (t.valid i spot.parent spot.there) spot.valid spot.under).0
 
-pub spot_apart : (s : Slab Node) (t : IsTree (get s)) (n : Node) (i j : ℕ) (high : Bool) (spot : IsSpot s n.prefix i high) → get s j ≡ Some n → i ≢ j
+pub spot_apart : (s : Slab PrefixNode) (t : IsTree (get s)) (n : PrefixNode) (i j : ℕ) (high : Bool) (spot : IsSpot s n.prefix i high) → get s j ≡ Some n → i ≢ j
 spot_apart s t n i j high spot is same =
     let nodes : spot.parent ≡ n = same_Some spot.parent n (sym spot.there ∙ ap (get s) same ∙ is) in
     omega (arith, spot_shorter s t n.prefix i high spot, ap (λ x. x.prefix.len) nodes)
 
 -- only the root has the prefix of length 0
-pub root_key : (s : Slab Node) → IsTrie s → (i : ℕ) (n : Node) → get s i ≡ Some n → n.prefix.len ≡ 0 → i ≡ 0
+pub root_key : (s : Slab PrefixNode) → IsTrie s → (i : ℕ) (n : PrefixNode) → get s i ≡ Some n → n.prefix.len ≡ 0 → i ≡ 0
 root_key s t i n is zero =
     let (root, there, prefix_is) = t.rooted i n is in
     let tree = t.tree in
     tree.apart i 0 n root is there (world_from_len n.prefix (tree.valid i n is) zero ∙ sym prefix_is)
 
-pub below_root : (s : Slab Node) → IsTrie s → (i : ℕ) (n : Node) → get s i ≡ Some n → i ≢ 0 → 0 < n.prefix.len
+pub below_root : (s : Slab PrefixNode) → IsTrie s → (i : ℕ) (n : PrefixNode) → get s i ≡ Some n → i ≢ 0 → 0 < n.prefix.len
 below_root s t i n is other =
     elim (cases_lt 0 n.prefix.len) [
       | inl longer ↦ longer
@@ -70,7 +70,7 @@ below_root s t i n is other =
     ]
 
 -- the spot of a node is that of its prefix
-pub spot_of_node : (s : Slab Node) (m : Node) (i j : ℕ) (high : Bool) → get s j ≡ Some m → IsSpot s m.prefix i high → (n : Node) → get s j ≡ Some n → IsSpot s n.prefix i high
+pub spot_of_node : (s : Slab PrefixNode) (m : PrefixNode) (i j : ℕ) (high : Bool) → get s j ≡ Some m → IsSpot s m.prefix i high → (n : PrefixNode) → get s j ≡ Some n → IsSpot s n.prefix i high
 spot_of_node s m i j high is spot n is' = subst (λ x. IsSpot s x.prefix i high) (same_Some m n (sym is ∙ is')) spot
 
 -- ---- what is below a node with at most one child
@@ -85,11 +85,11 @@ from_one : (low high : Option ℕ) (l : ℕ) → option_or low high ≡ Some l �
 from_one None high l link = (true, link)
 from_one (Some x) high l link = (false, link)
 
-side : (n : Node) (d : Bool) → (if d then key_of n.high else key_of n.low) ≡ child n d
+side : (n : PrefixNode) (d : Bool) → (if d then key_of n.high else key_of n.low) ≡ child n d
 side n true = refl
 side n false = refl
 
-pub has_only : (s : Slab Node) (t : IsTree (get s)) (i j : ℕ) (high : Bool) (n : Node) (only : Option ℕ) (spot : IsSpot s n.prefix i high) → get s j ≡ Some n → only ≡ option_or (key_of n.low) (key_of n.high) → (IsSome (key_of n.low) → IsSome (key_of n.high) → ⊥) → HasOnly s i high j only
+pub has_only : (s : Slab PrefixNode) (t : IsTree (get s)) (i j : ℕ) (high : Bool) (n : PrefixNode) (only : Option ℕ) (spot : IsSpot s n.prefix i high) → get s j ≡ Some n → only ≡ option_or (key_of n.low) (key_of n.high) → (IsSome (key_of n.low) → IsSome (key_of n.high) → ⊥) → HasOnly s i high j only
 has_only s t i j high n only spot is only_is one = record {
   parent = spot.parent;
   there = spot.there;
@@ -102,23 +102,23 @@ has_only s t i j high n only spot is only_is one = record {
 }
 
 -- ---- numbers
-pub numbers_unchanged : (s : Slab Node) (p : Prefix) → number_of s p ≡ None → Numbers s s p None
+pub numbers_unchanged : (s : Slab PrefixNode) (p : Prefix) → number_of s p ≡ None → Numbers s s p None
 numbers_unchanged s p none = numbers_at s s p None none (λ q _. refl)
 
-pub number_of-absent : (s : Slab Node) (p : Prefix) → ((j : ℕ) (n : Node) → get s j ≡ Some n → n.prefix ≢ p) → number_of s p ≡ None
+pub number_of-absent : (s : Slab PrefixNode) (p : Prefix) → ((j : ℕ) (n : PrefixNode) → get s j ≡ Some n → n.prefix ≢ p) → number_of s p ≡ None
 number_of-absent s p none = number_in-absent s.slots p none
 
-pub number_of-at : (s : Slab Node) (t : IsTree (get s)) (p : Prefix) (i : ℕ) (n : Node) → IsNodeOf s p i → get s i ≡ Some n → number_of s p ≡ n.number
+pub number_of-at : (s : Slab PrefixNode) (t : IsTree (get s)) (p : Prefix) (i : ℕ) (n : PrefixNode) → IsNodeOf s p i → get s i ≡ Some n → number_of s p ≡ n.number
 number_of-at s t p i n h is =
     let same : h.node ≡ n = same_Some h.node n (sym h.there ∙ is) in
     ap (number_of s) (sym h.prefix ∙ ap (λ x. x.prefix) same) ∙ number_of-node s t i n is
 
 -- ---- nodes that are still there
-pub pruned_kept : (old new : Slab Node) (j : ℕ) (m : Node) (over : Prefix) → get old j ≡ Some m → covers over m.prefix ≡ true → StillThere old new j → StillThereOutside old new over
+pub pruned_kept : (old new : Slab PrefixNode) (j : ℕ) (m : PrefixNode) (over : Prefix) → get old j ≡ Some m → covers over m.prefix ≡ true → StillThere old new j → StillThereOutside old new over
 pruned_kept old new j m over is covered still k n outside is_n =
     still k n (λ same. both_ways _ outside (ap (λ x. covers over x.prefix) (same_Some n m (sym is_n ∙ ap (get old) same ∙ is)) ∙ covered)) is_n
 
-pub kept_twice : (old mid new : Slab Node) (over : Prefix) → StillThereOutside old mid over → StillThereOutside mid new over → StillThereOutside old new over
+pub kept_twice : (old mid new : Slab PrefixNode) (over : Prefix) → StillThereOutside old mid over → StillThereOutside mid new over → StillThereOutside old new over
 kept_twice old mid new over first second k n outside is =
     let (m, is', same) = first k n outside is in
     let (m', is'', same') = second k m (ap (covers over) same ∙ outside) is' in

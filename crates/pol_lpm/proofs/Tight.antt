@@ -5,7 +5,7 @@ use Rattle.std.proofs.lemmas.Option.{none-some, same_Some}
 use Rattle.std.specs.Option.{option_or}
 use Rattle.slab.specs.Slab.{Slab, get, Updates}
 use Rattle.pol_addr.specs.declared.network.Prefix.{Prefix}
-use Rattle.pol_lpm.specs.declared.node.Node.{Node}
+use Rattle.pol_lpm.specs.declared.node.PrefixNode.{PrefixNode}
 use Rattle.pol_lpm.specs.Sizes.{count, weight, IsTightBut, loosened}
 use Rattle.pol_lpm.specs.Links.{key_of}
 use Rattle.pol_lpm.specs.Trie.{child, with_child}
@@ -13,20 +13,20 @@ use Rattle.pol_lpm.proofs.Attach.{Attached}
 use Rattle.pol_lpm.proofs.Splice.{Spliced}
 use Rattle.pol_lpm.proofs.Balance.{leaf_of, key_of-next, count_le, links-sides}
 
-pub needed_with_number : (n : Node) (x : ℕ) → n.number ≡ Some x → 2 ≤ weight n
+pub needed_with_number : (n : PrefixNode) (x : ℕ) → n.number ≡ Some x → 2 ≤ weight n
 needed_with_number n x numbered =
     let here : count n.number ≡ 1 = ap count numbered in
     omega (arith, here)
 
 -- a node that got another one on a side, and one that lost it
-weight_grown : (n n' : Node) (high : Bool) (key : ℕ) → child n' high ≡ Some key → child n' (not high) ≡ child n (not high) → n'.number ≡ n.number → weight n ≤ weight n'
+weight_grown : (n n' : PrefixNode) (high : Bool) (key : ℕ) → child n' high ≡ Some key → child n' (not high) ≡ child n (not high) → n'.number ≡ n.number → weight n ≤ weight n'
 weight_grown n n' high key to other number =
     let a : count (child n' high) ≡ 1 = ap count to in
     let b : count (child n' (not high)) ≡ count (child n (not high)) = ap count other in
     let d : count n'.number ≡ count n.number = ap count number in
     omega (arith, a, b, d, links-sides n high, links-sides n' high, count_le (child n high))
 
-weight_less : (n n' : Node) (high : Bool) → child n' (not high) ≡ child n (not high) → n'.number ≡ n.number → weight n ≤ weight n' + 1
+weight_less : (n n' : PrefixNode) (high : Bool) → child n' (not high) ≡ child n (not high) → n'.number ≡ n.number → weight n ≤ weight n' + 1
 weight_less n n' high other number =
     let b : count (child n' (not high)) ≡ count (child n (not high)) = ap count other in
     let d : count n'.number ≡ count n.number = ap count number in
@@ -42,17 +42,17 @@ fork_needed fork number true false k l differs = omega (arith, count_next k, cou
 fork_needed fork number false true k l differs = omega (arith, count_next k, count_next l)
 fork_needed fork number false false k l differs = absurd (differs refl)
 
-pub tight_weaker : (at : ℕ → Option Node) (k : ℕ) → IsTightBut at 0 → IsTightBut at k
+pub tight_weaker : (at : ℕ → Option PrefixNode) (k : ℕ) → IsTightBut at 0 → IsTightBut at k
 tight_weaker at k tight i n root _ is = tight i n root root is
 
-pub tight_all : (at : ℕ → Option Node) (k : ℕ) (n : Node) → IsTightBut at k → at k ≡ Some n → 2 ≤ weight n → IsTightBut at 0
+pub tight_all : (at : ℕ → Option PrefixNode) (k : ℕ) (n : PrefixNode) → IsTightBut at k → at k ≡ Some n → 2 ≤ weight n → IsTightBut at 0
 tight_all at k n tight is needed i m root _ is_m =
     elim (cases_eq i k) [
       | inl same ↦ subst (λ x. 2 ≤ weight x) (same_Some n m (sym is ∙ ap at (sym same) ∙ is_m)) needed
       | inr differs ↦ tight i m root differs is_m
     ]
 
-pub tight_attached : (at at' : ℕ → Option Node) (i j : ℕ) (n n' c : Node) (high : Bool) (h : Attached at at' i j n n' c high) (k : ℕ) → IsTightBut at k → (j ≢ k → 2 ≤ weight c) → IsTightBut at' k
+pub tight_attached : (at at' : ℕ → Option PrefixNode) (i j : ℕ) (n n' c : PrefixNode) (high : Bool) (h : Attached at at' i j n n' c high) (k : ℕ) → IsTightBut at k → (j ≢ k → 2 ≤ weight c) → IsTightBut at' k
 tight_attached at at' i j n n' c high h k tight needed l m root other is =
     elim (cases_eq l j) [
       | inl new ↦ subst (λ x. 2 ≤ weight x) (same_Some c m (sym h.new ∙ ap at' (sym new) ∙ is)) (needed (λ same. other (new ∙ same)))
@@ -66,7 +66,7 @@ tight_attached at at' i j n n' c high h k tight needed l m root other is =
       ]
     ]
 
-module _ (at at' : ℕ → Option Node) (i j : ℕ) (n n' m : Node) (high : Bool) (h : Spliced at at' i j n n' m high) (tight : IsTightBut at j) where
+module _ (at at' : ℕ → Option PrefixNode) (i j : ℕ) (n n' m : PrefixNode) (high : Bool) (h : Spliced at at' i j n n' m high) (tight : IsTightBut at j) where
   above_there : i ≢ j
   above_there same = none-some n' (sym h.gone ∙ ap at' (sym same) ∙ h.relinked)
 
@@ -92,7 +92,7 @@ module _ (at at' : ℕ → Option Node) (i j : ℕ) (n n' m : Node) (high : Bool
   pub left_above : i ≢ 0 → 1 ≤ weight n'
   left_above root = omega (arith, tight i n root above_there h.parent, weight_less n n' high h.other_side h.same_number)
 
-pub tight_numbered : (old new : Slab Node) (i : ℕ) (n : Node) (number : Option ℕ) → Updates old new i (Some (record n { number = number })) → IsTightBut (get old) 0 → IsTightBut (get new) (loosened number i)
+pub tight_numbered : (old new : Slab PrefixNode) (i : ℕ) (n : PrefixNode) (number : Option ℕ) → Updates old new i (Some (record n { number = number })) → IsTightBut (get old) 0 → IsTightBut (get new) (loosened number i)
 tight_numbered old new i n None u tight j m root other is = tight j m root root (sym (u.others j other) ∙ is)
 tight_numbered old new i n (Some x) u tight j m root other is =
     elim (cases_eq j i) [
@@ -105,10 +105,10 @@ count_some : (o : Option ℕ) → IsSome o → count o ≡ 1
 count_some None some = absurd (cc)
 count_some (Some x) some = refl
 
-pub not_both_below : (n : Node) → (2 ≤ weight n → ⊥) → IsSome (key_of n.low) → IsSome (key_of n.high) → ⊥
+pub not_both_below : (n : PrefixNode) → (2 ≤ weight n → ⊥) → IsSome (key_of n.low) → IsSome (key_of n.high) → ⊥
 not_both_below n free low high = free (omega (arith, count_some (key_of n.low) low, count_some (key_of n.high) high))
 
-pub no_number : (n : Node) → (2 ≤ weight n → ⊥) → n.number ≡ None
+pub no_number : (n : PrefixNode) → (2 ≤ weight n → ⊥) → n.number ≡ None
 no_number n free = go n.number refl
   where
     go : (o : Option ℕ) → n.number ≡ o → n.number ≡ None
@@ -119,7 +119,7 @@ flipped : (a b : Bool) → a ≡ not b → b ≡ not a
 flipped a true is = ap not (sym is)
 flipped a false is = ap not (sym is)
 
-pub loosened_if : (at : ℕ → Option Node) (only : Option ℕ) (none : Bool) (i : ℕ) → is_some only ≡ not none → IsTightBut at (loosened only i) → IsTightBut at (if none then i else 0)
+pub loosened_if : (at : ℕ → Option PrefixNode) (only : Option ℕ) (none : Bool) (i : ℕ) → is_some only ≡ not none → IsTightBut at (loosened only i) → IsTightBut at (if none then i else 0)
 loosened_if at None none i is tight = subst (λ b. IsTightBut at (if b then i else 0)) (sym (flipped false none is)) tight
 loosened_if at (Some l) none i is tight = subst (λ b. IsTightBut at (if b then i else 0)) (sym (flipped true none is)) tight
 
@@ -128,6 +128,6 @@ alone None None number none some = let no : count number ≡ 0 = ap count none i
 alone None (Some h) number none some = refl
 alone (Some l) high number none some = refl
 
-pub alone_stays : (n : Node) (only : Option ℕ) (none : Bool) → only ≡ option_or (key_of n.low) (key_of n.high) → is_some only ≡ not none → n.number ≡ None → 1 ≤ weight n → none ≡ false
+pub alone_stays : (n : PrefixNode) (only : Option ℕ) (none : Bool) → only ≡ option_or (key_of n.low) (key_of n.high) → is_some only ≡ not none → n.number ≡ None → 1 ≤ weight n → none ≡ false
 alone_stays n only none only_is is no_number some =
     flipped (is_some only) none is ∙ ap not (ap is_some only_is ∙ alone (key_of n.low) (key_of n.high) n.number no_number some)

@@ -5,30 +5,30 @@ use Rattle.slab.specs.Entry.{value_of, IsSound}
 use Rattle.slab.specs.declared.Entry.{Entry}
 use Rattle.slab.specs.declared.Entry.TheVariants.{Vacant, Occupied}
 use Rattle.pol_addr.specs.Cidr.{IsPrefix}
-use Rattle.pol_lpm.specs.declared.node.Node.{Node}
-use Rattle.pol_lpm.specs.declared.slot.Slot.{Slot}
-use Rattle.pol_lpm.specs.declared.slot.Slot.TheVariants.{Free, Taken}
+use Rattle.pol_lpm.specs.declared.node.PrefixNode.{PrefixNode}
+use Rattle.pol_lpm.specs.declared.slot.NodeSlot.{NodeSlot}
+use Rattle.pol_lpm.specs.declared.slot.NodeSlot.TheVariants.{Free, Taken}
 
 -- a slot as an entry of the kit's slab
-abbrev pub entry_of : Slot → Entry Node
+abbrev pub entry_of : NodeSlot → Entry PrefixNode
 entry_of (Free next) = Vacant next
 entry_of (Taken len numbered bits low high number) =
     Occupied (record { prefix = record { bits = bits; len = len }; number = if numbered then Some number else None; low = low; high = high })
 
 -- the node that stands in a slot
-abbrev pub node_in : Slot → Option Node
+abbrev pub node_in : NodeSlot → Option PrefixNode
 node_in slot = value_of (entry_of slot)
 
 -- the prefix of the node in a slot is one
-abbrev pub IsValid : Slot → Type 0
+abbrev pub IsValid : NodeSlot → Type 0
 IsValid slot = IfSome (node_in slot) (λ n. IsPrefix n.prefix)
 
 -- the slots, seen as a slab of the kit: the first free key, and for how many there is room
-abbrev pub seen_as : List Slot → ℕ → ℕ → Slab Node
+abbrev pub seen_as : List NodeSlot → ℕ → ℕ → Slab PrefixNode
 seen_as slots next capacity = record { slots = map value_of (map entry_of slots); vacant_key = next; capacity = capacity }
 
 -- so many slots have a node, the free ones make a list from `next` on, and a link to any of them has 32 bits
-pub record AreSlots (slots : List Slot) (len next : ℕ) : Type 0 where
+pub record AreSlots (slots : List NodeSlot) (len next : ℕ) : Type 0 where
   pub sound : IsSound (map entry_of slots) len next
-  pub valid : (i : ℕ) (n : Node) → get (seen_as slots 0 0) i ≡ Some n → IsPrefix n.prefix
+  pub valid : (i : ℕ) (n : PrefixNode) → get (seen_as slots 0 0) i ≡ Some n → IsPrefix n.prefix
   pub small : length slots < 2 ^ 32

@@ -7,7 +7,7 @@ use pol_addr::Prefix;
 /// A prefix with its number, if it has one, and the links to the nodes below it on either side. A link is the key and one, or 0
 /// for none.
 #[derive(Clone, Copy, Debug)]
-pub(crate) struct Node {
+pub(crate) struct PrefixNode {
     pub(crate) prefix: Prefix,
     pub(crate) number: Option<u32>,
     /// The node below whose next bit is 0.
@@ -39,7 +39,7 @@ fn key_of(link: u32) -> Option<usize>
     }
 }
 
-impl Node {
+impl PrefixNode {
     ghost use Rattle.std.specs.Prelude.{false, true};
     ghost use Rattle.std.specs.Option.{option_or};
     ghost use Rattle.pol_addr.specs.Prefix.{bit_of};
@@ -47,10 +47,10 @@ impl Node {
     ghost use Rattle.pol_lpm.specs.Trie.{child, with_child};
 
     /// A node with nothing below it.
-    pub(crate) fn leaf(prefix: Prefix, number: Option<u32>) -> Node
+    pub(crate) fn leaf(prefix: Prefix, number: Option<u32>) -> PrefixNode
         ensures { result ≡ record { prefix = prefix; number = number; low = 0; high = 0 } }
     {
-        Node {
+        PrefixNode {
             prefix,
             number,
             low: 0,
@@ -59,17 +59,22 @@ impl Node {
     }
 
     /// A node over another one, whose prefix and key these are.
-    pub(crate) fn over(prefix: Prefix, number: Option<u32>, below: &Prefix, key: usize) -> Node
+    pub(crate) fn over(
+        prefix: Prefix,
+        number: Option<u32>,
+        below: &Prefix,
+        key: usize,
+    ) -> PrefixNode
         requires longer { prefix.len < below.now.len }
         requires small { key + 1 < 2 ^ 32 }
         ensures { result ≡ with_child (record { prefix = prefix; number = number; low = 0; high = 0 }) (bit_of below.now prefix.len) (Some key) }
     {
         let _ = below.len();
-        Node::leaf(prefix, number).with_child(below.bit(prefix.len()), Some(key))
+        PrefixNode::leaf(prefix, number).with_child(below.bit(prefix.len()), Some(key))
     }
 
     /// The node with this key below it on this side.
-    pub(crate) fn with_child(self, high: bool, key: Option<usize>) -> Node
+    pub(crate) fn with_child(self, high: bool, key: Option<usize>) -> PrefixNode
         requires small { IfSome key (λ k. k + 1 < 2 ^ 32) }
         ensures { result ≡ with_child self high key }
     {

@@ -2,8 +2,8 @@
 ghost use Rattle.std.specs.Prelude.{◌≡◌, ◌+◌, ◌<◌, ◌≤◌, ◌↔◌, ◌^◌, ◌/◌, [], length, max, Some, None, IsTrue, IfOk, OnOk};
 ghost use Rattle.slab.specs.Slab.{get, ContainsKey, HasRoomFor, Updates, slab_len};
 
-use crate::node::Node;
-use crate::slot::Slot;
+use crate::node::PrefixNode;
+use crate::slot::NodeSlot;
 use std::alloc::{AllocError as Memory, Global};
 use std::marker::Model;
 
@@ -11,7 +11,7 @@ use std::marker::Model;
 /// bytes each.
 #[derive(Drop)]
 pub(crate) struct Nodes {
-    slots: Vec<Slot>,
+    slots: Vec<NodeSlot>,
     // How many slots have a node.
     len: usize,
     // The first of the free slots, or their end where there is none.
@@ -20,9 +20,9 @@ pub(crate) struct Nodes {
 
 impl Model for Nodes {
     ghost use Rattle.slab.specs.Slab.{Slab};
-    ghost use Rattle.pol_lpm.specs.declared.node.Node.{Node};
+    ghost use Rattle.pol_lpm.specs.declared.node.PrefixNode.{PrefixNode};
 
-    ghost Value = { Slab Node };
+    ghost Value = { Slab PrefixNode };
 
     ghost use Rattle.std.specs.Prelude.{vec_capacity};
     ghost use Rattle.pol_lpm.specs.Slots.{seen_as, AreSlots};
@@ -70,7 +70,7 @@ impl Nodes {
     }
 
     /// The node under this key.
-    pub(crate) fn at(&self, key: usize) -> Node
+    pub(crate) fn at(&self, key: usize) -> PrefixNode
         requires { ContainsKey self.now key }
         ensures { get self.now key ≡ Some result }
     {
@@ -92,7 +92,7 @@ impl Nodes {
     }
 
     /// Puts a node under the next key, and gives it.
-    pub(crate) fn insert_reserved(&mut self, node: Node) -> usize
+    pub(crate) fn insert_reserved(&mut self, node: PrefixNode) -> usize
         requires room { HasRoomFor self.old 1 }
         requires small { self.old.capacity < 2 ^ 32 }
         ensures key { result ≡ self.old.vacant_key }
@@ -105,24 +105,24 @@ impl Nodes {
         let key = self.next;
         self.len += 1;
         if key == self.slots.len() {
-            self.slots.push_reserved(Slot::of(node));
+            self.slots.push_reserved(NodeSlot::of(node));
             self.next = key + 1;
         } else {
             self.next = self.slots[key].next();
-            self.slots[key] = Slot::of(node);
+            self.slots[key] = NodeSlot::of(node);
         }
         key
     }
 
     /// Puts another node in the place of the one under this key.
-    pub(crate) fn set(&mut self, key: usize, node: Node)
+    pub(crate) fn set(&mut self, key: usize, node: PrefixNode)
         requires { ContainsKey self.old key }
         ensures updates { Updates self.old self.new key (Some node) }
         ensures len { slab_len self.new ≡ slab_len self.old }
         ensures vacant_key { self.new.vacant_key ≡ self.old.vacant_key }
         ensures capacity { self.new.capacity ≡ self.old.capacity }
     {
-        self.slots[key] = Slot::of(node);
+        self.slots[key] = NodeSlot::of(node);
     }
 
     /// Takes out the node under this key, which is free then.
@@ -130,7 +130,7 @@ impl Nodes {
         requires { ContainsKey self.old key }
         ensures updates { Updates self.old self.new key None }
     {
-        self.slots[key] = Slot::free(self.next);
+        self.slots[key] = NodeSlot::free(self.next);
         self.len -= 1;
         self.next = key;
     }

@@ -2,12 +2,12 @@
 ghost use Rattle.std.specs.Prelude.{◌≡◌, ◌<◌, ◌≤◌, ◌^◌, ◌+◌, ◌≢◌, Some, IsTrue, true};
 ghost use Rattle.slab.specs.Slab.{get, ContainsKey, HasRoomFor, slab_len};
 ghost use Rattle.pol_addr.specs.Prefix.{covers};
-ghost use Rattle.pol_lpm.specs.declared.node.Node.{Node};
+ghost use Rattle.pol_lpm.specs.declared.node.PrefixNode.{PrefixNode};
 ghost use Rattle.pol_lpm.specs.Sizes.{IsTight};
 ghost use Rattle.pol_lpm.specs.Trie.{IsTrie, HasRoot, IsSpot, Numbers, SameNumbers, AllStillThere, child};
 
 use crate::edit::{attach, set_number};
-use crate::node::Node;
+use crate::node::PrefixNode;
 use crate::nodes::Nodes;
 use crate::walk::spot_of;
 use pol_addr::Prefix;
@@ -27,7 +27,7 @@ fn make_root(nodes: &mut Nodes)
     ensures capacity { nodes.new.capacity ≡ nodes.old.capacity }
 {
     if !nodes.contains(0) {
-        nodes.insert_reserved(Node::leaf(Prefix::world(), None));
+        nodes.insert_reserved(PrefixNode::leaf(Prefix::world(), None));
     }
 }
 
@@ -86,7 +86,12 @@ fn put_in(nodes: &mut Nodes, spot: (usize, bool), prefix: Prefix, number: u32)
 {
     match nodes.at(spot.0).child(spot.1) {
         None => {
-            attach(nodes, spot.0, spot.1, Node::leaf(prefix, Some(number)));
+            attach(
+                nodes,
+                spot.0,
+                spot.1,
+                PrefixNode::leaf(prefix, Some(number)),
+            );
         }
         Some(below) => put_over(nodes, spot, below, prefix, number),
     }
@@ -98,7 +103,7 @@ fn put_over(nodes: &mut Nodes, spot: (usize, bool), below: usize, prefix: Prefix
     requires tight { IsTight nodes.old }
     requires spot { IsSpot nodes.old prefix spot.0 spot.1 }
     requires key { below + 1 < 2 ^ 32 }
-    requires link { (n : Node) → get nodes.old spot.0 ≡ Some n → child n spot.1 ≡ Some below }
+    requires link { (n : PrefixNode) → get nodes.old spot.0 ≡ Some n → child n spot.1 ≡ Some below }
     requires room { HasRoomFor nodes.old 2 }
     requires small { nodes.old.capacity < 2 ^ 32 }
     ensures trie { IsTrie nodes.new }
@@ -110,7 +115,7 @@ fn put_over(nodes: &mut Nodes, spot: (usize, bool), below: usize, prefix: Prefix
     if other == prefix {
         set_number(nodes, below, Some(number));
     } else if prefix.covers(&other) {
-        let node = Node::over(prefix, Some(number), &other, below);
+        let node = PrefixNode::over(prefix, Some(number), &other, below);
         attach(nodes, spot.0, spot.1, node);
     } else {
         put_beside(nodes, spot, below, prefix, number);
@@ -123,9 +128,9 @@ fn put_beside(nodes: &mut Nodes, spot: (usize, bool), below: usize, prefix: Pref
     requires tight { IsTight nodes.old }
     requires spot { IsSpot nodes.old prefix spot.0 spot.1 }
     requires key { below + 1 < 2 ^ 32 }
-    requires link { (n : Node) → get nodes.old spot.0 ≡ Some n → child n spot.1 ≡ Some below }
-    requires differs { (n : Node) → get nodes.old below ≡ Some n → n.prefix ≢ prefix }
-    requires parts { (n : Node) → get nodes.old below ≡ Some n → ¬ IsTrue (covers prefix n.prefix) }
+    requires link { (n : PrefixNode) → get nodes.old spot.0 ≡ Some n → child n spot.1 ≡ Some below }
+    requires differs { (n : PrefixNode) → get nodes.old below ≡ Some n → n.prefix ≢ prefix }
+    requires parts { (n : PrefixNode) → get nodes.old below ≡ Some n → ¬ IsTrue (covers prefix n.prefix) }
     requires there { ContainsKey nodes.old below }
     requires room { HasRoomFor nodes.old 2 }
     requires small { nodes.old.capacity < 2 ^ 32 }
@@ -137,12 +142,12 @@ fn put_beside(nodes: &mut Nodes, spot: (usize, bool), below: usize, prefix: Pref
     let other = nodes.at(below).prefix;
     let fork = prefix.common(&other);
     let len = fork.len();
-    let node = Node::over(fork, None, &other, below);
+    let node = PrefixNode::over(fork, None, &other, below);
     let key = attach(nodes, spot.0, spot.1, node);
     attach(
         nodes,
         key,
         prefix.bit(len),
-        Node::leaf(prefix, Some(number)),
+        PrefixNode::leaf(prefix, Some(number)),
     );
 }

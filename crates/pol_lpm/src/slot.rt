@@ -4,14 +4,14 @@ ghost use Rattle.slab.specs.declared.Entry.TheVariants.{Vacant, Occupied};
 ghost use Rattle.pol_addr.specs.Cidr.{IsPrefix};
 ghost use Rattle.pol_lpm.specs.Slots.{entry_of, node_in, IsValid};
 
-use crate::node::Node;
+use crate::node::PrefixNode;
 use pol_addr::{Addr, Prefix};
 use std::mem::size_of;
 
 /// A slot with a node, or a free one with the key of the next free one. The node stands here in parts, the small ones first, so
 /// that no byte but one is lost.
 #[derive(Clone, Copy, Debug)]
-pub(crate) enum Slot {
+pub(crate) enum NodeSlot {
     Free(u32),
     Taken {
         len: u8,
@@ -24,23 +24,23 @@ pub(crate) enum Slot {
     },
 }
 
-const _: () = prove!(size_of::<Slot>() == 20);
+const _: () = prove!(size_of::<NodeSlot>() == 20);
 
-impl Slot {
+impl NodeSlot {
     /// A free slot before this key in the list of free ones.
-    pub(crate) fn free(next: usize) -> Slot
+    pub(crate) fn free(next: usize) -> NodeSlot
         requires small { next < 2 ^ 32 }
         ensures { entry_of result ≡ Vacant next }
     {
-        Slot::Free(next as u32)
+        NodeSlot::Free(next as u32)
     }
 
     /// The slot of this node.
-    pub(crate) fn of(node: Node) -> Slot
+    pub(crate) fn of(node: PrefixNode) -> NodeSlot
         ensures entry { entry_of result ≡ Occupied node }
         ensures valid { IsPrefix node.prefix }
     {
-        Slot::Taken {
+        NodeSlot::Taken {
             len: node.prefix.len(),
             numbered: node.number.is_some(),
             bits: node.prefix.network().bits(),
@@ -51,26 +51,26 @@ impl Slot {
     }
 
     /// The node that is here.
-    pub(crate) fn node(&self) -> Node
+    pub(crate) fn node(&self) -> PrefixNode
         requires there { IsSome (node_in self.now) }
         requires valid { IsValid self.now }
         ensures { entry_of self.now ≡ Occupied result }
     {
         match *self {
-            Slot::Taken {
+            NodeSlot::Taken {
                 len,
                 numbered,
                 bits,
                 low,
                 high,
                 number,
-            } => Node {
+            } => PrefixNode {
                 prefix: Prefix::new(Addr { bits }, len),
                 number: if numbered { Some(number) } else { None },
                 low,
                 high,
             },
-            Slot::Free(_) => unreachable!(),
+            NodeSlot::Free(_) => unreachable!(),
         }
     }
 
@@ -80,8 +80,8 @@ impl Slot {
         ensures { entry_of self.now ≡ Vacant result }
     {
         match *self {
-            Slot::Free(next) => next as usize,
-            Slot::Taken { .. } => unreachable!(),
+            NodeSlot::Free(next) => next as usize,
+            NodeSlot::Taken { .. } => unreachable!(),
         }
     }
 
@@ -90,8 +90,8 @@ impl Slot {
         ensures { result ≡ is_some (node_in self.now) }
     {
         match self {
-            Slot::Free(_) => false,
-            Slot::Taken { .. } => true,
+            NodeSlot::Free(_) => false,
+            NodeSlot::Taken { .. } => true,
         }
     }
 }

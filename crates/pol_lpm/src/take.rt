@@ -2,7 +2,7 @@
 ghost use Rattle.std.specs.Prelude.{◌≡◌, ◌≢◌, ◌<◌, IfSome, IfNone, None, Some, ℕ, ◌≤◌, IsTrue, option_map, true, false, if◌then◌else◌};
 ghost use Rattle.slab.specs.Slab.{get, ContainsKey};
 ghost use Rattle.pol_addr.specs.Prefix.{covers};
-ghost use Rattle.pol_lpm.specs.declared.node.Node.{Node};
+ghost use Rattle.pol_lpm.specs.declared.node.PrefixNode.{PrefixNode};
 ghost use Rattle.pol_lpm.specs.Sizes.{weight, IsTightBut, IsTight};
 ghost use Rattle.pol_lpm.specs.Trie.{IsTrie, HasRoot, IsNodeOf, IsSpot, Numbers, SameNumbers, StillThere, StillThereOutside, number_of};
 
@@ -15,7 +15,7 @@ use pol_addr::Prefix;
 fn node_of(nodes: &Nodes, prefix: &Prefix) -> Option<usize>
     requires { IsTrie nodes.now }
     ensures found { IfSome result (IsNodeOf nodes.now prefix.now) }
-    ensures absent { IfNone result ((j : ℕ) (n : Node) → get nodes.now j ≡ Some n → n.prefix ≢ prefix.now) }
+    ensures absent { IfNone result ((j : ℕ) (n : PrefixNode) → get nodes.now j ≡ Some n → n.prefix ≢ prefix.now) }
 {
     if !nodes.contains(0) {
         return None;
@@ -38,14 +38,14 @@ fn prune(nodes: &mut Nodes, at: usize, spot: (usize, bool)) -> bool
     requires trie { IsTrie nodes.old }
     requires tight { IsTightBut (get nodes.old) at }
     requires there { ContainsKey nodes.old at }
-    requires spot { (n : Node) → get nodes.old at ≡ Some n → IsSpot nodes.old n.prefix spot.0 spot.1 }
+    requires spot { (n : PrefixNode) → get nodes.old at ≡ Some n → IsSpot nodes.old n.prefix spot.0 spot.1 }
     ensures trie { IsTrie nodes.new }
     ensures numbers { SameNumbers nodes.old nodes.new }
     ensures others { StillThere nodes.old nodes.new at }
     ensures rooted { HasRoot (get nodes.new) }
     ensures tight { IsTightBut (get nodes.new) (if result then spot.0 else 0) }
-    ensures left { IsTrue result → (n : Node) → get nodes.new spot.0 ≡ Some n → spot.0 ≢ 0 → 1 ≤ weight n }
-    ensures stays { (n : Node) → get nodes.old at ≡ Some n → 1 ≤ weight n → result ≡ false }
+    ensures left { IsTrue result → (n : PrefixNode) → get nodes.new spot.0 ≡ Some n → spot.0 ≢ 0 → 1 ≤ weight n }
+    ensures stays { (n : PrefixNode) → get nodes.old at ≡ Some n → 1 ≤ weight n → result ≡ false }
 {
     let node = nodes.at(at);
     if node.is_needed() {
@@ -61,7 +61,7 @@ fn prune_above(nodes: &mut Nodes, at: usize)
     requires trie { IsTrie nodes.old }
     requires tight { IsTightBut (get nodes.old) at }
     requires there { ContainsKey nodes.old at }
-    requires left { (n : Node) → get nodes.old at ≡ Some n → at ≢ 0 → 1 ≤ weight n }
+    requires left { (n : PrefixNode) → get nodes.old at ≡ Some n → at ≢ 0 → 1 ≤ weight n }
     ensures trie { IsTrie nodes.new }
     ensures numbers { SameNumbers nodes.old nodes.new }
     ensures others { StillThere nodes.old nodes.new at }
@@ -101,7 +101,7 @@ fn prune_from(nodes: &mut Nodes, at: usize) -> Prefix
     requires trie { IsTrie nodes.old }
     requires tight { IsTightBut (get nodes.old) at }
     requires there { ContainsKey nodes.old at }
-    ensures over { (n : Node) → get nodes.old at ≡ Some n → covers result n.prefix ≡ true }
+    ensures over { (n : PrefixNode) → get nodes.old at ≡ Some n → covers result n.prefix ≡ true }
     ensures rooted { HasRoot (get nodes.new) }
     ensures trie { IsTrie nodes.new }
     ensures numbers { SameNumbers nodes.old nodes.new }

@@ -5,12 +5,12 @@ ghost use Rattle.pol_addr.specs.Cidr.{IsPrefix};
 ghost use Rattle.pol_lpm.specs.Trie.{IsTrie, HasRoot, child_toward, StandsOver, IsDeepest, NoneBetween, IsSpot, len_at};
 ghost use Rattle.pol_lpm.specs.Starts.{HasReached};
 
-use crate::node::Node;
+use crate::node::PrefixNode;
 use crate::nodes::Nodes;
 use pol_addr::Prefix;
 
 /// The key of the node below that may cover the target: the one on the target's side.
-fn toward(node: &Node, target: &Prefix) -> Option<usize>
+fn toward(node: &PrefixNode, target: &Prefix) -> Option<usize>
     ensures next { result ≡ child_toward node.now target.now }
     ensures valid { IsPrefix target.now }
 {

@@ -76,20 +76,19 @@ number_few number (mark.Faulty fault) = omega arith
 number_few number (mark.Of session) = omega arith
 number_few number mark.Phase = omega arith
 
-pub leads-more : (marks : List Mark) (told : List (List (List Answer))) (waiting rest : List Mark) (answers more : List Answer) (number next : ℕ) (left : List (List (List Answer))) (m : Mark) (answer : Answer)
-    (current : List (List Answer)) (later : List (List (List Answer))) → waiting ≡ m ∷ rest → more ≡ answers ++ answer ∷ [] → answer ≡ answer_by number m left → next ≡ number_by number m
+pub leads-more : (marks : List Mark) (told : List (List (List Answer))) (waiting rest : List Mark) (answers more : List Answer) (number next : ℕ) (left : List (List (List Answer))) (m : Mark)
+    (current : List (List Answer)) (later : List (List (List Answer))) → waiting ≡ m ∷ rest → more ≡ answers ++ answer_by number m left ∷ [] → next ≡ number_by number m
     → IsLeft (told_by m left) current later → Leads marks told waiting answers number left → Leads marks told rest more next (current ∷ later)
-leads-more marks told waiting rest answers more number next left m answer current later first pushed is after rest_is leads = record {
+leads-more marks told waiting rest answers more number next left m current later first pushed after rest_is leads = record {
   goes_on =
       leads.goes_on
       ∙ ap (λ (ms : List Mark). answers ++ answers_by number ms left) first
-      ∙ ap (λ (a : Answer). answers ++ a ∷ answers_by (number_by number m) rest (told_by m left)) (sym is)
-      ∙ ap (λ (n : ℕ). answers ++ answer ∷ answers_by n rest (told_by m left)) (sym after)
-      ∙ ap (λ (others : List Answer). answers ++ answer ∷ others)
+      ∙ ap (λ (n : ℕ). answers ++ answer_by number m left ∷ answers_by n rest (told_by m left)) (sym after)
+      ∙ ap (λ (others : List Answer). answers ++ answer_by number m left ∷ others)
       (sym (as_begun next rest (told_by m left)) ∙ ap (λ (t : List (List (List Answer))). answers_by next rest t) (sym (begun_is (told_by m left) current later rest_is)))
-      ∙ sym (append_assoc answers (answer ∷ []) (answers_by next rest (current ∷ later)))
+      ∙ sym (append_assoc answers (answer_by number m left ∷ []) (answers_by next rest (current ∷ later)))
       ∙ ap (λ (as_told : List Answer). as_told ++ answers_by next rest (current ∷ later)) (sym pushed);
-  few = omega (arith, leads.few, after, number_few number m, ap length pushed, length-append answers (answer ∷ []));
+  few = omega (arith, leads.few, after, number_few number m, ap length pushed, length-append answers (answer_by number m left ∷ []));
 }
 
 pub leads-all : (marks : List Mark) (told : List (List (List Answer))) (waiting : List Mark) (answers : List Answer) (number : ℕ) (left : List (List (List Answer))) → waiting ≡ []

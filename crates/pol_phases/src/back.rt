@@ -1,5 +1,5 @@
 //! The answers of the sessions are put back in the order of the lines.
-ghost use Rattle.std.specs.Prelude.{◌≡◌, ◌≤◌, ◌<◌, ◌+◌, ◌-◌, ◌^◌, ◌∷◌, List, drop, map, IfOk};
+ghost use Rattle.std.specs.Prelude.{◌≡◌, ◌<◌, ◌-◌, ◌^◌, ◌++◌, ◌∷◌, [], List, drop, map, IfOk, OnOk};
 ghost use Rattle.pol_placed.specs.Cut.{answers_to, change_session, first_answer, first_phase, session_at};
 ghost use Rattle.pol_run.specs.Spots.{Reading as OneReading};
 ghost use Rattle.pol_phases.specs.Marks.{IsLeft, answer_by, mark_of, number_by, told_by};
@@ -26,7 +26,7 @@ pub fn put_back(
     let mut answers = Vec::with_capacity(alloc, marks.count())?;
     let mut waiting = marks;
     while let Some(mark) = waiting.next() {
-        answers.push(left.answer(alloc, mark))?;
+        left.answer(alloc, mark, &mut answers)?;
     }
     Ok(answers)
 }
@@ -54,23 +54,24 @@ impl Left {
         }
     }
 
-    // The answer to the next line.
-    fn answer(&mut self, alloc: Global, mark: Mark) -> Answer
+    // Puts the answer to the next line behind the others. The one error is want of memory.
+    fn answer(&mut self, alloc: Global, mark: Mark, answers: &mut Vec<Answer>) -> Result<(), Memory>
         requires { self.old.number < 2 ^ 64 - 1 }
-        ensures answer { result ≡ answer_by self.old.number mark (self.old.current.items ∷ self.old.later.items) }
+        ensures answer { OnOk result (answers.new.items ≡ answers.old.items ++ answer_by self.old.number mark (self.old.current.items ∷ self.old.later.items) ∷ []) }
         ensures number { self.new.number ≡ number_by self.old.number mark }
         ensures told { IsLeft (told_by mark (self.old.current.items ∷ self.old.later.items)) self.new.current.items self.new.later.items }
     {
         match mark {
-            Mark::Faulty(fault) => Answer::BadLine(fault),
-            Mark::Of(session) => next_answer(&mut self.current, session),
+            Mark::Faulty(fault) => answers.push(Answer::BadLine(fault))?,
+            Mark::Of(session) => push_next(&mut self.current, session, answers)?,
             Mark::Phase => {
                 let ended = self.number;
                 self.number = ended + 1;
                 self.current = first_of(alloc, &mut self.later);
-                Answer::Phase(ended)
+                answers.push(Answer::Phase(ended))?;
             }
         }
+        Ok(())
     }
 }
 
@@ -85,20 +86,37 @@ fn first_of(alloc: Global, later: &mut VecDeque<Items<Answers>>) -> Vec<Answers>
     }
 }
 
-// The session's next answer.
-fn next_answer(lists: &mut Vec<Answers>, session: u8) -> Answer
-    ensures answer { result ≡ first_answer (session_at lists.old.items session) }
+// Puts the session's next answer behind the others. The one error is want of memory.
+fn push_next(lists: &mut Vec<Answers>, session: u8, answers: &mut Vec<Answer>) -> Result<(), Memory>
+    ensures answer { OnOk result (answers.new.items ≡ answers.old.items ++ first_answer (session_at lists.old.items session) ∷ []) }
     ensures rest { lists.new.items ≡ change_session session (λ answers. drop 1 answers) lists.old.items }
 {
     if session == 0 {
-        return Answer::Phase(0);
+        return push_none(answers);
     }
     let place = session as usize - 1;
     if place >= lists.len() {
-        return Answer::Phase(0);
+        return push_none(answers);
     }
-    match lists[place].next() {
-        Some(answer) => answer,
-        None => Answer::Phase(0),
+    push_first(&mut lists[place], answers)
+}
+
+// Moves a session's first answer behind the others. The one error is want of memory.
+fn push_first(own: &mut Answers, answers: &mut Vec<Answer>) -> Result<(), Memory>
+    ensures answer { OnOk result (answers.new.items ≡ answers.old.items ++ first_answer own.old ∷ []) }
+    ensures rest { own.new ≡ drop 1 own.old }
+{
+    match own.next() {
+        Some(answer) => answers.push(answer)?,
+        None => push_none(answers)?,
     }
+    Ok(())
+}
+
+// Puts the answer of a session that was told no more behind the others. The one error is want of memory.
+fn push_none(answers: &mut Vec<Answer>) -> Result<(), Memory>
+    ensures { OnOk result (answers.new.items ≡ answers.old.items ++ first_answer [] ∷ []) }
+{
+    answers.push(Answer::Phase(0))?;
+    Ok(())
 }

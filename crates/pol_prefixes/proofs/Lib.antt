@@ -6,3 +6,4 @@ pub mod Come
 pub mod Goes
 pub mod Undoing
 pub mod Results
+pub mod Telling

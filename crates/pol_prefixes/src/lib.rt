@@ -4,12 +4,14 @@
 //! are. `are_too_many` and `gone_numbers` tell beforehand whether the numbers are enough, and which ones a release lets go.
 #![tactic(auto)]
 
+mod addresses;
 mod gone;
 mod hold;
 pub mod laws;
 mod release;
 mod start;
 
+pub use addresses::Addresses;
 pub use gone::gone_numbers;
 pub use hold::{are_too_many, hold_prefixes};
 pub use pol_ident::IdentError;

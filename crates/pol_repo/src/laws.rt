@@ -28,7 +28,7 @@ ghost use Rattle.pol_model_laws.specs.Keeps.{Keeps};
 ghost use Rattle.pol_model_laws.specs.WithoutFaults.{WithoutFaults};
 ghost use Rattle.pol_model_laws.specs.WorkedMaps.{all_let_in, app_peer, ingress_policy, key_of, ordinary, web, x_denied};
 ghost use Rattle.pol_distill.specs.Distilled.{distilled};
-ghost use Rattle.pol_addresses.specs.AddressTable.{number_in};
+ghost use Rattle.pol_prefixes.specs.AddressTable.{number_in};
 ghost use Rattle.pol_taken.specs.declared.taken.Taken.{Taken as OneTaken};
 ghost use Rattle.pol_taken.specs.OfState.{IsTakenOf};
 ghost use Rattle.pol_requests.specs.Prepared.{is_of_policy};

@@ -10,7 +10,7 @@ use pol_rule::PolicyKey;
 use std::alloc::Global;
 
 /// A kind of part, and how one is read.
-pub(crate) trait Kind {
+pub(crate) trait PartKind {
     ghost use Rattle.std.specs.Prelude.{Bool, Option};
     ghost use Rattle.pol_rule.specs.declared.cause.RuleCause.{RuleCause};
     ghost use Rattle.pol_rule.specs.declared.policy.PolicyKey.{PolicyKey};
@@ -42,7 +42,7 @@ pub(crate) trait Kind {
 }
 
 /// Appends what each part of a list says. After an error some of them may have been appended.
-pub(crate) fn push_each<K: Kind>(
+pub(crate) fn push_each<K: PartKind>(
     alloc: Global,
     key: &PolicyKey,
     location: Location,

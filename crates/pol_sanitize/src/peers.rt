@@ -9,7 +9,7 @@ ghost use Rattle.pol_sanitize.specs.Selectors.{is_bad_selector};
 
 use crate::SanitizeError;
 use crate::fault::Location;
-use crate::kind::{Kind, push_each};
+use crate::kind::{PartKind, push_each};
 use crate::selectors::peer_selector;
 use pol_addr::Prefix;
 use pol_data::{Items, Text};
@@ -22,7 +22,7 @@ use std::alloc::Global;
 /// Selectors of endpoints.
 struct Endpoints;
 
-impl Kind for Endpoints {
+impl PartKind for Endpoints {
     type Raw = RawSelector;
 
     type Part = Peer;
@@ -47,7 +47,7 @@ impl Kind for Endpoints {
 /// Prefixes.
 struct Cidrs;
 
-impl Kind for Cidrs {
+impl PartKind for Cidrs {
     type Raw = Text;
 
     type Part = Peer;
@@ -77,7 +77,7 @@ impl Kind for Cidrs {
 /// Exceptions of a prefix.
 struct Exceptions;
 
-impl Kind for Exceptions {
+impl PartKind for Exceptions {
     ghost use Rattle.pol_addr.specs.Prefix.{read_prefix};
 
     type Raw = Text;
@@ -124,7 +124,7 @@ fn entity_of(text: &str) -> Option<Entity>
 /// Names of entities.
 struct Entities;
 
-impl Kind for Entities {
+impl PartKind for Entities {
     type Raw = Text;
 
     type Part = Peer;

@@ -12,7 +12,7 @@ use crate::fault::Location;
 use crate::keys::{
     ANY_SOURCE, K8S_SOURCE, NAMESPACE_KEY, OnInit, SaysNamespace, has_key, is_namespace, split_key,
 };
-use crate::kind::{Kind, push_each};
+use crate::kind::{PartKind, push_each};
 use pol_data::{Items, Memory, Text, Texts};
 use pol_labels::{Operator, Requirement, Selector, SelectorError};
 use pol_rule::{PolicyKey, RawExpression, RawPair, RawSelector, RuleCause};
@@ -63,7 +63,7 @@ fn operator_of(text: &str) -> Option<Operator>
 /// Members of `matchLabels`.
 struct Labels;
 
-impl Kind for Labels {
+impl PartKind for Labels {
     type Raw = RawPair;
 
     type Part = Requirement;
@@ -93,7 +93,7 @@ impl Kind for Labels {
 /// Members of `matchLabels`, without those on the key of the namespace.
 struct OtherLabels;
 
-impl Kind for OtherLabels {
+impl PartKind for OtherLabels {
     type Raw = RawPair;
 
     type Part = Requirement;
@@ -126,7 +126,7 @@ impl Kind for OtherLabels {
 /// Items of `matchExpressions`.
 struct Expressions;
 
-impl Kind for Expressions {
+impl PartKind for Expressions {
     type Raw = RawExpression;
 
     type Part = Requirement;

@@ -26,7 +26,7 @@ use Rattle.pol_model.specs.Prefixes.{number_of_prefix}
 use Rattle.pol_model.specs.Sizes.{IsShortPolicy}
 use Rattle.pol_ident.specs.declared.error.IdentError.{IdentError}
 use Rattle.pol_prefixes.proofs.Numbers.{number_of_labelled}
-use Rattle.pol_addresses.specs.AddressTable.{AddressTable}
+use Rattle.pol_prefixes.specs.AddressTable.{AddressTable}
 use Rattle.pol_kept_filters.specs.declared.kept.Kept.{Kept}
 use Rattle.pol_kept_filters.specs.Kept.{AreKeptOf, AreListedIn, IsListedIn, KeysDiffer, selects, without_old, without_selected}
 use Rattle.pol_kept_filters.proofs.Unselected.{left_with, left_without}

@@ -13,7 +13,7 @@ use Rattle.pol_peers.specs.References.{RefsOf}
 use Rattle.pol_l4.specs.declared.filter.Filters.{Filters}
 use Rattle.pol_l4.specs.Resolved.{filters_for}
 use Rattle.pol_tables.specs.Tables.{endpoint_in}
-use Rattle.pol_addresses.specs.AddressTable.{number_in}
+use Rattle.pol_prefixes.specs.AddressTable.{number_in}
 use Rattle.pol_taken.specs.declared.taken.Taken.{Taken}
 use Rattle.pol_taken.specs.OfState.{IsTakenOf}
 use Rattle.pol_taken.specs.PeerRows.{AreSetsFor, filter_peers}

@@ -8,7 +8,7 @@ use Rattle.pol_model.specs.declared.row.IdentityRow.{IdentityRow}
 use Rattle.pol_model.specs.Remote.{number_at}
 use Rattle.pol_lpm.specs.Table.{PrefixMap}
 use Rattle.pol_prefixes.specs.Tables.{IsTableOf}
-use Rattle.pol_addresses.specs.AddressTable.{AddressTable, number_in}
+use Rattle.pol_prefixes.specs.AddressTable.{AddressTable, number_in}
 
 -- The table tells what each address is, wherever the prefixes have the numbers that they have in these rows.
 pub record TellsAddresses (endpoints : List Endpoint) (rows : List IdentityRow) (addresses : AddressTable) : Type 0 where

@@ -11,7 +11,7 @@ use Rattle.pol_model.specs.State.{State}
 use Rattle.pol_tables.specs.Tables.{endpoint_in}
 use Rattle.pol_distill.specs.Distilled.{filters_at}
 use Rattle.pol_distill.specs.Sorted.{HaveSets}
-use Rattle.pol_addresses.specs.AddressTable.{number_in}
+use Rattle.pol_prefixes.specs.AddressTable.{number_in}
 use Rattle.pol_taken.specs.declared.taken.Taken.{Taken}
 use Rattle.pol_taken.specs.PeerRows.{filter_peers}
 

@@ -13,7 +13,7 @@ mod taken;
 
 pub use error::TakeError;
 pub use known_peers::KnownPeers;
-pub use pol_addresses::Addresses;
+pub use pol_prefixes::Addresses;
 pub use pol_sets::{IdSet, Move, Moves, SetRow, Sets, SharedPeer};
 pub use sets::sets_of;
 pub use taken::Taken;

@@ -4,7 +4,7 @@ use Rattle.pol_arena.specs.Pool.{Pool, node_at, nodes_in_use, Updates}
 use Rattle.pol_ports.specs.declared.PortPrefix.{PortPrefix}
 use Rattle.pol_ports.specs.PortPrefix.{end_of}
 use Rattle.pol_mapkey.specs.declared.Kind.{Kind}
-use Rattle.pol_trie.specs.declared.node.Node.{Node}
+use Rattle.pol_trie.specs.declared.node.PortNode.{PortNode}
 use Rattle.pol_trie.specs.Tree.{Tree, Fork, middle, Fits, IsTight, node_count}
 use Rattle.pol_trie.specs.Links.{node_of}
 use Rattle.pol_trie.specs.Standing.{Stands, Holds, IsWell, FitsInto, Copies, IsTrie, ports_of}
@@ -13,7 +13,7 @@ use Rattle.pol_trie.proofs.Stand.{root, Stands-kept, Stands-node_of, kept_by_put
 use Rattle.pol_trie.proofs.Listing.{get-ports_of, ports_of-is}
 
 -- what stands on both sides of a node
-pub record Sides (p : Pool Node) (n : Node) (t : Tree) : Type 0 where
+pub record Sides (p : Pool PortNode) (n : PortNode) (t : Tree) : Type 0 where
   pub low : Tree
   pub high : Tree
   pub is : t ≡ Fork n.port n.kind low high
@@ -21,7 +21,7 @@ pub record Sides (p : Pool Node) (n : Node) (t : Tree) : Type 0 where
   pub low_holds : Holds p n.low low n.port.bits (middle n.port) (n.port.len + 1)
   pub high_holds : Holds p n.high high (middle n.port) (end_of n.port) (n.port.len + 1)
 
-pub sides_of : (p : Pool Node) (i : ℕ) (n : Node) (t : Tree) (lo hi len : ℕ) → node_at p i ≡ Some n → Holds p (Some i) t lo hi len → Sides p n t
+pub sides_of : (p : Pool PortNode) (i : ℕ) (n : PortNode) (t : Tree) (lo hi len : ℕ) → node_at p i ≡ Some n → Holds p (Some i) t lo hi len → Sides p n t
 sides_of p i n t lo hi len there h =
     let r = root (node_at p) i n false t there h.stands in
     let F : Tree → Type 0 = λ x. Fits x lo hi len in
@@ -37,40 +37,40 @@ sides_of p i n t lo hi len there h =
     }
 
 -- each tree that stands below the one link is copied
-abbrev pub CopiesAll : Pool Node → Option ℕ → Pool Node → Pool Node → Option ℕ → Type 0
+abbrev pub CopiesAll : Pool PortNode → Option ℕ → Pool PortNode → Pool PortNode → Option ℕ → Type 0
 CopiesAll from at old new link = (t : Tree) (lo hi len : ℕ) → Holds from at t lo hi len → Copies old new link t
 
-pub copies_at : (from : Pool Node) (at at' : Option ℕ) (old new : Pool Node) (link : Option ℕ) → at ≡ at' → CopiesAll from at old new link → CopiesAll from at' old new link
+pub copies_at : (from : Pool PortNode) (at at' : Option ℕ) (old new : Pool PortNode) (link : Option ℕ) → at ≡ at' → CopiesAll from at old new link → CopiesAll from at' old new link
 copies_at from at at' old new link is done = (let D : Option ℕ → Type 0 = λ o. CopiesAll from o old new link in subst D is done)
 
-pub fits_at : (from : Pool Node) (at at' : Option ℕ) (to : Pool Node) → at ≡ at' → FitsInto from at to → FitsInto from at' to
+pub fits_at : (from : Pool PortNode) (at at' : Option ℕ) (to : Pool PortNode) → at ≡ at' → FitsInto from at to → FitsInto from at' to
 fits_at from at at' to is w = (let D : Option ℕ → Type 0 = λ o. FitsInto from o to in subst D is w)
 
-pub well_of : (from : Pool Node) (at : Option ℕ) (to : Pool Node) → FitsInto from at to → IsWell from at
+pub well_of : (from : Pool PortNode) (at : Option ℕ) (to : Pool PortNode) → FitsInto from at to → IsWell from at
 well_of from at to w = record { tree = w.tree; lo = w.lo; hi = w.hi; len = w.len; holds = w.holds }
 
 -- nothing is copied where nothing stands
-pub copies_none : (from to : Pool Node) (at : Option ℕ) → at ≡ None → CopiesAll from at to to None
+pub copies_none : (from to : Pool PortNode) (at : Option ℕ) → at ≡ None → CopiesAll from at to to None
 copies_none from to at is t lo hi len h =
     let P : Option ℕ → Type 0 = λ o. Stands (node_at from) o t in
     let C : Tree → Type 0 = λ x. Copies to to None x in
     subst C (sym (unlinked_is_leaf (node_at from) t (subst P is h.stands)))
     (record { stands = refl; count = omega arith; spare = omega arith; others = λ i n there. there })
 
-module _ (from : Pool Node) (i : ℕ) (n : Node) (there : node_at from i ≡ Some n) (old : Pool Node) (w : FitsInto from (Some i) old) where
+module _ (from : Pool PortNode) (i : ℕ) (n : PortNode) (there : node_at from i ≡ Some n) (old : Pool PortNode) (w : FitsInto from (Some i) old) where
   pub fits_low : FitsInto from n.low old
   fits_low =
       let s = sides_of from i n w.tree w.lo w.hi w.len there w.holds in
       record { tree = s.low; lo = n.port.bits; hi = middle n.port; len = n.port.len + 1; holds = s.low_holds; room = omega (arith, s.count, w.room) }
 
   -- the lower side is copied, and then the upper one
-  pub fits_high : (mid : Pool Node) (low : Option ℕ) → CopiesAll from n.low old mid low → FitsInto from n.high mid
+  pub fits_high : (mid : Pool PortNode) (low : Option ℕ) → CopiesAll from n.low old mid low → FitsInto from n.high mid
   fits_high mid low done =
       let s = sides_of from i n w.tree w.lo w.hi w.len there w.holds in
       let a = done s.low n.port.bits (middle n.port) (n.port.len + 1) s.low_holds in
       record { tree = s.high; lo = middle n.port; hi = end_of n.port; len = n.port.len + 1; holds = s.high_holds; room = omega (arith, s.count, w.room, a.spare) }
 
-  module _ (mid new : Pool Node) (low high : Option ℕ) (low_done : CopiesAll from n.low old mid low) (high_done : CopiesAll from n.high mid new high) where
+  module _ (mid new : Pool PortNode) (low high : Option ℕ) (low_done : CopiesAll from n.low old mid low) (high_done : CopiesAll from n.high mid new high) where
     low_stands : (t : Tree) → Holds from n.low t n.port.bits (middle n.port) (n.port.len + 1)
         → (u : Tree) → Holds from n.high u (middle n.port) (end_of n.port) (n.port.len + 1) → Stands (node_at new) low t
     low_stands t h u g =
@@ -105,7 +105,7 @@ module _ (from : Pool Node) (i : ℕ) (n : Node) (there : node_at from i ≡ Som
         omega (arith, s.count, w.room, a.spare, b.spare)
 
     -- and the node itself last
-    pub copies_node : (last : Pool Node) (j : ℕ) (port : PortPrefix) (kind : Option Kind) → port ≡ n.port → kind ≡ n.kind → node_at new j ≡ None
+    pub copies_node : (last : Pool PortNode) (j : ℕ) (port : PortPrefix) (kind : Option Kind) → port ≡ n.port → kind ≡ n.kind → node_at new j ≡ None
         → Updates new last j (Some (node_of port kind false low high)) → nodes_in_use last ≡ nodes_in_use new + 1 → last.spare ≡ new.spare - 1
         → CopiesAll from (Some i) old last (Some j)
     copies_node last j port kind port_is kind_is free u more less t lo hi len h =
@@ -125,15 +125,15 @@ module _ (from : Pool Node) (i : ℕ) (n : Node) (there : node_at from i ≡ Som
         }
 
 -- ---- a whole trie
-pub fits_into : (from : Pool Node) (at : Option ℕ) (w : IsTrie from at) (to : Pool Node) → nodes_in_use from ≤ to.spare → FitsInto from at to
+pub fits_into : (from : Pool PortNode) (at : Option ℕ) (w : IsTrie from at) (to : Pool PortNode) → nodes_in_use from ≤ to.spare → FitsInto from at to
 fits_into from at w to room = record { tree = w.tree; lo = 0; hi = 2 ^ 16; len = 0; holds = w.holds; room = omega (arith, room, w.count) }
 
-pub trie_copied : (from : Pool Node) (at : Option ℕ) (w : IsTrie from at) (old new : Pool Node) (link : Option ℕ) → nodes_in_use old ≡ 0 → CopiesAll from at old new link → IsTrie new link
+pub trie_copied : (from : Pool PortNode) (at : Option ℕ) (w : IsTrie from at) (old new : Pool PortNode) (link : Option ℕ) → nodes_in_use old ≡ 0 → CopiesAll from at old new link → IsTrie new link
 trie_copied from at w old new link none done =
     let c = done w.tree 0 (2 ^ 16) 0 w.holds in
     record { tree = w.tree; holds = record { stands = c.stands; fits = w.holds.fits; tight = w.holds.tight }; count = omega (arith, none, c.count) }
 
-pub ports_copied : (from : Pool Node) (at : Option ℕ) (w : IsTrie from at) (old new : Pool Node) (link : Option ℕ) → nodes_in_use old ≡ 0 → CopiesAll from at old new link → ports_of new link ≡ ports_of from at
+pub ports_copied : (from : Pool PortNode) (at : Option ℕ) (w : IsTrie from at) (old new : Pool PortNode) (link : Option ℕ) → nodes_in_use old ≡ 0 → CopiesAll from at old new link → ports_of new link ≡ ports_of from at
 unfolding trie_copied
 ports_copied from at w old new link none done =
     ports_of-is new link (trie_copied from at w old new link none done) (ports_of from at) (λ q. sym (get-ports_of from at w q))

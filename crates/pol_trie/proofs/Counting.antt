@@ -27,7 +27,7 @@ use Rattle.pol_trie.specs.Tree.{Tree, Leaf, Fork, middle, Inside, Fits, IsFork, 
 use Rattle.pol_trie.specs.Roots.{root_of, every_entry, port_entries, entries_of, policy_of, row_keys}
 use Rattle.pol_trie.specs.KeySet.{key_count}
 use Rattle.pol_trie.specs.Standing.{IsTrie, Stands, ports_of}
-use Rattle.pol_trie.specs.declared.node.Node.{Node}
+use Rattle.pol_trie.specs.declared.node.PortNode.{PortNode}
 use Rattle.pol_arena.specs.Pool.{Pool, node_at}
 use Rattle.pol_trie.proofs.Reading.{both_true, less_than, not_less, found_listed}
 use Rattle.pol_trie.proofs.RootLemmas.{ports_own, missed_ports, found_nowhere}
@@ -135,7 +135,7 @@ pub nodes-below : (t : Tree) → IsTight t → node_count t ≤ 2 * length (list
 nodes-below t tight = omega (arith, nodes_spared t tight)
 
 -- a tree that stands below a link has a prefix with a kind
-pub some_listed : (at : ℕ → Option Node) (link : Option ℕ) (t : Tree) → Stands at link t → is_some link ≡ true → IsTight t → 1 ≤ length (listed t)
+pub some_listed : (at : ℕ → Option PortNode) (link : Option ℕ) (t : Tree) → Stands at link t → is_some link ≡ true → IsTight t → 1 ≤ length (listed t)
 some_listed at link Leaf stands some tight = absurd (let wrong : false ≡ true = sym (ap is_some stands) ∙ some in cc)
 some_listed at link (Fork p kind low high) stands some tight = omega (arith, nodes_spared (Fork p kind low high) tight)
 
@@ -272,7 +272,7 @@ row_keys-at (x ∷ es) zero e at = ap (λ (y : Root × KeySet). key_count y.1 + 
 row_keys-at (x ∷ es) (suc i) e at = row_keys-at es i e at
 
 -- how many keys a trie has, by its tree
-pub len-ports : (nodes : Pool Node) (root : Option ℕ) (w : IsTrie nodes root) → finite.len (ports_of nodes root) ≡ length (listed w.tree)
+pub len-ports : (nodes : Pool PortNode) (root : Option ℕ) (w : IsTrie nodes root) → finite.len (ports_of nodes root) ≡ length (listed w.tree)
 unfolding ports_of
 len-ports nodes root w =
     ap (λ t. finite.len (finite.from_entries {R = prefix_cmp} (listed t))) (tree_at-stands w.tree 17 (node_at nodes) root 0 (2 ^ 16) 0 w.holds.fits (omega arith) w.holds.stands)

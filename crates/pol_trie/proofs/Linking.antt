@@ -8,8 +8,8 @@ use Rattle.pol_ports.specs.declared.PortPrefix.{PortPrefix}
 use Rattle.pol_mapkey.specs.declared.Kind.{Kind}
 use Rattle.pol_mapkey.specs.declared.Kind.TheVariants.{Allow, Deny}
 use Rattle.pol_trie.specs.declared.node.Held.{Held}
-use Rattle.pol_trie.specs.declared.node.Node.{Node}
-use Rattle.pol_trie.specs.Node.{Linked, held_of, index_of, kind_of, link_of}
+use Rattle.pol_trie.specs.declared.node.PortNode.{PortNode}
+use Rattle.pol_trie.specs.PortNode.{Linked, held_of, index_of, kind_of, link_of}
 
 pub linked_back : (index : Option ℕ) → link_of (index_of index) ≡ index
 linked_back None = refl
@@ -25,7 +25,7 @@ link_of_some zero some = absurd (some refl)
 link_of_some (suc index) some = ap Some (omega arith)
 
 -- the index of a node in use, and one, has 32 bits
-pub small_index : (p : Pool Node) (i : ℕ) → IsSound p → IsSome (node_at p i) → i + 1 < 2 ^ 32
+pub small_index : (p : Pool PortNode) (i : ℕ) → IsSound p → IsSome (node_at p i) → i + 1 < 2 ^ 32
 small_index p i sound used =
     elim (cases_lt i (length p.slots)) [
       | inl within ↦ omega (arith, sound.counted, sound.covered, sound.fits, within)

@@ -9,7 +9,7 @@ use Rattle.pol_ports.specs.PortPrefix.{end_of, same_prefix, prefix_cmp}
 use Rattle.pol_ports.proofs.Same.{same_prefix-is}
 use Rattle.pol_mapkey.specs.declared.Kind.{Kind}
 use Rattle.pol_mapkey.proofs.KeyOrder.{prefix_cmp_total, prefix_cmp-same}
-use Rattle.pol_trie.specs.declared.node.Node.{Node}
+use Rattle.pol_trie.specs.declared.node.PortNode.{PortNode}
 use Rattle.pol_trie.specs.PortMap.{PortMap, Decides}
 use Rattle.pol_trie.specs.Tree.{Tree, Leaf, Fork, middle, kind_in, walk, Fits, listed, entry_before, node_count}
 use Rattle.pol_trie.specs.Standing.{Stands, IsTrie, HasRoom, Becomes, tree_of, tree_under, tree_at, ports_of}
@@ -68,7 +68,7 @@ find-listed (Fork p kind low high) lo hi len fits q =
         ∙ ap (λ x. if same_prefix p q then Some k else x) (sides a b)
 
 -- ---- the tree that is read is the one that stands there
-pub tree_at-stands : (t : Tree) (depth : ℕ) (at : ℕ → Option Node) (link : Option ℕ) (lo hi len : ℕ) → Fits t lo hi len → 17 ≤ depth + len → Stands at link t → tree_at depth at link ≡ t
+pub tree_at-stands : (t : Tree) (depth : ℕ) (at : ℕ → Option PortNode) (link : Option ℕ) (lo hi len : ℕ) → Fits t lo hi len → 17 ≤ depth + len → Stands at link t → tree_at depth at link ≡ t
 unfolding tree_at
 tree_at-stands Leaf zero at link lo hi len fits deep s = refl
 tree_at-stands Leaf (suc depth) at link lo hi len fits deep s = ap (tree_under (tree_at depth at) at) s
@@ -81,7 +81,7 @@ tree_at-stands (Fork p kind low high) (suc depth) at link lo hi len fits deep s 
     ap (tree_under (tree_at depth at) at) is ∙ ap (tree_of (tree_at depth at)) there ∙ (λ x. Fork (port x) (kind_is x) (a x) (b x))
 
 -- ---- the map
-pub get-ports_of : (nodes : Pool Node) (root : Option ℕ) (w : IsTrie nodes root) (q : PortPrefix) → map.get (ports_of nodes root) q ≡ kind_in w.tree q
+pub get-ports_of : (nodes : Pool PortNode) (root : Option ℕ) (w : IsTrie nodes root) (q : PortPrefix) → map.get (ports_of nodes root) q ≡ kind_in w.tree q
 unfolding ports_of
 get-ports_of nodes root w q =
     map.get-from_entries prefix_cmp_total (listed (tree_at 17 (node_at nodes) root)) q
@@ -92,7 +92,7 @@ same_maps : (m n : PortMap) → ((q : PortPrefix) → map.get m q ≡ map.get n 
 same_maps = map.same_map prefix_cmp_total prefix_cmp-same
 
 -- a pool whose tree has these kinds is seen as this map
-pub ports_of-is : (nodes : Pool Node) (root : Option ℕ) (w : IsTrie nodes root) (m : PortMap) → ((q : PortPrefix) → kind_in w.tree q ≡ map.get m q) → ports_of nodes root ≡ m
+pub ports_of-is : (nodes : Pool PortNode) (root : Option ℕ) (w : IsTrie nodes root) (m : PortMap) → ((q : PortPrefix) → kind_in w.tree q ≡ map.get m q) → ports_of nodes root ≡ m
 ports_of-is nodes root w m is = same_maps (ports_of nodes root) m (λ q. get-ports_of nodes root w q ∙ is q)
 
 eq_flip : (p q : PortPrefix) → eq_by_cmp prefix_cmp q p ≡ same_prefix p q
@@ -106,56 +106,56 @@ get-taken m p q = map.get-remove prefix_cmp_total m p q ∙ ap (λ b. cond b Non
 
 -- ---- a change of one prefix
 -- the pool still has a trie
-abbrev pub IsTrie-after : (old new : Pool Node) (root root' : Option ℕ) (w : IsTrie old root) (kinds : PortPrefix → Option Kind)
+abbrev pub IsTrie-after : (old new : Pool PortNode) (root root' : Option ℕ) (w : IsTrie old root) (kinds : PortPrefix → Option Kind)
     → Becomes old new root' kinds (node_count w.tree) 0 (2 ^ 16) 0 → IsTrie new root'
 IsTrie-after old new root root' w kinds b = record { tree = b.tree; holds = b.holds; count = omega (arith, b.count, w.count) }
 
 -- and its map has the prefix's new kind, and each other prefix the kind that it had
-ports_after : (old new : Pool Node) (root root' : Option ℕ) (w : IsTrie old root) (port : PortPrefix) (value : Option Kind)
+ports_after : (old new : Pool PortNode) (root root' : Option ℕ) (w : IsTrie old root) (port : PortPrefix) (value : Option Kind)
     → (b : Becomes old new root' (with_kind port value w.tree) (node_count w.tree) 0 (2 ^ 16) 0) → (q : PortPrefix)
     → map.get (ports_of new root') q ≡ (if same_prefix port q then value else map.get (ports_of old root) q)
 ports_after old new root root' w port value b q =
     get-ports_of new root' (IsTrie-after old new root root' w (with_kind port value w.tree) b) q ∙ b.same q
     ∙ ap (λ x. if same_prefix port q then value else x) (sym (get-ports_of old root w q))
 
-pub ports_of-put : (old new : Pool Node) (root root' : Option ℕ) (w : IsTrie old root) (port : PortPrefix) (kind : Kind)
+pub ports_of-put : (old new : Pool PortNode) (root root' : Option ℕ) (w : IsTrie old root) (port : PortPrefix) (kind : Kind)
     → Becomes old new root' (with_kind port (Some kind) w.tree) (node_count w.tree) 0 (2 ^ 16) 0 → ports_of new root' ≡ map.insert (ports_of old root) port kind
 ports_of-put old new root root' w port kind b =
     same_maps (ports_of new root') (map.insert (ports_of old root) port kind) (λ q. ports_after old new root root' w port (Some kind) b q ∙ sym (get-put (ports_of old root) port kind q))
 
-pub ports_of-taken : (old new : Pool Node) (root root' : Option ℕ) (w : IsTrie old root) (port : PortPrefix)
+pub ports_of-taken : (old new : Pool PortNode) (root root' : Option ℕ) (w : IsTrie old root) (port : PortPrefix)
     → Becomes old new root' (with_kind port None w.tree) (node_count w.tree) 0 (2 ^ 16) 0 → ports_of new root' ≡ map.remove (ports_of old root) port
 ports_of-taken old new root root' w port b =
     same_maps (ports_of new root') (map.remove (ports_of old root) port) (λ q. ports_after old new root root' w port None b q ∙ sym (get-taken (ports_of old root) port q))
 
 -- ---- a pool without a root, and with more room
-pub ports_of-none : (nodes : Pool Node) → ports_of nodes None ≡ map.empty
+pub ports_of-none : (nodes : Pool PortNode) → ports_of nodes None ≡ map.empty
 unfolding ports_of tree_at
 ports_of-none nodes = refl
 
-pub IsTrie-room : (p new : Pool Node) (root : Option ℕ) (spare : ℕ) → new ≡ record p { spare = spare } → IsTrie p root → IsTrie new root
+pub IsTrie-room : (p new : Pool PortNode) (root : Option ℕ) (spare : ℕ) → new ≡ record p { spare = spare } → IsTrie p root → IsTrie new root
 IsTrie-room p new root spare e w =
-    let P : Pool Node → Type 0 = λ x. IsTrie x root in
+    let P : Pool PortNode → Type 0 = λ x. IsTrie x root in
     let h = w.holds in
     subst P (sym e) (record { tree = w.tree; holds = record { stands = h.stands; fits = h.fits; tight = h.tight }; count = w.count })
 
-pub ports_of-room : (p new : Pool Node) (root : Option ℕ) (spare : ℕ) → new ≡ record p { spare = spare } → ports_of new root ≡ ports_of p root
+pub ports_of-room : (p new : Pool PortNode) (root : Option ℕ) (spare : ℕ) → new ≡ record p { spare = spare } → ports_of new root ≡ ports_of p root
 unfolding ports_of
 ports_of-room p new root spare e = ap (λ x. ports_of x root) e ∙ same p root spare
   where
-    same : (p : Pool Node) (root : Option ℕ) (spare : ℕ) → ports_of (record p { spare = spare }) root ≡ ports_of p root
+    same : (p : Pool PortNode) (root : Option ℕ) (spare : ℕ) → ports_of (record p { spare = spare }) root ≡ ports_of p root
     same p root spare = refl
 
-pub HasRoom-from : (p : Pool Node) (root : Option ℕ) (w : IsTrie p root) (port : PortPrefix) → port.bits < 2 ^ 16 → (kind_in w.tree port ≡ None → 2 ≤ p.spare) → HasRoom p root port
+pub HasRoom-from : (p : Pool PortNode) (root : Option ℕ) (w : IsTrie p root) (port : PortPrefix) → port.bits < 2 ^ 16 → (kind_in w.tree port ≡ None → 2 ≤ p.spare) → HasRoom p root port
 HasRoom-from p root w port below room =
     record { tree = w.tree; lo = 0; hi = 2 ^ 16; len = 0; holds = w.holds; takes = takes_all port below; room = room }
 
 -- the pool has far fewer nodes than indices
-pub few_nodes : (p : Pool Node) (root : Option ℕ) → IsTrie p root → nodes_in_use p < 2 ^ 17
+pub few_nodes : (p : Pool PortNode) (root : Option ℕ) → IsTrie p root → nodes_in_use p < 2 ^ 17
 few_nodes p root w = omega (arith, w.count, node_count-below w.tree 0 (2 ^ 16) 0 w.holds.fits (omega arith))
 
 -- what decides by the tree decides by the map
-pub Decides-ports : (p : Pool Node) (root : Option ℕ) (w : IsTrie p root) (m : PortMap) → ports_of p root ≡ m → (port : ℕ) (r : Option Kind) → r ≡ walk w.tree port None → Decides (map.get m) port r
+pub Decides-ports : (p : Pool PortNode) (root : Option ℕ) (w : IsTrie p root) (m : PortMap) → ports_of p root ≡ m → (port : ℕ) (r : Option Kind) → r ≡ walk w.tree port None → Decides (map.get m) port r
 Decides-ports p root w m is port r found =
     let D : Option Kind → Type 0 = λ x. Decides (map.get m) port x in
     let F : (PortPrefix → Option Kind) → Type 0 = λ f. Decides f port (walk w.tree port None) in

@@ -7,7 +7,7 @@ use Rattle.pol_ports.specs.declared.PortPrefix.{PortPrefix}
 use Rattle.pol_ports.specs.PortPrefix.{end_of, same_prefix}
 use Rattle.pol_ports.proofs.Same.{same_prefix-is}
 use Rattle.pol_mapkey.specs.declared.Kind.{Kind}
-use Rattle.pol_trie.specs.declared.node.Node.{Node}
+use Rattle.pol_trie.specs.declared.node.PortNode.{PortNode}
 use Rattle.pol_trie.specs.Tree.{Tree, Leaf, Fork, is_upper, Parts, middle, kind_in, Inside, Fits, IsFork, IsNeeded, IsTight, IsLooselyTight, node_count}
 use Rattle.pol_trie.specs.Links.{child, with_child, node_of}
 use Rattle.pol_trie.specs.Standing.{Stands, Holds, LooselyHolds, Becomes}
@@ -20,22 +20,22 @@ abbrev pub with_kind : PortPrefix → Option Kind → Tree → PortPrefix → Op
 with_kind port value t q = if same_prefix port q then value else kind_in t q
 
 -- a tree with these kinds stands below a node, as in `Becomes`. Its first prefix is needed at least where `sure` holds.
-pub record Changed (old new : Pool Node) (i : ℕ) (kinds : PortPrefix → Option Kind) (before lo hi len : ℕ) (sure : Type 0) : Type 0 where
+pub record Changed (old new : Pool PortNode) (i : ℕ) (kinds : PortPrefix → Option Kind) (before lo hi len : ℕ) (sure : Type 0) : Type 0 where
   pub tree : Tree
   pub holds : LooselyHolds new i tree lo hi len
   pub same : (q : PortPrefix) → kind_in tree q ≡ kinds q
   pub count : nodes_in_use new + before ≡ nodes_in_use old + node_count tree
-  pub others : (j : ℕ) (n : Node) → node_at old j ≡ Some n → (Inside n.port lo hi len → ⊥) → node_at new j ≡ Some n
+  pub others : (j : ℕ) (n : PortNode) → node_at old j ≡ Some n → (Inside n.port lo hi len → ⊥) → node_at new j ≡ Some n
   pub tight : sure → IsTight tree
 
-pub becomes : (old new : Pool Node) (i : ℕ) (kinds : PortPrefix → Option Kind) (before lo hi len : ℕ) (sure : Type 0) → sure
+pub becomes : (old new : Pool PortNode) (i : ℕ) (kinds : PortPrefix → Option Kind) (before lo hi len : ℕ) (sure : Type 0) → sure
     → Changed old new i kinds before lo hi len sure → Becomes old new (Some i) kinds before lo hi len
 becomes old new i kinds before lo hi len sure given c =
     let h = c.holds in
     record { tree = c.tree; holds = record { stands = h.stands; fits = h.fits; tight = c.tight given }; same = c.same; count = c.count; others = c.others }
 
 -- what is settled after a change
-pub settled : (old mid new : Pool Node) (i : ℕ) (link : Option ℕ) (kinds : PortPrefix → Option Kind) (before lo hi len : ℕ) (sure : Type 0)
+pub settled : (old mid new : Pool PortNode) (i : ℕ) (link : Option ℕ) (kinds : PortPrefix → Option Kind) (before lo hi len : ℕ) (sure : Type 0)
     → (c : Changed old mid i kinds before lo hi len sure) → Becomes mid new link (kind_in c.tree) (node_count c.tree) lo hi len
     → Becomes old new link kinds before lo hi len
 settled old mid new i link kinds before lo hi len sure c b =
@@ -52,7 +52,7 @@ needed_with None low high some = absurd (cc)
 needed_with (Some kind) low high some = tt
 
 -- ---- the kind of the first node
-pub here_changed : (old new : Pool Node) (i : ℕ) (n : Node) (port : PortPrefix) (value : Option Kind) → node_at old i ≡ Some n
+pub here_changed : (old new : Pool PortNode) (i : ℕ) (n : PortNode) (port : PortPrefix) (value : Option Kind) → node_at old i ≡ Some n
     → Updates old new i (Some (record n { kind = value })) → nodes_in_use new ≡ nodes_in_use old → same_prefix n.port port ≡ true
     → (t : Tree) (lo hi len : ℕ) → Holds old (Some i) t lo hi len → Changed old new i (with_kind port value t) (node_count t) lo hi len (IsSome value)
 here_changed old new i n port value there u counted same t lo hi len h =
@@ -87,12 +87,12 @@ here_changed old new i n port value there u counted same t lo hi len h =
 
 -- ---- what stands below a link of the first node
 -- what a change below a link makes of the tree there
-abbrev pub ChangesBelow : Pool Node → Pool Node → Option ℕ → Option ℕ → PortPrefix → Option Kind → ℕ → ℕ → ℕ → Type 0
+abbrev pub ChangesBelow : Pool PortNode → Pool PortNode → Option ℕ → Option ℕ → PortPrefix → Option Kind → ℕ → ℕ → ℕ → Type 0
 ChangesBelow old mid link x port value lo hi len =
     (t : Tree) → Holds old link t lo hi len → Becomes old mid x (with_kind port value t) (node_count t) lo hi len
 
-pub below_changed : (old mid new : Pool Node) (i : ℕ) (n : Node) (high : Bool) (x : Option ℕ) (port : PortPrefix) (value : Option Kind) → node_at old i ≡ Some n
-    → ((m : Node) → node_at mid i ≡ Some m → Updates mid new i (Some (with_child m high x))) → nodes_in_use new ≡ nodes_in_use mid
+pub below_changed : (old mid new : Pool PortNode) (i : ℕ) (n : PortNode) (high : Bool) (x : Option ℕ) (port : PortPrefix) (value : Option Kind) → node_at old i ≡ Some n
+    → ((m : PortNode) → node_at mid i ≡ Some m → Updates mid new i (Some (with_child m high x))) → nodes_in_use new ≡ nodes_in_use mid
     → Inside port (half_lo n.port high) (half_hi n.port high) (n.port.len + 1)
     → ChangesBelow old mid (child n high) x port value (half_lo n.port high) (half_hi n.port high) (n.port.len + 1)
     → (t : Tree) (lo hi len : ℕ) → Holds old (Some i) t lo hi len
@@ -155,7 +155,7 @@ below_changed old mid new i n high x port value there writes counted port_inside
 
 -- ---- a new node
 -- nothing stood there
-pub leaf_put : (old new : Pool Node) (i : ℕ) (port : PortPrefix) (kind : Kind) → node_at old i ≡ None
+pub leaf_put : (old new : Pool PortNode) (i : ℕ) (port : PortPrefix) (kind : Kind) → node_at old i ≡ None
     → Updates old new i (Some (node_of port (Some kind) false None None)) → nodes_in_use new ≡ nodes_in_use old + 1
     → (t : Tree) (lo hi len : ℕ) → Holds old None t lo hi len → Inside port lo hi len
     → Becomes old new (Some i) (with_kind port (Some kind) t) (node_count t) lo hi len
@@ -176,7 +176,7 @@ leaf_put old new i port kind free u counted t lo hi len h inside =
     choose false false v = refl
 
 -- the tree stands where its first prefix does
-pub moved : (old : Pool Node) (i : ℕ) (n : Node) (t : Tree) → node_at old i ≡ Some n → Stands (node_at old) (Some i) t
+pub moved : (old : Pool PortNode) (i : ℕ) (n : PortNode) (t : Tree) → node_at old i ≡ Some n → Stands (node_at old) (Some i) t
     → (lo hi len lo' hi' len' : ℕ) → Fits t lo hi len → Inside n.port lo' hi' len' → Fits t lo' hi' len'
 moved old i n t there stands lo hi len lo' hi' len' fits inside =
     let r = root (node_at old) i n false t there stands in
@@ -184,7 +184,7 @@ moved old i n t there stands lo hi len lo' hi' len' fits inside =
     subst P (sym r.is) (λ f. (inside, f.1, f.2)) fits
 
 -- a tree stands below the first node, in the half of the new prefix on a side
-pub over_put : (old new : Pool Node) (i j : ℕ) (n : Node) (port : PortPrefix) (kind : Kind) (high : Bool) → high ≡ is_upper port n.port.bits → node_at old i ≡ Some n
+pub over_put : (old new : Pool PortNode) (i j : ℕ) (n : PortNode) (port : PortPrefix) (kind : Kind) (high : Bool) → high ≡ is_upper port n.port.bits → node_at old i ≡ Some n
     → node_at old j ≡ None → Updates old new j (Some (node_of port (Some kind) high (Some i) None)) → nodes_in_use new ≡ nodes_in_use old + 1
     → Inside n.port port.bits (end_of port) (port.len + 1)
     → (t : Tree) (lo hi len : ℕ) → Holds old (Some i) t lo hi len → Inside port lo hi len
@@ -206,7 +206,7 @@ over_put old new i j n port kind high e there free u counted over t lo hi len h 
     }
 
 -- the tree and the new prefix lie in different halves of a fork
-pub beside_put : (old mid new : Pool Node) (i leaf j : ℕ) (n : Node) (fork port : PortPrefix) (kind : Kind) (high : Bool) → high ≡ is_upper fork n.port.bits → node_at old i ≡ Some n
+pub beside_put : (old mid new : Pool PortNode) (i leaf j : ℕ) (n : PortNode) (fork port : PortPrefix) (kind : Kind) (high : Bool) → high ≡ is_upper fork n.port.bits → node_at old i ≡ Some n
     → node_at old leaf ≡ None → Updates old mid leaf (Some (node_of port (Some kind) false None None)) → nodes_in_use mid ≡ nodes_in_use old + 1
     → node_at mid j ≡ None → Updates mid new j (Some (node_of fork None high (Some i) (Some leaf))) → nodes_in_use new ≡ nodes_in_use mid + 1
     → Parts fork n.port port
@@ -218,7 +218,7 @@ beside_put old mid new i leaf j n fork port kind high e there free u counted fre
     let mine = subst I (sym e) (in_half fork n.port parts.has_a) in
     let its = subst J (sym e) (other_half fork n.port port parts) in
     let fits = moved old i n t there h.stands _ _ _ _ _ _ h.fits mine in
-    let old_to_new : (k : ℕ) (m : Node) → node_at old k ≡ Some m → node_at new k ≡ Some m =
+    let old_to_new : (k : ℕ) (m : PortNode) → node_at old k ≡ Some m → node_at new k ≡ Some m =
     λ k m at_k. kept_by_put mid new j _ free' u' k m (kept_by_put old mid leaf _ free u k m at_k) in
     let new_leaf = kept_by_put mid new j _ free' u' leaf _ u.changed in
     let own : kind_in t port ≡ None = outside t (half_lo fork high) (half_hi fork high) (fork.len + 1) fits port
@@ -252,7 +252,7 @@ beside_put old mid new i leaf j n fork port kind high e there free u counted fre
 
 -- ---- a node that nothing needs
 -- one that is needed stays
-pub stays : (p : Pool Node) (i : ℕ) (n : Node) → node_at p i ≡ Some n → (is_some n.kind || (is_some n.low && is_some n.high)) ≡ true
+pub stays : (p : Pool PortNode) (i : ℕ) (n : PortNode) → node_at p i ≡ Some n → (is_some n.kind || (is_some n.low && is_some n.high)) ≡ true
     → (t : Tree) (lo hi len : ℕ) → LooselyHolds p i t lo hi len → Becomes p p (Some i) (kind_in t) (node_count t) lo hi len
 stays p i n there needed t lo hi len h =
     let r = root (node_at p) i n false t there h.stands in
@@ -273,7 +273,7 @@ stays p i n there needed t lo hi len h =
     is_needed None (Some x) (Some y) t a b sa sb = (linked_is_fork (node_at p) x a sa, linked_is_fork (node_at p) y b sb)
 
 -- one that isn't goes, and what stood below it comes in its place
-pub goes : (old new : Pool Node) (i : ℕ) (n : Node) (high : Bool) → node_at old i ≡ Some n → n.kind ≡ None → child n (not high) ≡ None
+pub goes : (old new : Pool PortNode) (i : ℕ) (n : PortNode) (high : Bool) → node_at old i ≡ Some n → n.kind ≡ None → child n (not high) ≡ None
     → Updates old new i None → nodes_in_use new + 1 ≡ nodes_in_use old
     → (t : Tree) (lo hi len : ℕ) → LooselyHolds old i t lo hi len → Becomes old new (child n high) (kind_in t) (node_count t) lo hi len
 goes old new i n high there no_kind no_other u counted t lo hi len h =
@@ -306,7 +306,7 @@ goes old new i n high there no_kind no_other u counted t lo hi len h =
     below_tight p true below l = l.1
     below_tight p false below l = l.0
 
-pub goes_either : (old new : Pool Node) (i : ℕ) (n : Node) → node_at old i ≡ Some n → (is_some n.kind || (is_some n.low && is_some n.high)) ≡ false
+pub goes_either : (old new : Pool PortNode) (i : ℕ) (n : PortNode) → node_at old i ≡ Some n → (is_some n.kind || (is_some n.low && is_some n.high)) ≡ false
     → Updates old new i None → nodes_in_use new + 1 ≡ nodes_in_use old
     → (link : Option ℕ) → link ≡ option_or n.low n.high
     → (t : Tree) (lo hi len : ℕ) → LooselyHolds old i t lo hi len → Becomes old new link (kind_in t) (node_count t) lo hi len

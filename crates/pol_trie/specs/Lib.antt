@@ -1,6 +1,6 @@
 pub mod PortMap
 pub mod PolicyMap
-pub mod Node
+pub mod PortNode
 pub mod Tree
 pub mod Links
 pub mod Standing

@@ -4,12 +4,12 @@ ghost use Rattle.pol_trie.specs.Tree.{Tree};
 ghost use Rattle.pol_trie.specs.Standing.{Holds, FitsInto, Copies};
 
 use crate::links::link_fits;
-use crate::node::Node;
+use crate::node::PortNode;
 use crate::put::add;
 use pol_arena::Pool;
 
 /// Puts the nodes below a link into another pool, each behind those below it. Gives the link to the first of them there.
-pub(crate) fn copied(from: &Pool<Node>, at: Option<u32>, to: &mut Pool<Node>) -> Option<u32>
+pub(crate) fn copied(from: &Pool<PortNode>, at: Option<u32>, to: &mut Pool<PortNode>) -> Option<u32>
     requires { FitsInto from.now at to.old }
     ensures { (t : Tree) (lo hi len : ℕ) → Holds from.now at t lo hi len → Copies to.old to.new result t }
 {

@@ -12,7 +12,7 @@ use std::alloc::Global;
 /// Places in the table of keys, each in the slot that the lowest bits of its identity's number give. The table may have
 /// other keys there, so a look compares them with those that are sought.
 #[derive(Drop)]
-pub(crate) struct Hints {
+pub(crate) struct RootHints {
     places: Vec<u32>,
 }
 
@@ -32,10 +32,10 @@ fn slot_of(root: Root, slots: usize) -> usize {
     OF_ZERO + (number & slots.wrapping_sub(OF_ZERO + 1))
 }
 
-impl Hints {
+impl RootHints {
     /// No hints. It takes no memory.
-    pub(crate) fn new(alloc: Global) -> Hints {
-        Hints {
+    pub(crate) fn new(alloc: Global) -> RootHints {
+        RootHints {
             places: Vec::new(alloc),
         }
     }
@@ -130,8 +130,8 @@ impl Hints {
     }
 
     /// The same hints once more. The one error is want of memory.
-    pub(crate) fn copy(&self) -> Result<Hints, Memory> {
-        Ok(Hints {
+    pub(crate) fn copy(&self) -> Result<RootHints, Memory> {
+        Ok(RootHints {
             places: self.places.clone()?,
         })
     }

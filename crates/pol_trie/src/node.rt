@@ -1,6 +1,6 @@
 //! A node of a trie of port prefixes.
 ghost use Rattle.std.specs.Prelude.{◌≡◌, ◌%◌, ◌^◌, ◌-◌, ◌≤◌, ◌||◌, ◌&&◌, is_some, true, Some, None};
-ghost use Rattle.pol_trie.specs.Node.{held_of, index_of, kind_of, link_of, FitsLink};
+ghost use Rattle.pol_trie.specs.PortNode.{held_of, index_of, kind_of, link_of, FitsLink};
 
 use crate::halves::is_upper;
 use pol_mapkey::Kind;
@@ -22,7 +22,7 @@ pub(crate) enum Held {
 /// A prefix with its kind, if it has one, and the links to the nodes of its lower and its upper half: the index and one, or 0
 /// for none. So a node takes 12 bytes, and the side on which a walk goes on is chosen without a branch.
 #[derive(Clone, Copy, Debug)]
-pub(crate) struct Node {
+pub(crate) struct PortNode {
     bits: u16,
     len: u8,
     held: Held,
@@ -32,11 +32,11 @@ pub(crate) struct Node {
     ghost clear: { bits % 2 ^ (16 - len) ≡ 0 },
 }
 
-const _: () = prove!(size_of::<Node>() == 12);
+const _: () = prove!(size_of::<PortNode>() == 12);
 
-impl Model for Node {
+impl Model for PortNode {
     ghost use Rattle.std.specs.Prelude.{◌≡◌};
-    ghost use Rattle.pol_trie.specs.Node.{Linked, held_of, index_of, kind_of, link_of, held_of-kind_of, index_of-link_of};
+    ghost use Rattle.pol_trie.specs.PortNode.{Linked, held_of, index_of, kind_of, link_of, held_of-kind_of, index_of-link_of};
 
     ghost Value = { Linked };
 
@@ -109,7 +109,7 @@ fn index_of(index: Option<u32>) -> u32
     }
 }
 
-impl Node {
+impl PortNode {
     ghost use Rattle.std.specs.Option.{option_or};
     ghost use Rattle.pol_ports.specs.PortPrefix.{same_prefix, prefix_contains, prefix_holds};
     ghost use Rattle.pol_trie.specs.Tree.{is_upper};
@@ -122,12 +122,12 @@ impl Node {
         kind: Option<Kind>,
         low: Option<u32>,
         high: Option<u32>,
-    ) -> Node
+    ) -> PortNode
         requires low { FitsLink low }
         requires high { FitsLink high }
         ensures { result ≡ record { port = port; kind = kind; low = low; high = high } }
     {
-        Node {
+        PortNode {
             bits: port.bits,
             len: port.len,
             held: held_of(kind),

@@ -7,7 +7,7 @@ ghost use Rattle.pol_trie.specs.Standing.{HasRoom, IsTrie, ports_of};
 
 use crate::fit::copied;
 use crate::halves::first_port;
-use crate::node::Node;
+use crate::node::PortNode;
 use crate::put::put;
 use crate::take::take;
 use crate::walk::{kind_at, longest};
@@ -25,7 +25,7 @@ const LEAST_ROOM: u32 = 16;
 /// A finite map from port prefixes to kinds, in which a port is looked up by the longest prefix that has it.
 #[derive(Drop)]
 pub(crate) struct PortTrie {
-    nodes: Pool<Node>,
+    nodes: Pool<PortNode>,
     root: Option<u32>,
     // How many nodes were in use at once since the pool was made: it has room for about twice as many at most.
     most: u32,
@@ -46,7 +46,7 @@ impl Model for PortTrie {
 }
 
 /// Makes room for two nodes. Where there is no memory for them, that is an error only if the prefix has no kind yet.
-fn make_room(nodes: &mut Pool<Node>, root: Option<u32>, port: &PortPrefix) -> Result<(), Memory>
+fn make_room(nodes: &mut Pool<PortNode>, root: Option<u32>, port: &PortPrefix) -> Result<(), Memory>
     requires { IsTrie nodes.old root }
     ensures trie { IsTrie nodes.new root }
     ensures takes { Takes 0 (2 ^ 16) 0 port.now }

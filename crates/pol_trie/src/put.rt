@@ -4,12 +4,12 @@ ghost use Rattle.pol_arena.specs.Pool.{node_at, nodes_in_use, Updates};
 ghost use Rattle.pol_ports.specs.PortPrefix.{same_prefix, prefix_contains};
 ghost use Rattle.pol_trie.specs.Tree.{Tree, Parts, Takes, both_low, both_high, kind_in, node_count};
 ghost use Rattle.pol_trie.specs.Links.{node_of};
-ghost use Rattle.pol_trie.specs.Node.{FitsLink};
+ghost use Rattle.pol_trie.specs.PortNode.{FitsLink};
 ghost use Rattle.pol_trie.specs.Standing.{Holds, HasRoom, IsBelow, Becomes};
 
 use crate::halves::{first_port, is_upper, middle};
 use crate::links::{fits, link, link_fits, set_kind};
-use crate::node::Node;
+use crate::node::PortNode;
 use pol_arena::Pool;
 use pol_mapkey::Kind;
 use pol_ports::PortPrefix;
@@ -68,7 +68,7 @@ fn around(a: &PortPrefix, b: &PortPrefix) -> PortPrefix
 
 /// A new node, with one node below it on this side and another on the other.
 pub(crate) fn add(
-    nodes: &mut Pool<Node>,
+    nodes: &mut Pool<PortNode>,
     port: PortPrefix,
     kind: Option<Kind>,
     high: bool,
@@ -84,12 +84,12 @@ pub(crate) fn add(
     ensures spare { nodes.new.spare ≡ nodes.old.spare - 1 }
 {
     let (low, high) = if high { (other, below) } else { (below, other) };
-    nodes.put(Node::new(port, kind, low, high))
+    nodes.put(PortNode::new(port, kind, low, high))
 }
 
 /// Puts the kind under a prefix that the prefix of this node doesn't contain, below the same link. Gives the node there.
 fn put_over(
-    nodes: &mut Pool<Node>,
+    nodes: &mut Pool<PortNode>,
     at: u32,
     below: &PortPrefix,
     port: PortPrefix,
@@ -113,7 +113,7 @@ fn put_over(
 
 /// Puts the kind under the prefix, below a link. Gives the node that stands there then, and the kind that the prefix had.
 pub(crate) fn put(
-    nodes: &mut Pool<Node>,
+    nodes: &mut Pool<PortNode>,
     at: Option<u32>,
     port: PortPrefix,
     kind: Kind,

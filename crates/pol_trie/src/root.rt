@@ -7,7 +7,7 @@ ghost use Rattle.indexmap.specs.IndexMap.{IsUnique};
 ghost use Rattle.pol_trie.specs.declared.root.Root.{Root as TheRoot};
 ghost use Rattle.pol_trie.specs.Roots.{policy_of, root_of, row_keys, tells_zero, TellsZero};
 
-use crate::hints::Hints;
+use crate::hints::RootHints;
 use crate::key_set::KeySet;
 use indexmap::IndexMap;
 use pol_data::{Memory, Steps};
@@ -166,7 +166,7 @@ pub(crate) fn clear_row(roots: &mut IndexMap<Root, KeySet>, zeros: &mut Zeros, k
 }
 
 /// Whether the trie of the key has room for far more nodes than are in use.
-pub(crate) fn is_roomy(roots: &IndexMap<Root, KeySet>, hints: &Hints, key: &MapKey) -> bool {
+pub(crate) fn is_roomy(roots: &IndexMap<Root, KeySet>, hints: &RootHints, key: &MapKey) -> bool {
     match hints.find(roots, root_of(key)) {
         Some(keys) => keys.is_roomy(key.proto),
         None => false,
@@ -189,7 +189,7 @@ pub(crate) fn give_back_row(roots: &mut IndexMap<Root, KeySet>, key: &MapKey) ->
 /// step.
 pub(crate) fn longest<L: Ledger>(
     roots: &IndexMap<Root, KeySet>,
-    hints: &Hints,
+    hints: &RootHints,
     root: Root,
     proto: Proto,
     port: u16,
@@ -209,7 +209,7 @@ pub(crate) fn longest<L: Ledger>(
 /// The same of identity 0, whose keys are sought only where it has some.
 pub(crate) fn longest_of_zero<L: Ledger>(
     roots: &IndexMap<Root, KeySet>,
-    hints: &Hints,
+    hints: &RootHints,
     zeros: Zeros,
     dir: Direction,
     proto: Proto,

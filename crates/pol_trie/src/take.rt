@@ -5,12 +5,12 @@ ghost use Rattle.pol_trie.specs.Tree.{Tree, Inside, kind_in, node_count};
 ghost use Rattle.pol_trie.specs.Standing.{Holds, IsWell, IsLoose, LooselyHolds, Becomes};
 
 use crate::links::{link, link_fits, set_kind};
-use crate::node::Node;
+use crate::node::PortNode;
 use pol_arena::Pool;
 use pol_ports::PortPrefix;
 
 /// Takes a node out where it has no kind and at most one node below it. Gives what stands in its place.
-fn settle(nodes: &mut Pool<Node>, at: u32) -> Option<u32>
+fn settle(nodes: &mut Pool<PortNode>, at: u32) -> Option<u32>
     requires { IsLoose nodes.old at }
     ensures { (t : Tree) (lo hi len : ℕ) → LooselyHolds nodes.old at t lo hi len
         → Becomes nodes.old nodes.new result (kind_in t) (node_count t) lo hi len }
@@ -24,7 +24,7 @@ fn settle(nodes: &mut Pool<Node>, at: u32) -> Option<u32>
 }
 
 /// Takes the prefix out, below a link. Gives the node that stands there then.
-pub(crate) fn take(nodes: &mut Pool<Node>, at: Option<u32>, port: &PortPrefix) -> Option<u32>
+pub(crate) fn take(nodes: &mut Pool<PortNode>, at: Option<u32>, port: &PortPrefix) -> Option<u32>
     requires { IsWell nodes.old at }
     ensures { (t : Tree) (lo hi len : ℕ) → Holds nodes.old at t lo hi len
         → Becomes nodes.old nodes.new result (λ q. if same_prefix port.now q then None else kind_in t q) (node_count t) lo hi len }

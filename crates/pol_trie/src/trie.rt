@@ -3,7 +3,7 @@ ghost use Rattle.std.specs.Prelude.{◌≡◌, ◌+◌, ◌*◌, ◌<◌, ◌≤
 ghost use Rattle.std.specs.FinMap as map;
 ghost use Rattle.pol_mapkey.specs.Entries.{read_map};
 
-use crate::hints::Hints;
+use crate::hints::RootHints;
 use crate::key_set::KeySet;
 use crate::root::{
     Root, Zeros, clear_row, give_back_row, is_roomy, last_root, longest, longest_of_zero, nodes,
@@ -22,7 +22,7 @@ use std::sync::ledger::Ledger;
 #[derive(Drop)]
 pub struct PolicyTrie {
     roots: IndexMap<Root, KeySet>,
-    hints: Hints,
+    hints: RootHints,
     zeros: Zeros,
     count: u32,
     alloc: Global,
@@ -54,7 +54,7 @@ impl PolicyTrie {
         let zeros = Zeros::of(&roots);
         PolicyTrie {
             roots,
-            hints: Hints::new(alloc),
+            hints: RootHints::new(alloc),
             zeros,
             count: 0,
             alloc,

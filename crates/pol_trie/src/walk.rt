@@ -3,7 +3,7 @@ ghost use Rattle.std.specs.Prelude.{◌≡◌, ◌+◌, ℕ, None};
 ghost use Rattle.pol_trie.specs.Tree.{Tree, kind_in, walk, visits};
 ghost use Rattle.pol_trie.specs.Standing.{Holds, IsWell};
 
-use crate::node::Node;
+use crate::node::PortNode;
 use pol_arena::Pool;
 use pol_data::Steps;
 use pol_mapkey::Kind;
@@ -11,7 +11,7 @@ use pol_ports::PortPrefix;
 use std::sync::ledger::Ledger;
 
 /// The kind of a prefix below a link.
-pub(crate) fn kind_at(nodes: &Pool<Node>, root: Option<u32>, port: &PortPrefix) -> Option<Kind>
+pub(crate) fn kind_at(nodes: &Pool<PortNode>, root: Option<u32>, port: &PortPrefix) -> Option<Kind>
     requires { IsWell nodes.now root }
     ensures { (t : Tree) (lo hi len : ℕ) → Holds nodes.now root t lo hi len → result ≡ kind_in t port.now }
 {
@@ -28,7 +28,7 @@ pub(crate) fn kind_at(nodes: &Pool<Node>, root: Option<u32>, port: &PortPrefix) 
 
 /// The kind of the longest prefix below a link that has the port. Each node that is visited is one step.
 pub(crate) fn longest<L: Ledger>(
-    nodes: &Pool<Node>,
+    nodes: &Pool<PortNode>,
     root: Option<u32>,
     port: u16,
     steps: &mut Steps<L>,

@@ -11,9 +11,9 @@ loop-mark-init c =
 pub loop-mark-preserved : goal.loop-mark-preserved
 loop-mark-preserved c =
     let old = c.loop-mark.left in let new = c.answer.new.self in
-    leads-more c.args.marks c.args.told.items c.loop-mark.waiting c.next.new.self c.loop-mark.answers.items c.push.new.self.items old.number new.number
-    (old.current.items ∷ old.later.items) c.in-Some.mark c.answer.result new.current.items new.later.items c.in-Some.ensures.first c.in_ok-push.ensures.items
-    c.answer.ensures.answer c.answer.ensures.number c.answer.ensures.told c.loop-mark.invariant
+    leads-more c.args.marks c.args.told.items c.loop-mark.waiting c.next.new.self c.loop-mark.answers.items c.answer.new.answers.items old.number new.number
+    (old.current.items ∷ old.later.items) c.in-Some.mark new.current.items new.later.items c.in-Some.ensures.first c.in_ok-answer.ensures.answer
+    c.answer.ensures.number c.answer.ensures.told c.loop-mark.invariant
 
 pub answer-requires : goal.answer-requires
 answer-requires c = omega (arith, c.loop-mark.invariant.few, c.loop-mark.answers.ok.0, c.loop-mark.answers.ok.1, c.loop-mark.answers.small)

@@ -6,7 +6,7 @@ use Rattle.pol_model.specs.Verdict.{verdict_of}
 use Rattle.pol_model_laws.proofs.KeepsAll.{state_keeps}
 use Rattle.pol_model_laws.proofs.Positive.{rows_positive}
 use Rattle.pol_distill.proofs.MapLaw.{read_is_verdict}
-use Rattle.pol_addresses.specs.AddressTable.{number_in}
+use Rattle.pol_prefixes.specs.AddressTable.{number_in}
 use Rattle.pol_taken.proofs.Agreed.{taken_map}
 use Rattle.pol_repo.proofs.Sides.{address_is_number}
 use Rattle.pol_repo.proofs.laws.what_is_taken_judges_addresses.Goals as goal

@@ -2,7 +2,7 @@ use Rattle.std.proofs.Common.{◌≡◌, ℕ, ◌^◌, max, true, false, not, Op
 use Rattle.std.specs.FinMap as map
 use Rattle.pol_arena.specs.Pool.{Pool}
 use Rattle.pol_mapkey.specs.declared.Kind.{Kind}
-use Rattle.pol_trie.specs.declared.node.Node.{Node}
+use Rattle.pol_trie.specs.declared.node.PortNode.{PortNode}
 use Rattle.pol_trie.specs.Standing.{IsTrie, ports_of}
 use Rattle.pol_trie.proofs.Prefixes.{takes_all}
 use Rattle.pol_trie.proofs.Listing.{few_nodes, get-ports_of, IsTrie-room, ports_of-room, HasRoom-from}
@@ -31,11 +31,11 @@ returns-in-Ok-clause-same c = ports_of-room c.args.nodes.now c.reserve.new.self 
 pub returns-in-Ok-clause-ok : goal.returns-in-Ok-clause-ok
 returns-in-Ok-clause-ok c =
     let w = IsTrie-room c.args.nodes.now c.reserve.new.self c.args.root _ c.in-Ok.ensures.ok c.requires in
-    let spare : c.reserve.new.self.spare ≡ max c.args.nodes.now.spare 2 = ap (λ (p : Pool Node). p.spare) c.in-Ok.ensures.ok in
+    let spare : c.reserve.new.self.spare ≡ max c.args.nodes.now.spare 2 = ap (λ (p : Pool PortNode). p.spare) c.in-Ok.ensures.ok in
     HasRoom-from c.reserve.new.self c.args.root w c.args.port.now (omega (arith, c.first_port.ensures, c.first_port.type_inv)) (λ none. omega (arith, spare))
 
-same_trie : (old new : Pool Node) (root : Option ℕ) → new ≡ old → IsTrie old root → IsTrie new root
-same_trie old new root same w = (let P : Pool Node → Type 0 = λ x. IsTrie x root in subst P (sym same) w)
+same_trie : (old new : Pool PortNode) (root : Option ℕ) → new ≡ old → IsTrie old root → IsTrie new root
+same_trie old new root same w = (let P : Pool PortNode → Type 0 = λ x. IsTrie x root in subst P (sym same) w)
 
 pub kind_at-requires : goal.kind_at-requires
 kind_at-requires c = (let w = same_trie c.args.nodes.now c.reserve.new.self c.args.root c.in-Err.ensures.err c.requires in record { tree = w.tree; lo = 0; hi = 2 ^ 16; len = 0; holds = w.holds })

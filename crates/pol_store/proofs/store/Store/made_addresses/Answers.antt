@@ -3,7 +3,7 @@ use Rattle.std.specs.Arc.{arc_value}
 use Rattle.pol_model.specs.declared.row.Endpoint.{Endpoint}
 use Rattle.pol_model.specs.Remote.{number_at}
 use Rattle.pol_prefixes.specs.Tables.{IsTableOf}
-use Rattle.pol_addresses.specs.AddressTable.{number_in}
+use Rattle.pol_prefixes.specs.AddressTable.{number_in}
 use Rattle.pol_store.specs.Store.{Stored}
 use Rattle.pol_store.proofs.store.Store.made_addresses.Goals as goal
 

@@ -1,6 +1,6 @@
 use Rattle.std.proofs.Common.{◌≡◌, max, ap, ◌∙◌, arith}
 use Rattle.pol_arena.specs.Pool.{Pool, nodes_in_use}
-use Rattle.pol_trie.specs.declared.node.Node.{Node}
+use Rattle.pol_trie.specs.declared.node.PortNode.{PortNode}
 use Rattle.pol_trie.proofs.Listing.{few_nodes}
 use Rattle.pol_trie.proofs.Copying.{fits_into, trie_copied, ports_copied}
 use Rattle.pol_trie.proofs.ports.PortTrie.fitting.Goals as goal
@@ -11,7 +11,7 @@ reserve-requires c =
 
 pub copied-root-requires : goal.copied-root-requires
 copied-root-requires c =
-    let spare : c.reserve.new.self.spare ≡ max c.new-nodes.result.spare c.nodes_in_use-most.result = ap (λ (p : Pool Node). p.spare) c.in_ok-reserve.ensures.ok in
+    let spare : c.reserve.new.self.spare ≡ max c.new-nodes.result.spare c.nodes_in_use-most.result = ap (λ (p : Pool PortNode). p.spare) c.in_ok-reserve.ensures.ok in
     fits_into c.self.inside.nodes c.self.inside.root c.self.invariant c.reserve.new.self (omega (arith, spare, c.nodes_in_use-most.ensures.count))
 
 pub invariant_of-result : goal.invariant_of-result

@@ -1,8 +1,8 @@
 use Rattle.std.proofs.Common.{sym, ap, ◌∙◌}
 use Rattle.pol_trie.specs.Links.{with_child}
-use Rattle.pol_trie.specs.Node.{Linked, link_of}
+use Rattle.pol_trie.specs.PortNode.{Linked, link_of}
 use Rattle.pol_trie.proofs.Linking.{linked_back, linked_is}
-use Rattle.pol_trie.proofs.node.Node.set_child.Goals as goal
+use Rattle.pol_trie.proofs.node.PortNode.set_child.Goals as goal
 
 pub returns-then-high : goal.returns-then-high
 returns-then-high c =

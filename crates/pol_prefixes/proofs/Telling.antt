@@ -8,7 +8,7 @@ use Rattle.pol_model.specs.Remote.{endpoint_at, longest_at, number_at}
 use Rattle.pol_model.specs.Worlds.{world_of}
 use Rattle.pol_prefixes.specs.Tables.{IsTableOf}
 use Rattle.pol_prefixes.proofs.Tables.{longest_found}
-use Rattle.pol_addresses.specs.AddressTable.{AddressTable, TellIdentities, number_in}
+use Rattle.pol_prefixes.specs.AddressTable.{AddressTable, TellIdentities, number_in}
 
 number_or : (o : Option Endpoint) (other : ℕ) → option_map_or (λ n. n) (option_map (λ (e : Endpoint). e.identity) o) other ≡ option_map_or (λ (e : Endpoint). e.identity) o other
 number_or None other = refl

@@ -5,7 +5,7 @@ ghost use Rattle.pol_addr.specs.declared.address.Addr.{Addr as OneAddr};
 ghost use Rattle.pol_model.specs.declared.row.IdentityRow.{IdentityRow as OneRow};
 ghost use Rattle.pol_model.specs.Remote.{number_at};
 ghost use Rattle.pol_prefixes.specs.Tables.{IsTableOf};
-ghost use Rattle.pol_addresses.specs.AddressTable.{TellIdentities, number_in};
+ghost use Rattle.pol_prefixes.specs.AddressTable.{TellIdentities, number_in};
 
 use indexmap::IndexMap;
 use pol_addr::Addr;
@@ -25,7 +25,7 @@ pub struct Addresses {
 }
 
 impl Model for Addresses {
-    ghost use Rattle.pol_addresses.specs.AddressTable.{AddressTable, address_code};
+    ghost use Rattle.pol_prefixes.specs.AddressTable.{AddressTable, address_code};
 
     ghost Value = { AddressTable };
 

@@ -1,6 +1,6 @@
 use Rattle.std.proofs.Common.{drop}
-use Rattle.pol_addresses.specs.AddressTable.{TellIdentities}
-use Rattle.pol_addresses.proofs.addresses.identities_of.Given as goal
+use Rattle.pol_prefixes.specs.AddressTable.{TellIdentities}
+use Rattle.pol_prefixes.proofs.addresses.identities_of.Given as goal
 
 -- the identities of the endpoints gone through, from the last one on
 abbrev pub invariant-loop-i : goal.invariant-loop-i

@@ -1,6 +1,6 @@
 use Rattle.std.specs.Arc.{arc_value}
-use Rattle.pol_addresses.proofs.Telling.{number_told}
-use Rattle.pol_addresses.proofs.addresses.Addresses.new.Goals as goal
+use Rattle.pol_prefixes.proofs.Telling.{number_told}
+use Rattle.pol_prefixes.proofs.addresses.Addresses.new.Goals as goal
 
 pub returns : goal.returns
 returns c = record {

@@ -1,7 +1,7 @@
 use Rattle.std.proofs.Common.{refl, ap, ◌∙◌}
-use Rattle.pol_trie.specs.Node.{kind_of, link_of}
+use Rattle.pol_trie.specs.PortNode.{kind_of, link_of}
 use Rattle.pol_trie.proofs.Linking.{held_back, linked_back, linked_is}
-use Rattle.pol_trie.proofs.node.Node.new.Goals as goal
+use Rattle.pol_trie.proofs.node.PortNode.new.Goals as goal
 
 pub returns : goal.returns
 returns c =

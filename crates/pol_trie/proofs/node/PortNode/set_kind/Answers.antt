@@ -1,7 +1,7 @@
 use Rattle.std.proofs.Common.{ap, ◌∙◌}
-use Rattle.pol_trie.specs.Node.{Linked, kind_of}
+use Rattle.pol_trie.specs.PortNode.{Linked, kind_of}
 use Rattle.pol_trie.proofs.Linking.{held_back, linked_is}
-use Rattle.pol_trie.proofs.node.Node.set_kind.Goals as goal
+use Rattle.pol_trie.proofs.node.PortNode.set_kind.Goals as goal
 
 pub returns : goal.returns
 returns c =
