@@ -1,3 +1,4 @@
+pub mod Given
 pub mod Turns
 pub mod Json
 pub mod Cuts

@@ -1,13 +1,10 @@
 -- The names that a line asks for have their forms: an endpoint's name is a name of the script, and a policy's key is one of a
 -- document that is read.
-use Rattle.std.proofs.Common.{◌≡◌, ℕ, Bool, true, false, cond, ◌||◌, List, [], ◌∷◌, ◌++◌, Option, None, Some, ok_or, option_and_then, Result, Ok, Err, IsTrue, refl, sym, ap, subst, ◌∙◌}
-use Rattle.std.specs.Prelude.{⊤}
+use Rattle.std.proofs.Common.{◌≡◌, ℕ, Bool, true, false, cond, ◌||◌, List, [], ◌++◌, Option, Result, Ok, Err, IsTrue, refl, sym, ap, subst, ◌∙◌}
 use Rattle.serde_json.specs.Data.{Data}
-use Rattle.serde_json.specs.Find.{as_str}
 use Rattle.pol_addr.specs.declared.address.Addr.{Addr}
 use Rattle.pol_json.proofs.Keys.{key_name, key_namespace, wide_key}
 use Rattle.pol_json.specs.Document.{read_document}
-use Rattle.pol_json.specs.Members.{present}
 use Rattle.pol_json.specs.Network.{is_network_policy, network_name, network_namespace}
 use Rattle.pol_json.specs.Texts.{is_dns_name, is_name}
 use Rattle.pol_json.specs.declared.fault.DocFault.{DocFault}
@@ -26,13 +23,12 @@ use Rattle.pol_rule.specs.declared.policy.PolicyKey.{PolicyKey}
 use Rattle.pol_rule.specs.declared.raw.RawPolicy.{RawPolicy}
 use Rattle.pol_sanitize.proofs.Wholeness.{accepted_whole}
 use Rattle.pol_sanitize.specs.Sanitized.{sanitized_of}
+use Rattle.pol_script.proofs.Given.{AllHold, op_holds}
 use Rattle.pol_script.specs.Commands.{address_of, asks, cilium_policy_of, commit, labels_of, make, net_fault, network_policy_of, policy_of, query_from, remote_of}
-use Rattle.pol_script.specs.Forms.{Form, a_name, a_text, texts, anything, a_kind, a_mode, a_direction, a_protocol, whole, read_as}
-use Rattle.pol_script.specs.Members.{Takes, Value, given, known, value_of}
 use Rattle.pol_script.specs.Names.{is_applied_name, is_network_name}
 use Rattle.pol_script.specs.Reading.{object_of, op_of, read_object, read_op, reading_of}
-use Rattle.pol_script.specs.Steps.{◌>>=◌, fault_as, only}
-use Rattle.pol_script.specs.Table.{Need, needed, optional, or_else, Row, names, rows}
+use Rattle.pol_script.specs.Steps.{◌>>=◌, fault_as}
+use Rattle.pol_script.specs.Table.{names, rows}
 use Rattle.pol_script.specs.declared.command.Command.{Command}
 use Rattle.pol_script.specs.declared.command.Command.TheVariants as command
 use Rattle.pol_script.specs.declared.line_fault.LineFault.{LineFault}
@@ -100,7 +96,7 @@ policy_key : (d : Data) (is_network : Bool) (policy : Policy) → cond is_networ
 policy_key d true policy is = network_key_read d (netpol_of d) policy refl is
 policy_key d false policy is = cilium_key d (read_document d) policy refl is
 
--- ---- what the rows of an operation give
+-- ---- what a line asks for
 
 abbrev Asked : Type 0
 Asked = Result Command LineFault
@@ -120,59 +116,8 @@ abbrev pub IsNamed : Asked → Type 0
 IsNamed (Ok asked) = AsksNamed asked
 IsNamed (Err f) = Unit {0}
 
--- a name has its form
-abbrev Fits : (need : Need) (shape : Form) → Value need shape → Type 0
-Fits needed a_name value = is_name value ≡ true
-Fits need shape value = Unit {0}
-
-value_fits : (need : Need) (shape : Form) (name : List ℕ) (d : Data) (value : Value need shape) → value_of need shape name d ≡ Ok value → Fits need shape value
-value_fits needed a_name name d value is = by_member (present name d) is
-  where
-    by_text : (b : Bool) (text : List ℕ) → is_name text ≡ b → ok_or (cond b (Some text) None) (fault.BadField name) ≡ Ok value → is_name value ≡ true
-    by_text true text is found = let same : text ≡ value = cc in subst (λ t. is_name t ≡ true) same is
-    by_text false text is found = absurd cc
-
-    by_str : (o : Option (List ℕ)) → ok_or (only is_name o) (fault.BadField name) ≡ Ok value → is_name value ≡ true
-    by_str None found = absurd cc
-    by_str (Some text) found = by_text (is_name text) text refl found
-
-    by_member : (o : Option Data) → ok_or (option_and_then (read_as a_name) o) (fault.BadField name) ≡ Ok value → is_name value ≡ true
-    by_member None found = absurd cc
-    by_member (Some e) found = by_str (as_str e) found
-value_fits needed a_text name d value is = tt
-value_fits needed texts name d value is = tt
-value_fits needed anything name d value is = tt
-value_fits needed a_kind name d value is = tt
-value_fits needed a_mode name d value is = tt
-value_fits needed a_direction name d value is = tt
-value_fits needed a_protocol name d value is = tt
-value_fits needed (whole least greatest) name d value is = tt
-value_fits optional shape name d value is = tt
-value_fits (or_else other) shape name d value is = tt
-
--- whatever values of their forms the members have, what is made of them is named
-abbrev AllNamed : (table : List Row) → Takes table Asked → Type 0
-AllNamed [] made = IsNamed made
-AllNamed (row ∷ table) make = (value : Value row.need row.form) → Fits row.need row.form value → AllNamed table (make value)
-
-given_value : (row : Row) (table : List Row) (make : Takes (row ∷ table) Asked) (d : Data) (made : Asked) (v : Result (Value row.need row.form) LineFault)
-    → AllNamed (row ∷ table) make → value_of row.need row.form row.name d ≡ v → (v >>= λ value. given table (make value) d) ≡ Ok made
-    → ((value : Value row.need row.form) → AllNamed table (make value) → given table (make value) d ≡ Ok made → IsNamed made) → IsNamed made
-given_value row table make d made (Ok value) all of is more = more value (all value (value_fits row.need row.form row.name d value of)) is
-given_value row table make d made (Err f) all of is more = absurd cc
-
-given_named : (table : List Row) (make : Takes table Asked) (d : Data) (made : Asked) → AllNamed table make → given table make d ≡ Ok made → IsNamed made
-given_named [] make d made all is = let same : make ≡ made = cc in subst IsNamed same all
-given_named (row ∷ table) make d made all is =
-    given_value row table make d made (value_of row.need row.form row.name d) all refl is (λ value. given_named table (make value) d made)
-
-rows_known : (k : Result ⊤ LineFault) (made : Asked) → IsNamed made → IsNamed (k >>= λ _. made)
-rows_known (Ok u) made own = own
-rows_known (Err f) made own = tt
-
-rows_given : (g : Result Asked LineFault) (k : Result ⊤ LineFault) → ((made : Asked) → g ≡ Ok made → IsNamed made) → IsNamed (g >>= λ made. k >>= λ _. made)
-rows_given (Ok made) k own = rows_known k made (own made refl)
-rows_given (Err f) k own = tt
+refused_named : (f : LineFault) → IsNamed (Err f)
+refused_named f = tt
 
 -- ---- the operations
 
@@ -198,7 +143,7 @@ query_named true endpoint dir proto port session (Ok remote) = tt
 query_named false endpoint dir proto port session (Ok remote) = tt
 query_named is_trace endpoint dir proto port session (Err f) = tt
 
-op_named : (o : Op) → AllNamed (rows o) (make o)
+op_named : (o : Op) → AllHold IsNamed (rows o) (make o)
 op_named op.Endpoint = λ name own labels _ address _ session _. endpoint_named name session (labels_of labels) (address_of address) own
 op_named op.RemoveEndpoint = λ name _ session _. tt
 op_named op.Identity = λ name _ labels _ session _. identity_named name session (labels_of labels)
@@ -216,7 +161,7 @@ op_named op.Phase = tt
 -- ---- lines
 
 read_op_named : (o : Op) (d : Data) → IsNamed (read_op o d)
-read_op_named o d = rows_given (given (rows o) (make o) d) (known (names (rows o)) d) (λ made. given_named (rows o) (make o) d made (op_named o))
+read_op_named o d = op_holds IsNamed refused_named o d (op_named o)
 
 object_named : (d : Data) (o : Result Op LineFault) → IsNamed (o >>= λ x. read_op x d)
 object_named d (Ok o) = read_op_named o d

@@ -1,9 +1,6 @@
 -- What is read is a command that some value writes: so no condition of a written command could be left out.
-use Rattle.std.proofs.Common.{◌≡◌, ℕ, Bool, true, false, List, [], ◌∷◌, codes, if◌then◌else◌, cond, Option, None, Some, is_some, ok_or, option_map, option_and_then, unwrap_or, IfSome, Result, Ok, Err, inl, inr, refl, ap, subst}
-use Rattle.std.specs.Prelude.{⊤, ◌⊎◌}
-use Rattle.std.specs.Str.{bytes_eq}
+use Rattle.std.proofs.Common.{◌≡◌, ℕ, Bool, true, false, List, [], ◌∷◌, codes, cond, Option, None, Some, ok_or, option_map, option_and_then, unwrap_or, IfSome, Result, Ok, Err, inl, inr, refl, ap, subst}
 use Rattle.serde_json.specs.Data.{Data}
-use Rattle.serde_json.specs.Find.{as_number, as_str, as_u64}
 use Rattle.document_laws.proofs.Needed.{read_is_well_formed}
 use Rattle.document_laws.proofs.NetworkPolicies.{read_network_is_well_formed}
 use Rattle.document_laws.specs.NetworkWritten.{network_document_of}
@@ -13,7 +10,7 @@ use Rattle.pol_addr.specs.Address.{read_addr}
 use Rattle.pol_addr.specs.Grammar.{WritesAddr}
 use Rattle.pol_addr.specs.declared.address.Addr.{Addr}
 use Rattle.pol_json.specs.Document.{read_document}
-use Rattle.pol_json.specs.Members.{present, text_at}
+use Rattle.pol_json.specs.Members.{text_at}
 use Rattle.pol_json.specs.Network.{is_network_policy}
 use Rattle.pol_json.specs.Texts.{is_name}
 use Rattle.pol_json.specs.declared.fault.DocFault.{DocFault}
@@ -32,12 +29,13 @@ use Rattle.pol_rule.specs.declared.fault.RuleFault.{RuleFault}
 use Rattle.pol_rule.specs.declared.policy.Policy.{Policy}
 use Rattle.pol_rule.specs.declared.raw.RawPolicy.{RawPolicy}
 use Rattle.pol_sanitize.specs.Sanitized.{sanitized_of}
+use Rattle.pol_script.proofs.Given.{AllHold, IsOfWords, op_holds, there, word_found}
 use Rattle.pol_script.specs.Commands.{address_of, asks, cilium_policy_of, commit, key_of, labels_of, make, net_fault, network_policy_of, policy_of, query_from, remote_of}
-use Rattle.pol_script.specs.Forms.{Form, a_name, a_text, texts, anything, a_kind, a_mode, a_direction, a_protocol, whole, Read, is_within, kinds, read_as, word_among}
-use Rattle.pol_script.specs.Members.{Takes, Value, given, known, one_of, read_optional, value_of}
+use Rattle.pol_script.specs.Forms.{a_kind, Read, is_within, kinds, word_among}
+use Rattle.pol_script.specs.Members.{known}
 use Rattle.pol_script.specs.Reading.{read_object, read_op}
-use Rattle.pol_script.specs.Steps.{◌>>=◌, each, fault_as, only}
-use Rattle.pol_script.specs.Table.{Need, needed, optional, or_else, Row, names, ops, rows}
+use Rattle.pol_script.specs.Steps.{◌>>=◌, each, fault_as}
+use Rattle.pol_script.specs.Table.{ops, rows}
 use Rattle.pol_script.specs.declared.command.Command.{Command}
 use Rattle.pol_script.specs.declared.line_fault.LineFault.{LineFault}
 use Rattle.pol_script.specs.declared.line_fault.LineFault.TheVariants as fault
@@ -46,10 +44,6 @@ use Rattle.script_examples.specs.Printed.{Kind, namespaced, cluster_wide, networ
 use Rattle.script_examples.specs.Values.{fields, text}
 
 -- ---- what gives a value
-
-there : {A : Type 0} (o : Option A) (f : LineFault) (x : A) → ok_or o f ≡ Ok x → o ≡ Some x
-there None f x is = absurd cc
-there (Some y) f x is = let same : y ≡ x = cc in ap Some same
 
 -- a value that came through a change of its fault was there before
 unfaulted : {A E : Type 0} (as_fault : E → LineFault) (r : Result A E) (x : A) → fault_as as_fault r ≡ Ok x → r ≡ Ok x
@@ -121,105 +115,8 @@ abbrev IsWritten : Asked → Type 0
 IsWritten (Ok c) = (e : Data) × Writes e c
 IsWritten (Err f) = Unit {0}
 
--- the value is that of one of the words
-abbrev IsOfWords : {A : Type 0} → List (List ℕ × A) → A → Type 0
-IsOfWords [] value = ⊥
-IsOfWords (word ∷ words) value = (word.1 ≡ value) ⊎ IsOfWords words value
-
-word_first : {A : Type 0} (words : List (List ℕ × A)) (b : Bool) (one value : A) (more : Option A) → (if b then Some one else more) ≡ Some value
-    → (more ≡ Some value → IsOfWords words value) → (one ≡ value) ⊎ IsOfWords words value
-word_first words true one value more is behind = inl cc
-word_first words false one value more is behind = inr (behind is)
-
-word_found : {A : Type 0} (words : List (List ℕ × A)) (said : List ℕ) (value : A) → word_among words said ≡ Some value → IsOfWords words value
-word_found [] said value is = absurd cc
-word_found (word ∷ words) said value is =
-    word_first words (bytes_eq said word.0) word.1 value (word_among words said) is (word_found words said value)
-
--- a value has its form
-abbrev HasForm : (form : Form) → Read form → Type 0
-HasForm a_name value = is_name value ≡ true
-HasForm (whole least greatest) value = is_within least greatest value ≡ true
-HasForm a_kind value = IsOfWords kinds value
-HasForm form value = Unit {0}
-
-abbrev Fits : (need : Need) (form : Form) → Value need form → Type 0
-Fits needed form value = HasForm form value
-Fits optional form value = IfSome value (HasForm form)
-Fits (or_else other) form value = IfSome value (HasForm form)
-
-passes : {A : Type 0} (test : A → Bool) (b : Bool) (x y : A) → test x ≡ b → (if b then Some x else None) ≡ Some y → test y ≡ true
-passes test true x y is found = let same : x ≡ y = cc in subst (λ z. test z ≡ true) same is
-passes test false x y is found = absurd cc
-
-only_passes : {A : Type 0} (test : A → Bool) (o : Option A) (y : A) → only test o ≡ Some y → test y ≡ true
-only_passes test None y found = absurd cc
-only_passes test (Some x) y found = passes test (test x) x y refl found
-
-kind_read : (said : Option (List ℕ)) (value : Read a_kind) → option_and_then (word_among kinds) said ≡ Some value → IsOfWords kinds value
-kind_read None value found = absurd cc
-kind_read (Some said) value found = word_found kinds said value found
-
-form_read : (form : Form) (d : Data) (value : Read form) → read_as form d ≡ Some value → HasForm form value
-form_read a_name d value found = only_passes is_name (as_str d) value found
-form_read (whole least greatest) d value found = only_passes (is_within least greatest) (option_and_then as_u64 (as_number d)) value found
-form_read a_text d value found = tt
-form_read texts d value found = tt
-form_read anything d value found = tt
-form_read a_kind d value found = kind_read (as_str d) value found
-form_read a_mode d value found = tt
-form_read a_direction d value found = tt
-form_read a_protocol d value found = tt
-
-needed_fits : (form : Form) (name : List ℕ) (o : Option Data) (value : Read form) → ok_or (option_and_then (read_as form) o) (fault.BadField name) ≡ Ok value
-    → HasForm form value
-needed_fits form name None value is = absurd cc
-needed_fits form name (Some d) value is = form_read form d value (there (read_as form d) (fault.BadField name) value is)
-
-some_fits : (form : Form) (name : List ℕ) (d : Data) (o : Option (Read form)) (value : Option (Read form)) → read_as form d ≡ o
-    → ok_or (option_map Some o) (fault.BadField name) ≡ Ok value → IfSome value (HasForm form)
-some_fits form name d None value reads is = absurd cc
-some_fits form name d (Some x) value reads is = let same : Some x ≡ value = cc in subst (λ v. IfSome v (HasForm form)) same (form_read form d x reads)
-
-optional_fits : (form : Form) (name : List ℕ) (o : Option Data) (value : Option (Read form)) → read_optional (read_as form) name o ≡ Ok value
-    → IfSome value (HasForm form)
-optional_fits form name None value is = let same : None ≡ value = cc in subst (λ v. IfSome v (HasForm form)) same tt
-optional_fits form name (Some d) value is = some_fits form name d (read_as form d) value refl is
-
-or_else_fits : (form : Form) (name : List ℕ) (o : Option Data) (one : Bool) (value : Option (Read form))
-    → (if one then read_optional (read_as form) name o else Err (fault.BadField name)) ≡ Ok value → IfSome value (HasForm form)
-or_else_fits form name o true value is = optional_fits form name o value is
-or_else_fits form name o false value is = absurd cc
-
-value_fits : (need : Need) (form : Form) (name : List ℕ) (d : Data) (value : Value need form) → value_of need form name d ≡ Ok value → Fits need form value
-value_fits needed form name d value is = needed_fits form name (present name d) value is
-value_fits optional form name d value is = optional_fits form name (present name d) value is
-value_fits (or_else other) form name d value is =
-    or_else_fits form name (present name d) (one_of (is_some (present name d)) (is_some (present other d))) value is
-
--- whatever values of their forms the members have, some value writes what is made of them
-abbrev AllWritten : (table : List Row) → Takes table Asked → Type 0
-AllWritten [] made = IsWritten made
-AllWritten (row ∷ table) make = (value : Value row.need row.form) → Fits row.need row.form value → AllWritten table (make value)
-
-given_value : (row : Row) (table : List Row) (make : Takes (row ∷ table) Asked) (d : Data) (made : Asked) (v : Result (Value row.need row.form) LineFault)
-    → AllWritten (row ∷ table) make → value_of row.need row.form row.name d ≡ v → (v >>= λ value. given table (make value) d) ≡ Ok made
-    → ((value : Value row.need row.form) → AllWritten table (make value) → given table (make value) d ≡ Ok made → IsWritten made) → IsWritten made
-given_value row table make d made (Ok value) all of is more = more value (all value (value_fits row.need row.form row.name d value of)) is
-given_value row table make d made (Err f) all of is more = absurd cc
-
-given_written : (table : List Row) (make : Takes table Asked) (d : Data) (made : Asked) → AllWritten table make → given table make d ≡ Ok made → IsWritten made
-given_written [] make d made all is = let same : make ≡ made = cc in subst IsWritten same all
-given_written (row ∷ table) make d made all is =
-    given_value row table make d made (value_of row.need row.form row.name d) all refl is (λ value. given_written table (make value) d made)
-
-rows_known : (k : Result ⊤ LineFault) (made : Asked) → IsWritten made → IsWritten (k >>= λ _. made)
-rows_known (Ok u) made own = own
-rows_known (Err f) made own = tt
-
-rows_given : (g : Result Asked LineFault) (k : Result ⊤ LineFault) → ((made : Asked) → g ≡ Ok made → IsWritten made) → IsWritten (g >>= λ made. k >>= λ _. made)
-rows_given (Ok made) k own = rows_known k made (own made refl)
-rows_given (Err f) k own = tt
+refused_written : (f : LineFault) → IsWritten (Err f)
+refused_written f = tt
 
 -- ---- the operations
 
@@ -329,57 +226,57 @@ module _ (endpoint : List ℕ) (dir : Direction) (proto : Proto) (port : ℕ) (s
   query_written is_trace None None known = tt
 
 -- by the operation's place among all of them, since its type has no name here
-op_written : (o : _) → IsOfWords ops o → AllWritten (rows o) (make o)
+op_written : (o : _) → IsOfWords ops o → AllHold IsWritten (rows o) (make o)
 -- Endpoint
 op_written o (inl is) =
-    subst (λ x. AllWritten (rows x) (make x)) is
+    subst (λ x. AllHold IsWritten (rows x) (make x)) is
     (λ name own list _ at_text _ session fits. endpoint_written name list at_text session (labels_of list) (address_of at_text) own fits refl refl)
 -- RemoveEndpoint
 op_written o (inr (inl is)) =
-    subst (λ x. AllWritten (rows x) (make x)) is
+    subst (λ x. AllHold IsWritten (rows x) (make x)) is
     (λ name own session fits. (named_line (codes "remove-endpoint") session name, (session, session_named session fits, (own, refl))))
 -- Identity
 op_written o (inr (inr (inl is))) =
-    subst (λ x. AllWritten (rows x) (make x)) is
+    subst (λ x. AllHold IsWritten (rows x) (make x)) is
     (λ name own list _ session fits. identity_written name list session (labels_of list) own fits refl)
 -- RemoveIdentity
 op_written o (inr (inr (inr (inl is)))) =
-    subst (λ x. AllWritten (rows x) (make x)) is
+    subst (λ x. AllHold IsWritten (rows x) (make x)) is
     (λ name own session fits. (named_line (codes "remove-identity") session name, (session, session_named session fits, (own, refl))))
 -- Apply
 op_written o (inr (inr (inr (inr (inl is))))) =
-    subst (λ x. AllWritten (rows x) (make x)) is
+    subst (λ x. AllHold IsWritten (rows x) (make x)) is
     (λ document _ session fits. apply_written document session (policy_of document) fits refl)
 -- Delete
 op_written o (inr (inr (inr (inr (inr (inl is)))))) =
-    subst (λ x. AllWritten (rows x) (make x)) is
+    subst (λ x. AllHold IsWritten (rows x) (make x)) is
     (λ of_kind known namespace placed name own session fits. delete_written namespace name session placed own fits of_kind known)
 -- Mode
 op_written o (inr (inr (inr (inr (inr (inr (inl is))))))) =
-    subst (λ x. AllWritten (rows x) (make x)) is
+    subst (λ x. AllHold IsWritten (rows x) (make x)) is
     (λ mode _ session fits. (mode_line session mode, (session, session_named session fits, refl)))
 -- Verdict
 op_written o (inr (inr (inr (inr (inr (inr (inr (inl is)))))))) =
-    subst (λ x. AllWritten (rows x) (make x)) is
+    subst (λ x. AllHold IsWritten (rows x) (make x)) is
     (λ endpoint own dir _ identity known at_text _ proto _ port small session fits. query_written endpoint dir proto port session own small fits false identity at_text known)
 -- Trace
 op_written o (inr (inr (inr (inr (inr (inr (inr (inr (inl is))))))))) =
-    subst (λ x. AllWritten (rows x) (make x)) is
+    subst (λ x. AllHold IsWritten (rows x) (make x)) is
     (λ endpoint own dir _ identity known at_text _ proto _ port small session fits. query_written endpoint dir proto port session own small fits true identity at_text known)
 -- Sync
 op_written o (inr (inr (inr (inr (inr (inr (inr (inr (inr (inl is)))))))))) =
-    subst (λ x. AllWritten (rows x) (make x)) is
+    subst (λ x. AllHold IsWritten (rows x) (make x)) is
     (λ session fits. (sync_line session, (session, session_named session fits, refl)))
 -- Phase
 op_written o (inr (inr (inr (inr (inr (inr (inr (inr (inr (inr (inl is))))))))))) =
-    subst (λ x. AllWritten (rows x) (make x)) is
+    subst (λ x. AllHold IsWritten (rows x) (make x)) is
     (fields ((codes "op", text (codes "phase")) ∷ []), refl)
 op_written o (inr (inr (inr (inr (inr (inr (inr (inr (inr (inr (inr none))))))))))) = absurd none
 
 -- ---- lines
 
 read_op_written : (o : _) → IsOfWords ops o → (d : Data) → IsWritten (read_op o d)
-read_op_written o is d = rows_given (given (rows o) (make o) d) (known (names (rows o)) d) (λ made. given_written (rows o) (make o) d made (op_written o is))
+read_op_written o is d = op_holds IsWritten refused_written o d (op_written o is)
 
 by_word : (d : Data) (found : Option _) → ((o : _) → found ≡ Some o → IsOfWords ops o) → IsWritten (ok_or found fault.NoOp >>= λ o. read_op o d)
 by_word d None is = tt
