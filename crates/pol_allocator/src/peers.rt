@@ -3,7 +3,7 @@ ghost use Rattle.std.specs.Prelude.{◌≡◌, ◌+◌, ◌≤◌, List, [], OnO
 ghost use Rattle.pol_model.specs.declared.row.IdentityRow.{IdentityRow as OneRow};
 ghost use Rattle.pol_selcache.specs.Live.{AreExact};
 ghost use Rattle.pol_peers.specs.Numbering.{TakesFreshNumbers};
-ghost use Rattle.pol_peers.specs.Listed.{listed_peers};
+ghost use Rattle.pol_rule.specs.Listed.{listed_peers};
 ghost use Rattle.pol_peers.specs.References.{HasRefs, IsMoreBy, KeepsNumbers, steps_to_hold};
 ghost use Rattle.pol_allocator.specs.Held.{RefersTo};
 

@@ -14,7 +14,8 @@ use Rattle.pol_addr.specs.Prefix.{same_prefix}
 use Rattle.pol_rule.specs.declared.policy.Policy.{Policy}
 use Rattle.pol_rule.specs.declared.policy.PolicyKey.{PolicyKey}
 use Rattle.pol_rule.specs.Keys.{same_key}
-use Rattle.pol_rule.specs.Prefixes.{distinct, policy_prefixes, rule_prefixes}
+use Rattle.pol_rule.specs.Listed.{listed_peers}
+use Rattle.pol_rule.specs.Prefixes.{distinct, peer_prefixes, policy_prefixes}
 use Rattle.pol_model.specs.declared.row.Stamped.{Stamped}
 use Rattle.pol_model_laws.specs.Keeps.{names_prefix}
 use Rattle.pol_model.specs.Policies.{is_of_key, policy_at, applied, prefixes_of}
@@ -65,7 +66,7 @@ distinct_differ (prefix ∷ others) =
     (differ_filtered (λ p. p) same_prefix-Decides (λ other. not (same_prefix prefix other)) (distinct others) (distinct_differ others))
 
 pub policy_differ : (policy : Policy) → IsDistinct same_prefix (policy_prefixes policy)
-policy_differ policy = subst (IsDistinct same_prefix) (map-id (policy_prefixes policy)) (distinct_differ (flat_map rule_prefixes policy.rules))
+policy_differ policy = subst (IsDistinct same_prefix) (map-id (policy_prefixes policy)) (distinct_differ (flat_map peer_prefixes (listed_peers policy)))
 
 -- so a policy holds each prefix that it names once
 times_none : (prefixes : List Prefix) → times prefixes None ≡ 0
@@ -82,7 +83,7 @@ one_policy own stamped = cond (names_prefix own stamped) 1 0
 pub times_once : (own : Option Prefix) (stamped : Stamped) → times (policy_prefixes stamped.policy) own ≡ one_policy own stamped
 times_once None stamped = times_none (policy_prefixes stamped.policy)
 times_once (Some prefix) stamped =
-    counted_once (λ p. p) same_prefix-Decides prefix (policy_prefixes stamped.policy) (distinct_differ (flat_map rule_prefixes stamped.policy.rules))
+    counted_once (λ p. p) same_prefix-Decides prefix (policy_prefixes stamped.policy) (distinct_differ (flat_map peer_prefixes (listed_peers stamped.policy)))
     ∙ ap (λ b. cond b 1 0) (list_any_same (λ p. same_prefix p prefix) (same_prefix prefix) (policy_prefixes stamped.policy) (λ p. same_prefix-turned p prefix))
 
 -- of the policy that is there, if any

@@ -16,7 +16,7 @@ use Rattle.pol_model.specs.After.{after}
 use Rattle.pol_model.specs.Policies.{applied, is_of_key}
 use Rattle.pol_model.specs.Selects.{set_at}
 use Rattle.pol_model.specs.State.{State}
-use Rattle.pol_peers.specs.Listed.{listed_peers}
+use Rattle.pol_rule.specs.Listed.{listed_peers}
 use Rattle.pol_peers.specs.References.{RefsOf, references_of}
 use Rattle.pol_peers.proofs.Found.{found_of, is_of, refs}
 use Rattle.pol_selcache.specs.Live.{AreExact, AreLive, Live, number_of}

@@ -1,7 +1,6 @@
 pub mod Found
 pub mod Counts
 pub mod Holds
-pub mod Sections
 pub mod Walks
 pub mod Kept
 pub mod Costs

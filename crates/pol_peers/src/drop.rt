@@ -4,7 +4,7 @@ ghost use Rattle.std.specs.List.{flat_map};
 ghost use Rattle.pol_model.specs.declared.row.IdentityRow.{IdentityRow as OneRow};
 ghost use Rattle.pol_selcache.specs.Cache.{IsSound};
 ghost use Rattle.pol_selcache.specs.Live.{AreExact};
-ghost use Rattle.pol_peers.specs.Listed.{listed_peers, peers_in, rule_peers, section_peers};
+ghost use Rattle.pol_rule.specs.Listed.{listed_peers, peers_in, rule_peers, section_peers};
 ghost use Rattle.pol_peers.specs.References.{HasRefs, IsMoreBy, KeepsNumbers};
 
 use pol_rule::{Entry, Peer, Peers, Policy, Rule};

@@ -5,14 +5,13 @@ ghost use Rattle.pol_selcache.specs.Cache.{IsSound};
 ghost use Rattle.pol_selcache.specs.Held.{steps_of};
 ghost use Rattle.pol_selcache.specs.Live.{AreExact};
 ghost use Rattle.pol_peers.specs.Numbering.{TakesFreshNumbers};
-ghost use Rattle.pol_peers.specs.Listed.{listed_peers};
+ghost use Rattle.pol_rule.specs.Listed.{listed_peers};
 ghost use Rattle.pol_peers.specs.References.{HasRefs, IsMoreBy, KeepsNumbers, steps_to_hold};
 
 use crate::drop::drop_peer;
-use crate::listed::listed_peers;
 use pol_data::{Memory, Steps};
 use pol_ident::Identities;
-use pol_rule::{Peer, Policy};
+use pol_rule::{Peer, Policy, listed_peers};
 use pol_selcache::SelectorCache;
 use std::alloc::Global;
 use std::sync::ledger::Ledger;

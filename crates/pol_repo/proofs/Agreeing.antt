@@ -9,11 +9,13 @@ use Rattle.pol_ports.specs.declared.Direction.{Direction}
 use Rattle.pol_ports.specs.declared.Proto.{Proto}
 use Rattle.pol_mapkey.specs.declared.Word.TheVariants.{Allowed, DeniedByRule, DeniedByDefault}
 use Rattle.pol_rule.specs.Covers.{section_of, entry_covers, has_effect, peers_take, ports_cover}
-use Rattle.pol_rule.specs.Prefixes.{distinct, entry_prefixes, peer_prefixes, policy_prefixes, rule_entries, rule_prefixes}
+use Rattle.pol_rule.specs.Listed.{listed_peers, peers_in, rule_entries, rule_peers}
+use Rattle.pol_rule.specs.Prefixes.{distinct, peer_prefixes, policy_prefixes}
 use Rattle.pol_rule.specs.declared.policy.Entry.{Entry}
 use Rattle.pol_rule.specs.declared.policy.Peer.{Peer}
 use Rattle.pol_rule.specs.declared.policy.Peers.{Peers}
 use Rattle.pol_rule.specs.declared.policy.Peers.TheVariants.{Every, Listed}
+use Rattle.pol_rule.specs.declared.policy.Policy.{Policy}
 use Rattle.pol_rule.specs.declared.policy.Rule.{Rule}
 use Rattle.pol_rule.specs.declared.policy.Section.{Section}
 use Rattle.pol_rule.specs.declared.policy.Section.TheVariants as section
@@ -71,21 +73,28 @@ AgreeOver f g prefixes = (p : Peer) → ((prefix : Prefix) → In prefix (peer_p
 abbrev pub Agree : (f g : Peer → Bool) → List Stamped → Type 0
 Agree f g policies = (stamped : Stamped) → In stamped policies → AgreeOver f g (policy_prefixes stamped.policy)
 
+-- the two tests agree on each of these
+abbrev AgreeOn : (f g : Peer → Bool) → List Peer → Type 0
+AgreeOn f g peers = (p : Peer) → In p peers → f p ≡ g p
+
 module _ (f g : Peer → Bool) where
-  peers_agree : (prefixes : List Prefix) → AgreeOver f g prefixes → (peers : Peers) → ((prefix : Prefix) → In prefix (entry_prefixes peers) → In prefix prefixes)
-      → peers_take f peers ≡ peers_take g peers
-  peers_agree prefixes agree Every own = refl
-  peers_agree prefixes agree (Listed peers) own =
-      any_within f g peers (λ p there. agree p (λ prefix its. own prefix (in_flat_map peer_prefixes prefix p peers its there)))
+  peers_agree : (peers : Peers) → AgreeOn f g (peers_in peers) → peers_take f peers ≡ peers_take g peers
+  peers_agree Every agree = refl
+  peers_agree (Listed peers) agree = any_within f g peers agree
+
+  listed_agree : (policy : Policy) → AgreeOver f g (policy_prefixes policy) → AgreeOn f g (listed_peers policy)
+  listed_agree policy agree p listed =
+      agree p (λ prefix its.
+      in_distinct prefix (flat_map peer_prefixes (listed_peers policy)) (in_flat_map peer_prefixes prefix p (listed_peers policy) its listed))
 
   module _ (proto : Proto) (port : ℕ) where
-    rule_agrees : (prefixes : List Prefix) → AgreeOver f g prefixes → (s : Section) (rule : Rule) → ((prefix : Prefix) → In prefix (rule_prefixes rule) → In prefix prefixes)
+    rule_agrees : (s : Section) (rule : Rule) → AgreeOn f g (rule_peers rule)
         → list_any (entry_covers f proto port) (section_of s rule) ≡ list_any (entry_covers g proto port) (section_of s rule)
-    rule_agrees prefixes agree s rule own =
+    rule_agrees s rule agree =
         any_within (entry_covers f proto port) (entry_covers g proto port) (section_of s rule) (λ entry there.
-        let its : (prefix : Prefix) → In prefix (entry_prefixes entry.peers) → In prefix prefixes
-        = λ prefix among. own prefix (in_flat_map (λ e. entry_prefixes e.peers) prefix entry (rule_entries rule) among (in_rule s rule entry there)) in
-        ap (λ b. has_effect entry && b && ports_cover proto port entry.ports) (peers_agree prefixes agree entry.peers its))
+        let its : AgreeOn f g (peers_in entry.peers)
+        = λ p among. agree p (in_flat_map (λ e. peers_in e.peers) p entry (rule_entries rule) among (in_rule s rule entry there)) in
+        ap (λ b. has_effect entry && b && ports_cover proto port entry.ports) (peers_agree entry.peers its))
 
     policies_agree : (policies : List Stamped) (endpoint : Endpoint) (s : Section) → Agree f g policies
         → some_covers policies endpoint s f proto port ≡ some_covers policies endpoint s g proto port
@@ -93,8 +102,8 @@ module _ (f g : Peer → Bool) where
     policies_agree policies endpoint s agree =
         any_within _ _ policies (λ stamped there.
         any_within _ _ stamped.policy.rules (λ rule within.
-        ap (λ b. rule_selects endpoint rule && b) (rule_agrees (policy_prefixes stamped.policy) (agree stamped there) s rule (λ prefix its.
-        in_distinct prefix (flat_map rule_prefixes stamped.policy.rules) (in_flat_map rule_prefixes prefix rule stamped.policy.rules its within)))))
+        ap (λ b. rule_selects endpoint rule && b) (rule_agrees s rule (λ p among.
+        listed_agree stamped.policy (agree stamped there) p (in_flat_map rule_peers p rule stamped.policy.rules among within)))))
 
 -- ---- the verdict
 

@@ -10,7 +10,7 @@ use Rattle.pol_model.specs.Policies.{applied, policy_at, removed}
 use Rattle.pol_model_laws.proofs.Distinct.{removed_sum}
 use Rattle.pol_model_laws.proofs.PolicyHolders.{applied_sum, same_key-Decides, sum_at}
 use Rattle.pol_selcache.specs.Live.{Live}
-use Rattle.pol_peers.specs.Listed.{listed_peers}
+use Rattle.pol_rule.specs.Listed.{listed_peers}
 use Rattle.pol_peers.specs.References.{RefsOf, references_of, times_in}
 use Rattle.pol_peers.proofs.Counts.{times_append}
 use Rattle.pol_store.specs.PolicyParts.{listed_of}

@@ -32,7 +32,7 @@ use Rattle.pol_change_log.specs.Log.{newest}
 use Rattle.pol_selcache.specs.Cache.{Cache, with_room}
 use Rattle.pol_selcache.specs.Live.{AreExact}
 use Rattle.pol_selcache.specs.Plan.{Plan}
-use Rattle.pol_peers.specs.Listed.{listed_peers}
+use Rattle.pol_rule.specs.Listed.{listed_peers}
 use Rattle.pol_peers.specs.References.{HasRefs, IsMoreBy, RefsOf}
 use Rattle.pol_peers.proofs.Counts.{has_more, refs_held, undone}
 use Rattle.pol_allocator.specs.Held.{AreApart, Prepares, RefersTo}

@@ -14,7 +14,7 @@ use Rattle.pol_model.specs.Fault.{has_reserved, is_init}
 use Rattle.pol_model.specs.Identities.{is_local, number_for, released}
 use Rattle.pol_model_laws.specs.Holding.{has_row}
 use Rattle.pol_model_laws.specs.Keeps.{Keeps}
-use Rattle.pol_peers.specs.Listed.{listed_peers}
+use Rattle.pol_rule.specs.Listed.{listed_peers}
 use Rattle.pol_peers.specs.References.{HasRefs, references_of, times_in}
 use Rattle.pol_peers.proofs.Counts.{times_append}
 use Rattle.pol_requests.specs.declared.prepared.TableChange.TheVariants as change

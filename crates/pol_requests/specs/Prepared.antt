@@ -18,7 +18,7 @@ use Rattle.pol_model_laws.specs.WithoutFaults.{MayCommit}
 use Rattle.pol_change_log.specs.Log.{newest}
 use Rattle.pol_selcache.specs.Live.{AreExact}
 use Rattle.pol_allocator.specs.Held.{Prepares}
-use Rattle.pol_peers.specs.Listed.{listed_peers}
+use Rattle.pol_rule.specs.Listed.{listed_peers}
 use Rattle.pol_peers.specs.References.{RefsOf}
 use Rattle.pol_requests.specs.declared.prepared.TableChange.{TableChange}
 use Rattle.pol_requests.specs.declared.prepared.TableChange.TheVariants as change

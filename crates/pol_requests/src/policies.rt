@@ -7,7 +7,7 @@ ghost use Rattle.pol_model.specs.Policies.{policy_at, prefixes_of};
 ghost use Rattle.pol_model.specs.Sizes.{IsShortPolicy};
 ghost use Rattle.pol_model.specs.State.{State};
 ghost use Rattle.pol_model_laws.specs.Keeps.{Keeps};
-ghost use Rattle.pol_peers.specs.Listed.{listed_peers};
+ghost use Rattle.pol_rule.specs.Listed.{listed_peers};
 ghost use Rattle.pol_peers.specs.Numbering.{GainsSelectors, LosesSelectors};
 ghost use Rattle.pol_peers.specs.References.{HasRefs};
 ghost use Rattle.pol_selcache.specs.Cache.{with_room};

@@ -1,4 +1,5 @@
 pub mod Covers
 pub mod Keys
+pub mod Listed
 pub mod Prefixes
 pub mod Causes

@@ -11,6 +11,7 @@ mod covering;
 mod fault;
 mod holding;
 pub mod laws;
+mod listed;
 mod policy;
 mod policy_copy;
 mod raw;
@@ -18,6 +19,7 @@ mod raw_copy;
 
 pub use cause::RuleCause;
 pub use fault::RuleFault;
+pub use listed::{listed_peers, push_listed};
 pub use policy::{
     Entity, Entries, Entry, Peer, PeerList, Peers, Place, Policy, PolicyKey, PortSpec, PortSpecs,
     Prefixes, Rule, Rules, Section,

@@ -2,7 +2,7 @@
 use Rattle.std.specs.Prelude.{◌≡◌, List, map, filter_map, All, Option, Some, IfSome, IsTrue}
 use Rattle.pol_addr.specs.Prefix.{read_prefix}
 use Rattle.pol_labels.specs.WellFormed.{all_well_formed}
-use Rattle.pol_rule.specs.Prefixes.{rule_entries}
+use Rattle.pol_rule.specs.Listed.{rule_entries}
 use Rattle.pol_rule.specs.declared.policy.Entry.{Entry}
 use Rattle.pol_rule.specs.declared.policy.Peer.{Peer}
 use Rattle.pol_rule.specs.declared.policy.Peer.TheVariants as peer

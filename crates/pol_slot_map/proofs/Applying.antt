@@ -27,7 +27,7 @@ use Rattle.pol_l4.specs.Resolved.{filters_in}
 use Rattle.pol_l4.proofs.Located.{named}
 use Rattle.pol_distill.specs.Distilled.{filters_at}
 use Rattle.pol_distill.specs.Sorted.{HaveSets, PeersHaveSets}
-use Rattle.pol_peers.specs.Listed.{peers_in}
+use Rattle.pol_rule.specs.Listed.{peers_in}
 use Rattle.pol_moves.specs.Changes.{state_at}
 use Rattle.pol_moves.specs.Moves.{AreMovesOf, TellsMoves}
 use Rattle.pol_taken.specs.declared.taken.Taken.{Taken}

@@ -7,7 +7,7 @@ use Rattle.pol_labels.specs.declared.label.Label.{Label}
 use Rattle.pol_labels.specs.Match.{matches}
 use Rattle.pol_ports.specs.declared.Direction.{Direction}
 use Rattle.pol_rule.specs.Covers.{has_effect, section_of}
-use Rattle.pol_rule.specs.Prefixes.{rule_entries}
+use Rattle.pol_rule.specs.Listed.{rule_entries}
 use Rattle.pol_rule.specs.declared.policy.Entry.{Entry}
 use Rattle.pol_rule.specs.declared.policy.Peer.{Peer}
 use Rattle.pol_rule.specs.declared.policy.Rule.{Rule}
@@ -18,7 +18,7 @@ use Rattle.pol_model.specs.Enforced.{allow_section, deny_section}
 use Rattle.pol_model_laws.proofs.Membership.{In-left, In-right}
 use Rattle.pol_l4.specs.declared.filter.Filter.{Filter}
 use Rattle.pol_l4.specs.Resolved.{entry_filters, filter_at, filters_in, policy_filters, rule_filters}
-use Rattle.pol_peers.specs.Listed.{listed_peers, peers_in, rule_peers}
+use Rattle.pol_rule.specs.Listed.{listed_peers, peers_in, rule_peers}
 
 pub In-flat_map : {X Y : Type 0} (f : Y → List X) (x : X) (y : Y) (ys : List Y) → In y ys → In x (f y) → In x (flat_map f ys)
 In-flat_map f x y [] there here = elim there [ ]

@@ -20,7 +20,7 @@ use Rattle.pol_sets.specs.declared.sets.Move.{Move}
 use Rattle.pol_sets.specs.declared.sets.SetRow.{SetRow}
 use Rattle.pol_sets.specs.Sets.{has_set, is_row_of, set_given}
 use Rattle.pol_change_log.specs.Sets.{IsMove}
-use Rattle.pol_peers.specs.Listed.{listed_peers}
+use Rattle.pol_rule.specs.Listed.{listed_peers}
 use Rattle.pol_store.specs.Store.{peers_of}
 use Rattle.pol_moves.specs.Changes.{IsListedSince, is_listed, set_in, state_at}
 use Rattle.pol_moves.specs.Moves.{AreMovesOf, IsMoveOf}

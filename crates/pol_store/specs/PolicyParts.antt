@@ -4,7 +4,7 @@ use Rattle.pol_rule.specs.declared.policy.Peer.{Peer}
 use Rattle.pol_model.specs.declared.row.IdentityRow.{IdentityRow}
 use Rattle.pol_model.specs.declared.row.Stamped.{Stamped}
 use Rattle.pol_selcache.specs.Cache.{Cache}
-use Rattle.pol_peers.specs.Listed.{listed_peers}
+use Rattle.pol_rule.specs.Listed.{listed_peers}
 use Rattle.pol_store.specs.Store.{Stored}
 
 -- the same with these rows of identities

@@ -8,7 +8,7 @@ use Rattle.pol_tables.specs.Tables.{SameNumbers}
 use Rattle.pol_change_log.specs.Log.{newest}
 use Rattle.pol_selcache.specs.Cache.{Cache}
 use Rattle.pol_selcache.specs.Live.{AreExact}
-use Rattle.pol_peers.specs.Listed.{listed_peers}
+use Rattle.pol_rule.specs.Listed.{listed_peers}
 use Rattle.pol_peers.specs.References.{RefsOf}
 use Rattle.pol_model_laws.specs.Keeps.{Keeps}
 

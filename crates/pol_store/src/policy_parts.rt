@@ -11,7 +11,7 @@ ghost use Rattle.pol_model.specs.Prefixes.{prefixes_held, prefixes_released};
 ghost use Rattle.pol_model.specs.Sizes.{IsShortPolicy};
 ghost use Rattle.pol_selcache.specs.Cache.{with_room};
 ghost use Rattle.pol_selcache.specs.Live.{AreExact};
-ghost use Rattle.pol_peers.specs.Listed.{listed_peers};
+ghost use Rattle.pol_rule.specs.Listed.{listed_peers};
 ghost use Rattle.pol_peers.specs.Numbering.{TakesFreshNumbers};
 ghost use Rattle.pol_peers.specs.References.{HasRefs, IsMoreBy, KeepsNumbers};
 ghost use Rattle.pol_allocator.specs.Held.{AreApart, IsSettled, Prepares, RefersTo};

@@ -23,7 +23,7 @@ use Rattle.pol_l4.specs.declared.filter.Filter.{Filter}
 use Rattle.pol_l4.specs.declared.filter.Filters.{Filters}
 use Rattle.pol_distill.specs.Sorted.{ListHasSets, PeersHaveSets}
 use Rattle.pol_selcache.specs.Live.{AreExact, AreLive, Live, number_of, selector_of}
-use Rattle.pol_peers.specs.Listed.{peers_in}
+use Rattle.pol_rule.specs.Listed.{peers_in}
 use Rattle.pol_peers.proofs.Found.{found_of, is_of}
 use Rattle.pol_taken.specs.PeerRows.{AreRowsFor, AreSetsFor, IsLiveRow, filter_peers, has_selector, list_peers}
 

@@ -23,10 +23,10 @@ use Rattle.pol_model_laws.proofs.Membership.{list_any-In}
 use Rattle.pol_l4.specs.declared.filter.Filter.{Filter}
 use Rattle.pol_l4.specs.Resolved.{entry_filters, filter_at, filters_for, filters_in, policy_filters, rule_filters}
 use Rattle.pol_selcache.specs.Live.{Live, number_of}
-use Rattle.pol_peers.specs.Listed.{listed_peers, peers_in, rule_peers, section_peers}
+use Rattle.pol_rule.specs.Listed.{listed_peers, peers_in, rule_peers, section_peers}
 use Rattle.pol_peers.specs.References.{RefsOf, times_in}
 use Rattle.pol_peers.proofs.Found.{is_of, peer_itself}
-use Rattle.pol_peers.proofs.Sections.{rule_by_section}
+use Rattle.pol_rule.proofs.Sections.{rule_by_section}
 use Rattle.pol_taken.specs.PeerRows.{filter_peers, list_peers}
 use Rattle.pol_taken.proofs.Adding.{every-parts}
 

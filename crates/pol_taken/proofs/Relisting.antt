@@ -15,7 +15,7 @@ use Rattle.pol_l4.specs.declared.filter.Filters.{Filters}
 use Rattle.pol_distill.specs.Sorted.{ListHasSets, PeersHaveSets}
 use Rattle.pol_selcache.specs.Cache.{Cache, IsSound}
 use Rattle.pol_selcache.specs.Live.{Live, number_of}
-use Rattle.pol_peers.specs.Listed.{peers_in}
+use Rattle.pol_rule.specs.Listed.{peers_in}
 use Rattle.pol_peers.specs.Numbering.{TakesFreshNumbers}
 use Rattle.pol_peers.proofs.Found.{found_of, is_of}
 use Rattle.pol_taken.specs.Known.{HasNumber, IsKnownIn, IsListingOf, Listed, ListedPeers, is_listed_as, key_of}

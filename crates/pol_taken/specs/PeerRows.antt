@@ -13,7 +13,7 @@ use Rattle.pol_l4.specs.declared.filter.Filter.{Filter}
 use Rattle.pol_l4.specs.declared.filter.Filters.{Filters}
 use Rattle.pol_distill.specs.Sorted.{HaveSets}
 use Rattle.pol_selcache.specs.Live.{AreExact, Live, number_of, selector_of}
-use Rattle.pol_peers.specs.Listed.{peers_in}
+use Rattle.pol_rule.specs.Listed.{peers_in}
 
 abbrev pub list_peers : List Filter → List Peer
 list_peers filters = flat_map (λ one. peers_in one.peers) filters

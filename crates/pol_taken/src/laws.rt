@@ -13,7 +13,7 @@ ghost use Rattle.pol_model.specs.PolicyMap.{policy_map};
 ghost use Rattle.pol_model_laws.specs.WithoutFaults.{WithoutFaults};
 ghost use Rattle.pol_model_laws.specs.WorkedMaps.{app_peer, namespace_label, ordinary, x_denied};
 ghost use Rattle.pol_selcache.specs.Live.{Live as OneSelector, number_of};
-ghost use Rattle.pol_peers.specs.Listed.{listed_peers};
+ghost use Rattle.pol_rule.specs.Listed.{listed_peers};
 ghost use Rattle.pol_peers.specs.References.{RefsOf};
 ghost use Rattle.pol_l4.specs.Resolved.{filters_for};
 ghost use Rattle.pol_distill.specs.Distilled.{distilled};

@@ -4,8 +4,7 @@ ghost use Rattle.pol_taken.specs.PeerRows.{filter_peers, list_peers};
 
 use pol_data::Memory;
 use pol_l4::{Filter, Filters};
-use pol_peers::push_listed;
-use pol_rule::Peer;
+use pol_rule::{Peer, push_listed};
 use std::alloc::Global;
 
 fn push_filters<'a>(out: &mut Vec<&'a Peer>, filters: &'a [Filter]) -> Result<(), Memory>

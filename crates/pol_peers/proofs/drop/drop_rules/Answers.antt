@@ -1,6 +1,6 @@
 use Rattle.std.proofs.Common.{refl, sym, ◌∙◌, arith}
 use Rattle.std.specs.List.{flat_map}
-use Rattle.pol_peers.specs.Listed.{rule_peers}
+use Rattle.pol_rule.specs.Listed.{rule_peers}
 use Rattle.pol_peers.proofs.Kept.{kept_further}
 use Rattle.pol_peers.proofs.Walks.{all_given, next_given, next_has}
 use Rattle.pol_peers.proofs.drop.drop_rules.Goals as goal

@@ -2,7 +2,7 @@ use Rattle.std.proofs.Common.{◌≡◌, List, drop}
 use Rattle.std.specs.List.{flat_map}
 use Rattle.pol_model.specs.declared.row.IdentityRow.{IdentityRow}
 use Rattle.pol_selcache.specs.Live.{AreExact}
-use Rattle.pol_peers.specs.Listed.{rule_peers}
+use Rattle.pol_rule.specs.Listed.{rule_peers}
 use Rattle.pol_peers.specs.References.{KeepsNumbers}
 use Rattle.pol_peers.proofs.Counts.{Left}
 use Rattle.pol_peers.proofs.drop.drop_rules.Given as goal

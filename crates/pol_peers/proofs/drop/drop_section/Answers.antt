@@ -1,5 +1,5 @@
 use Rattle.std.proofs.Common.{refl, sym, ◌∙◌, arith}
-use Rattle.pol_peers.specs.Listed.{peers_in, section_peers}
+use Rattle.pol_rule.specs.Listed.{peers_in, section_peers}
 use Rattle.pol_peers.proofs.Kept.{kept_further}
 use Rattle.pol_peers.proofs.Walks.{all_given, next_given, next_has}
 use Rattle.pol_peers.proofs.drop.drop_section.Goals as goal

@@ -1,7 +1,7 @@
 use Rattle.std.proofs.Common.{◌≡◌, List, drop}
 use Rattle.pol_model.specs.declared.row.IdentityRow.{IdentityRow}
 use Rattle.pol_selcache.specs.Live.{AreExact}
-use Rattle.pol_peers.specs.Listed.{section_peers}
+use Rattle.pol_rule.specs.Listed.{section_peers}
 use Rattle.pol_peers.specs.References.{KeepsNumbers}
 use Rattle.pol_peers.proofs.Counts.{Left}
 use Rattle.pol_peers.proofs.drop.drop_section.Given as goal

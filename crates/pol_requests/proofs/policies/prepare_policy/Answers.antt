@@ -5,7 +5,7 @@ use Rattle.pol_model.specs.declared.request.Request.TheVariants.{Apply}
 use Rattle.pol_model.specs.Policies.{policy_at}
 use Rattle.pol_allocator.specs.Held.{Held}
 use Rattle.pol_requests.specs.declared.error.PrepareError.{PrepareError}
-use Rattle.pol_peers.specs.Listed.{listed_peers}
+use Rattle.pol_rule.specs.Listed.{listed_peers}
 use Rattle.pol_requests.specs.Prepared.{PreparesOrNot}
 use Rattle.pol_store.specs.Store.{Stored}
 use Rattle.pol_requests.proofs.PolicySteps.{given_back, holds_here, may_give_up, once_each, parts_here, policy_prepared, policy_refused, policy_too_much, refers_here}

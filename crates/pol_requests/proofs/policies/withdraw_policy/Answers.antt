@@ -1,6 +1,6 @@
 use Rattle.std.proofs.Common.{refl, ap, sym, subst, ◌∙◌}
 use Rattle.pol_model.specs.Prefixes.{prefixes_released}
-use Rattle.pol_peers.specs.Listed.{listed_peers}
+use Rattle.pol_rule.specs.Listed.{listed_peers}
 use Rattle.pol_peers.specs.References.{HasRefs}
 use Rattle.pol_store.specs.PolicyParts.{with_rows}
 use Rattle.pol_store.specs.Store.{Stored}

@@ -1,6 +1,6 @@
 use Rattle.std.proofs.Common.{sym, subst}
 use Rattle.pol_selcache.specs.Live.{AreExact}
-use Rattle.pol_peers.specs.Listed.{listed_peers}
+use Rattle.pol_rule.specs.Listed.{listed_peers}
 use Rattle.pol_peers.specs.References.{HasRefs}
 use Rattle.pol_store.specs.Store.{Stored}
 use Rattle.pol_store.proofs.Kept.{listed_less, told_still}

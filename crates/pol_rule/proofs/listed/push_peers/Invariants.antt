@@ -1,5 +1,5 @@
 use Rattle.std.proofs.Common.{◌≡◌, ◌++◌, map, take}
-use Rattle.pol_peers.proofs.listed.push_peers.Given as goal
+use Rattle.pol_rule.proofs.listed.push_peers.Given as goal
 
 abbrev pub invariant-loop-peer : goal.invariant-loop-peer
 invariant-loop-peer l = map (λ p. p.now) l.out.items ≡ map (λ p. p.now) l.initial.out.items ++ take l.peer-index l.peers

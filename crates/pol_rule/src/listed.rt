@@ -1,10 +1,10 @@
 //! The peers that a policy lists, by reference.
 ghost use Rattle.std.specs.Prelude.{◌≡◌, ◌++◌, IfOk, OnOk, map};
 ghost use Rattle.std.specs.List.{flat_map};
-ghost use Rattle.pol_peers.specs.Listed.{listed_peers, peers_in, rule_peers, section_peers};
+ghost use Rattle.pol_rule.specs.Listed.{listed_peers, peers_in, rule_peers, section_peers};
 
+use crate::policy::{Entry, Peer, Peers, Policy, Rule};
 use pol_data::Memory;
-use pol_rule::{Entry, Peer, Peers, Policy, Rule};
 use std::alloc::Global;
 
 fn push_peers<'a>(out: &mut Vec<&'a Peer>, peers: &'a [Peer]) -> Result<(), Memory>
@@ -54,9 +54,9 @@ fn push_rules<'a>(out: &mut Vec<&'a Peer>, rules: &'a [Rule]) -> Result<(), Memo
     Ok(())
 }
 
-/// The peers that the policy lists, in document order, each as often as it stands there.
-pub(crate) fn listed_peers<'a>(alloc: Global, policy: &'a Policy) -> Result<Vec<&'a Peer>, Memory>
-    ensures { IfOk result (λ listed. map (λ p. p.now) listed.items ≡ listed_peers policy.now) }
+/// The peers that the policy lists, in document order, each as often as it stands there. The one error is want of memory.
+pub fn listed_peers<'a>(alloc: Global, policy: &'a Policy) -> Result<Vec<&'a Peer>, Memory>
+    ensures listed { IfOk result (λ listed. map (λ p. p.now) listed.items ≡ listed_peers policy.now) }
 {
     let mut listed = Vec::new(alloc);
     push_rules(&mut listed, policy.rules.as_slice())?;

@@ -1,6 +1,6 @@
 -- The peers that a policy lists (Cilium, Network Policy, "Layer 3 Examples"). That each place of a peer in the document
--- is a reference of its own is 'profile'.
-use Rattle.std.specs.Prelude.{List, []}
+-- counts by itself is 'profile'.
+use Rattle.std.specs.Prelude.{List, [], ◌++◌}
 use Rattle.std.specs.List.{flat_map}
 use Rattle.pol_rule.specs.declared.policy.Entry.{Entry}
 use Rattle.pol_rule.specs.declared.policy.Peer.{Peer}
@@ -8,7 +8,10 @@ use Rattle.pol_rule.specs.declared.policy.Peers.{Peers}
 use Rattle.pol_rule.specs.declared.policy.Peers.TheVariants.{Every, Listed}
 use Rattle.pol_rule.specs.declared.policy.Policy.{Policy}
 use Rattle.pol_rule.specs.declared.policy.Rule.{Rule}
-use Rattle.pol_rule.specs.Prefixes.{rule_entries}
+
+-- the entries of a rule, section by section
+abbrev pub rule_entries : Rule → List Entry
+rule_entries rule = rule.ingress ++ rule.ingress_deny ++ rule.egress ++ rule.egress_deny
 
 -- an entry without a peer member lists none
 abbrev pub peers_in : Peers → List Peer

@@ -1,7 +1,0 @@
-use Rattle.std.proofs.Common.{◌≡◌, ◌++◌, take}
-use Rattle.std.specs.List.{flat_map}
-use Rattle.pol_rule.specs.Prefixes.{peer_prefixes}
-use Rattle.pol_rule.proofs.holding.push_peers.Given as goal
-
-abbrev pub invariant-loop-peer : goal.invariant-loop-peer
-invariant-loop-peer l = l.out.items ≡ l.initial.out.items ++ flat_map peer_prefixes (take l.peer-index l.peers)
