@@ -5,9 +5,8 @@ ghost use Rattle.pol_model.specs.Explain.{explain_for, explain_of};
 ghost use Rattle.pol_model.specs.Remote.{remote_number, verdict_for};
 ghost use Rattle.pol_repo.specs.Repository.{state_in};
 
-use crate::judge::verdict_at;
-use crate::reasons::explain_at;
 use pol_data::Memory;
+use pol_judge::{explain_at, verdict_at};
 use pol_mapkey::Word;
 use pol_model::{Endpoint, Query, Remote, Trace};
 use pol_repo::Repo;

@@ -1,7 +1,7 @@
 use Rattle.std.proofs.Common.{◌∙◌}
 use Rattle.std.proofs.lemmas.Result.{IfOk-weaker}
 use Rattle.pol_repo.specs.Repository.{state_in}
-use Rattle.pol_trace.proofs.ToldByParts.{trace_told}
+use Rattle.pol_judge.proofs.ToldByParts.{trace_told}
 use Rattle.pol_trace.proofs.query.explained.Goals as goal
 
 pub returns : goal.returns

@@ -1,6 +1,6 @@
 use Rattle.std.proofs.Common.{◌∙◌}
 use Rattle.pol_repo.specs.Repository.{state_in}
-use Rattle.pol_trace.proofs.ToldByParts.{word_told}
+use Rattle.pol_judge.proofs.ToldByParts.{word_told}
 use Rattle.pol_trace.proofs.query.judged.Goals as goal
 
 pub returns : goal.returns

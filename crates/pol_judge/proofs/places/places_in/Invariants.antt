@@ -2,7 +2,7 @@ use Rattle.std.proofs.Common.{◌≡◌, take}
 use Rattle.pol_rule.specs.Covers.{entry_covers}
 use Rattle.pol_model.specs.Explain.{covering_places}
 use Rattle.pol_model.specs.Selects.{selects_number}
-use Rattle.pol_trace.proofs.places.places_in.Given as goal
+use Rattle.pol_judge.proofs.places.places_in.Given as goal
 
 abbrev pub invariant-loop-stamped : goal.invariant-loop-stamped
 invariant-loop-stamped l =

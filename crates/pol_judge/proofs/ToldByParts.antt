@@ -11,7 +11,7 @@ use Rattle.pol_model.specs.declared.row.Stamped.{Stamped}
 use Rattle.pol_model.specs.Explain.{explain_for}
 use Rattle.pol_model.specs.Remote.{remote_number, verdict_for}
 use Rattle.pol_model.specs.State.{State}
-use Rattle.pol_trace.specs.Parts.{parts_of, trace_of, word_of}
+use Rattle.pol_judge.specs.Parts.{parts_of, trace_of, word_of}
 
 module _ (localhost : Bool) (options : Options) (s : State) (mode : Mode) (policies : List Stamped) (rows : List IdentityRow) (number : ℕ) (query : Query) (endpoint : Endpoint)
     (localhost_is : localhost ≡ options.localhost) (mode_is : mode ≡ s.mode) (policies_are : policies ≡ s.policies) (rows_are : rows ≡ s.identities)

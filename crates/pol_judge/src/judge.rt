@@ -3,7 +3,7 @@ ghost use Rattle.std.specs.Prelude.{◌≡◌};
 ghost use Rattle.pol_model.specs.Enforced.{has_rule};
 ghost use Rattle.pol_model.specs.Selects.{selects_number};
 ghost use Rattle.pol_model.specs.Verdict.{rule_covers, some_covers};
-ghost use Rattle.pol_trace.specs.Parts.{parts_of, word_of};
+ghost use Rattle.pol_judge.specs.Parts.{parts_of, word_of};
 
 use crate::selects::covers_packet;
 use pol_ident::Identities;
@@ -67,7 +67,7 @@ fn some_entry_covers(
 
 /// The verdict on the query's packet at the endpoint, where its other side has the identity of that number (Cilium, Policy
 /// Enforcement Modes, and Network Policy, "Deny Policies"); `localhost` is the leave for the local host. It takes no memory.
-pub(crate) fn verdict_at(
+pub fn verdict_at(
     localhost: bool,
     mode: Mode,
     policies: &[Stamped],

@@ -4,7 +4,7 @@ ghost use Rattle.std.specs.List.{AllByRecursion};
 ghost use Rattle.pol_model.specs.Enforced.{allow_section, deny_section};
 ghost use Rattle.pol_model.specs.Explain.{covering_places};
 ghost use Rattle.pol_model.specs.Sizes.{IsShortPolicy};
-ghost use Rattle.pol_trace.specs.Parts.{covers_number, parts_of, trace_of};
+ghost use Rattle.pol_judge.specs.Parts.{covers_number, parts_of, trace_of};
 
 use crate::judge::verdict_at;
 use crate::places::places_in;
@@ -52,7 +52,7 @@ fn allow_places(
 /// Why the query's packet at the endpoint is allowed or denied, where its other side has the identity of that number: the
 /// verdict, and the places of the deny and of the allow entries that cover it, in policy, rule and entry order, whatever
 /// the mode. The one error is want of memory.
-pub(crate) fn explain_at(
+pub fn explain_at(
     alloc: Global,
     localhost: bool,
     mode: Mode,
