@@ -28,8 +28,7 @@ use Rattle.pol_selcache.specs.Cache.{Cache, all_recorded}
 use Rattle.pol_selcache.specs.Live.{AreLive, number_of}
 use Rattle.pol_selcache.proofs.Retold.{tells_difference}
 use Rattle.pol_allocator.specs.Held.{nothing_held}
-use Rattle.pol_requests.specs.Prepared.{peers_with}
-use Rattle.pol_store.specs.Store.{StandsFor, Stored, peers_of}
+use Rattle.pol_store.specs.Store.{StandsFor, Stored, peers_of, peers_with}
 use Rattle.pol_moves.specs.Changes.{IsListedSince, changes_between, horizon_of, revision_before, revisions_until, set_in, state_at}
 use Rattle.pol_moves.specs.Chained.{IsChained, LeadsOn, selector_in}
 use Rattle.pol_moves.proofs.Counted.{plan_counted}
@@ -72,17 +71,17 @@ module _ (options : Options) (journal : List Request) (request : Request) (old n
   both = peers_of then.policies ++ peers_of now.policies
 
   all_without_faults : WithoutFaults options (longer options journal request)
-  all_without_faults = (commits-more options journal request).1 (without_faults, lead.is_prepared.may)
+  all_without_faults = (commits-more options journal request).1 (without_faults, lead.may)
 
   ascend_now : RowsAscend now.identities
   ascend_now = subst (λ (u : State). RowsAscend u.identities) (state_of-push options journal request) (state_keeps options (longer options journal request) all_without_faults).identities.numbers
 
   abbrev mid : Cache
-  mid = lead.mid.cache
+  mid = lead.mid
 
   -- a selector is live for each peer that is listed before or after the request, and for no other
   lists : (p : Peer) (number : ℕ) → number_of p mid.live ≡ Some number → list_any (peers.ghosts.eq p) both ≡ true
-  lists p number is = listed_in_both then request p (live_listed (peers_with then request) mid.live lead.is_prepared.refs lead.sound.live p number is)
+  lists p number is = listed_in_both then request p (live_listed (peers_with then request) mid.live lead.refs lead.sound.live p number is)
 
   lives : (p : Peer) → list_any (peers.ghosts.eq p) both ≡ true → (number : ℕ) × (number_of p mid.live ≡ Some number)
   lives p there =
@@ -93,16 +92,16 @@ module _ (options : Options) (journal : List Request) (request : Request) (old n
             (was.0, lead.gains.kept p was.0 was.1)
         | inr later ↦
             let is = listed_live (peers_of now.policies) new.cache.live lead.stands.refs p (list_any-In (peers.ghosts.eq p) one.0 (peers_of now.policies) later one.2) in
-            (is.0, sym (numbers_stay lead.prepared.plan.changes p mid.live) ∙ lead.loses.kept p is.0 is.1)
+            (is.0, sym (numbers_stay lead.plan.changes p mid.live) ∙ lead.loses.kept p is.0 is.1)
       ]
 
   found_where_listed : (p : Peer) → list_any (is_of p) mid.live ≡ list_any (peers.ghosts.eq p) both
   found_where_listed p = live_where p mid.live both (lists p) (lives p)
 
-  as_many : length lead.prepared.plan.changes ≡ changes_between then now
+  as_many : length lead.plan.changes ≡ changes_between then now
   as_many =
-      plan_counted then.identities now.identities (state_keeps options journal without_faults).identities.numbers mid lead.sound.live lead.prepared.plan lead.is_prepared.plan.fits
-      lead.is_prepared.exact lead.is_prepared.plan.exact both found_where_listed
+      plan_counted then.identities now.identities (state_keeps options journal without_faults).identities.numbers mid lead.sound.live lead.plan lead.prepares.fits
+      lead.exact lead.prepares.exact both found_where_listed
 
   -- the changes of earlier requests are the same
   earlier_changes : (revision : ℕ) → revision ≤ length journal → revisions_until options (longer options journal request) revision ≡ revisions_until options journal revision
@@ -113,16 +112,16 @@ module _ (options : Options) (journal : List Request) (request : Request) (old n
       let rest = earlier_changes revision (omega (arith, within)) in
       λ i. replicate (changes_between (early i) (late i)) (suc revision) ++ rest i
 
-  all_revisions : map (λ (c : SetChange). c.revision) (all_with lead.prepared.plan.revision lead.prepared.plan.changes chained.all)
+  all_revisions : map (λ (c : SetChange). c.revision) (all_with lead.plan.revision lead.plan.changes chained.all)
       ≡ revisions_until options (longer options journal request) (length (longer options journal request))
   all_revisions =
       let one_more : length journal + 1 ≡ suc (length journal) = omega arith in
-      let revision_is : lead.prepared.plan.revision ≡ suc (length journal) = lead.is_prepared.plan.revision_is ∙ ap (λ n. n + 1) (state_of-revision options journal) ∙ one_more in
+      let revision_is : lead.plan.revision ≡ suc (length journal) = lead.prepares.revision_is ∙ ap (λ n. n + 1) (state_of-revision options journal) ∙ one_more in
       let long : length (longer options journal request) ≡ suc (length journal) = one_longer options journal request ∙ one_more in
       let before : state_at options (longer options journal request) (length journal) ≡ then = at_earlier options journal request (length journal) (omega arith) ∙ at_present options journal in
       let after_it : state_at options (longer options journal request) (suc (length journal)) ≡ now = at_last options journal request (suc (length journal)) (sym one_more) in
       let rest = earlier_changes (length journal) (omega arith) in
-      revisions_with lead.prepared.plan.revision lead.prepared.plan.changes chained.all
+      revisions_with lead.plan.revision lead.plan.changes chained.all
       ∙ (λ i. replicate (as_many i) (revision_is i) ++ chained.revisions i)
       ∙ (λ i. replicate (changes_between (sym before i) (sym after_it i)) (suc (length journal)) ++ sym rest i)
       ∙ ap (revisions_until options (longer options journal request)) (sym long)
@@ -135,10 +134,10 @@ module _ (options : Options) (journal : List Request) (request : Request) (old n
         (omega arith, tt);
     listed = listed_on options journal request old new stands lead nexts chained;
     told = told_too options journal request old new stands lead ascend_now nexts chained;
-    all = all_with lead.prepared.plan.revision lead.prepared.plan.changes chained.all;
-    kept = kept_as (all_recorded lead.prepared.plan mid.log) new.cache.log (all_with lead.prepared.plan.revision lead.prepared.plan.changes chained.all)
+    all = all_with lead.plan.revision lead.plan.changes chained.all;
+    kept = kept_as (all_recorded lead.plan mid.log) new.cache.log (all_with lead.plan.revision lead.plan.changes chained.all)
         (ap (λ (log : Log). log.kept) lead.loses.log) (ap (λ (log : Log). log.horizon) lead.loses.log)
-        (keeps_all lead.prepared.plan mid.log chained.all
+        (keeps_all lead.plan mid.log chained.all
         (kept_as old.cache.log mid.log chained.all (ap (λ (log : Log). log.kept) lead.gains.log) (ap (λ (log : Log). log.horizon) lead.gains.log) chained.kept));
     revisions = all_revisions;
   }

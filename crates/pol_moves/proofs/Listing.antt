@@ -21,8 +21,7 @@ use Rattle.pol_peers.specs.References.{RefsOf, references_of}
 use Rattle.pol_peers.proofs.Found.{found_of, is_of, refs}
 use Rattle.pol_selcache.specs.Live.{AreExact, AreLive, Live, number_of}
 use Rattle.pol_selcache.specs.Plan.{Planned, after_changes, changed}
-use Rattle.pol_requests.specs.Prepared.{peers_with}
-use Rattle.pol_store.specs.Store.{peers_of}
+use Rattle.pol_store.specs.Store.{peers_of, peers_with}
 
 -- ---- references and selectors
 pub live_listed : (listed : List Peer) (live : List Live) → RefsOf listed live → AreLive live → (p : Peer) (number : ℕ) → number_of p live ≡ Some number → list_any (peers.ghosts.eq p) listed ≡ true

@@ -48,10 +48,10 @@ module _ (options : Options) (journal : List Request) (request : Request) (old n
   now = after (state_of options journal) request
 
   abbrev mid : Cache
-  mid = lead.mid.cache
+  mid = lead.mid
 
   in_mid : (p : Peer) (number : ℕ) → number_of p new.cache.live ≡ Some number → number_of p mid.live ≡ Some number
-  in_mid p number is = sym (numbers_stay lead.prepared.plan.changes p mid.live) ∙ lead.loses.kept p number is
+  in_mid p number is = sym (numbers_stay lead.plan.changes p mid.live) ∙ lead.loses.kept p number is
 
   -- who lived before and lives now has one number
   pub one_number : (p : Peer) (was number : ℕ) → number_of p old.cache.live ≡ Some was → number_of p new.cache.live ≡ Some number → was ≡ number

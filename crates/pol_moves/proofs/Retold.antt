@@ -50,13 +50,13 @@ module _ (options : Options) (journal : List Request) (request : Request) (old n
   now = after then request
 
   abbrev mid : Cache
-  mid = lead.mid.cache
+  mid = lead.mid
 
   abbrev plan : Plan
-  plan = lead.prepared.plan
+  plan = lead.plan
 
   revision_is : plan.revision ≡ length journal + 1
-  revision_is = lead.is_prepared.plan.revision_is ∙ ap (λ n. n + 1) (state_of-revision options journal)
+  revision_is = lead.prepares.revision_is ∙ ap (λ n. n + 1) (state_of-revision options journal)
 
   -- a set that is told before the request is told after it
   module _ (since : ℕ) (before : List ℕ) (p : Peer) (number : ℕ) (within : since ≤ length journal) (low : new.cache.log.horizon ≤ since)
@@ -66,14 +66,14 @@ module _ (options : Options) (journal : List Request) (request : Request) (old n
 
     pub low_before : old.cache.log.horizon ≤ since
     low_before =
-        let newer = lead.is_prepared.plan.fits.newer in
+        let newer = lead.prepares.fits.newer in
         let rises = horizon_rises plan mid.log lead.sound.log (omega (arith, newer)) in
         let same : mid.log.horizon ≡ old.cache.log.horizon = ap (λ (log : Log). log.horizon) lead.gains.log in
         omega (arith, rises, same, low_carried)
 
     pub told_after : WasAt since before (selector_in then p number) old.cache.log → WasAt since before (selector_in now p number) new.cache.log
     told_after was =
-        let one = selector_of_peer then.identities mid.live lead.is_prepared.exact p number (lead.gains.kept p number is) in
+        let one = selector_of_peer then.identities mid.live lead.exact p number (lead.gains.kept p number is) in
         let s : Live = one.0 in
         let s_number : s.number ≡ number = one.3 in
         let s_set : s.set ≡ set_in then p = one.4 in
@@ -81,9 +81,9 @@ module _ (options : Options) (journal : List Request) (request : Request) (old n
         (ap (λ (log : Log). log.kept) lead.gains.log) (ap (λ (log : Log). log.horizon) lead.gains.log) was in
         let newer : since < plan.revision = omega (arith, within, revision_is) in
         let on : WasAt since before (after_changes plan.changes s) (carried plan mid).log =
-        told_on since before s plan mid lead.sound lead.sound.log lead.is_prepared.plan.fits (Contains-from_In mid.live s one.1) newer low_carried at_mid in
+        told_on since before s plan mid lead.sound lead.sound.log lead.prepares.fits (Contains-from_In mid.live s one.1) newer low_carried at_mid in
         let set_now : (after_changes plan.changes s).set ≡ set_in now p =
-        every-in (λ x. x.set ≡ set_at now.identities x.peer) (changed plan.changes mid.live) lead.is_prepared.plan.exact (after_changes plan.changes s) (map-In (after_changes plan.changes) s mid.live one.1)
+        every-in (λ x. x.set ≡ set_at now.identities x.peer) (changed plan.changes mid.live) lead.prepares.exact (after_changes plan.changes s) (map-In (after_changes plan.changes) s mid.live one.1)
         ∙ ap (set_at now.identities) one.2 in
         told_as since before (after_changes plan.changes s) (selector_in now p number) (carried plan mid).log new.cache.log (sym s_number) (sym set_now)
         (ap (λ (log : Log). log.kept) lead.loses.log) (ap (λ (log : Log). log.horizon) lead.loses.log) on

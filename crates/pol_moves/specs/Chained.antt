@@ -6,15 +6,17 @@ use Rattle.pol_model.specs.declared.options.Options.{Options}
 use Rattle.pol_model.specs.declared.request.Request.{Request}
 use Rattle.pol_model.specs.After.{after, state_of}
 use Rattle.pol_model.specs.State.{State}
+use Rattle.pol_model_laws.specs.WithoutFaults.{MayCommit}
 use Rattle.pol_change_log.specs.declared.change.SetChange.{SetChange}
 use Rattle.pol_change_log.specs.Recorded.{KeepsLast}
 use Rattle.pol_selcache.specs.Cache.{Cache, IsSound, carried}
-use Rattle.pol_selcache.specs.Live.{Live, number_of}
+use Rattle.pol_selcache.specs.Live.{AreExact, Live, number_of}
+use Rattle.pol_selcache.specs.Plan.{Plan}
 use Rattle.pol_selcache.specs.Told.{WasAt}
 use Rattle.pol_peers.specs.Numbering.{GainsSelectors, LosesSelectors}
-use Rattle.pol_requests.specs.declared.prepared.Prepared.{Prepared}
-use Rattle.pol_requests.specs.Prepared.{IsPrepared}
-use Rattle.pol_store.specs.Store.{StandsFor, Stored}
+use Rattle.pol_peers.specs.References.{RefsOf}
+use Rattle.pol_allocator.specs.Held.{Prepares}
+use Rattle.pol_store.specs.Store.{StandsFor, Stored, peers_with}
 use Rattle.pol_moves.specs.Changes.{IsListedSince, revisions_until, set_in, state_at}
 
 -- the peer's selector under a number, with the set of the state
@@ -36,14 +38,19 @@ pub record IsChained (options : Options) (journal : List Request) (nexts : List 
   pub kept : KeepsLast cache.log all
   pub revisions : map (λ change. change.revision) all ≡ revisions_until options journal (length journal)
 
--- The request was prepared in a store of these selectors, and then done.
+-- The request may commit, and this is what it does to the selectors when it is prepared and done. First some came: each peer
+-- had a reference for each of its places in the policies, and in its own policy, and each set was exact. Then a plan of the
+-- next revision was carried out, which makes each set exact for the state after it. Then some went.
 pub record LeadsOn (s : State) (request : Request) (old : Cache) (new : Stored) : Type 0 where
-  pub mid : Stored
-  pub prepared : Prepared
-  pub gains : GainsSelectors old mid.cache
-  pub sound : IsSound mid.cache
-  pub is_prepared : IsPrepared s request mid prepared
-  pub loses : LosesSelectors (carried prepared.plan mid.cache) new.cache
+  pub mid : Cache
+  pub plan : Plan
+  pub gains : GainsSelectors old mid
+  pub sound : IsSound mid
+  pub may : MayCommit s request
+  pub refs : RefsOf (peers_with s request) mid.live
+  pub exact : AreExact s.identities mid.live
+  pub prepares : Prepares (s.revision + 1) (after s request).identities mid plan
+  pub loses : LosesSelectors (carried plan mid) new.cache
   pub stands : StandsFor (after s request) new
   pub new_sound : IsSound new.cache
 

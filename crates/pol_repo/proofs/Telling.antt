@@ -115,11 +115,14 @@ module _ (options : Options) (journal : List Request) (len capacity : ℕ) (stor
         (subst (λ (requests : List Request). IsTold options requests nexts' many' room' stored' None) (sym longer)
         (subst (λ (ns : List ℕ). IsTold options (journal ++ request ∷ []) ns many' room' stored' None) (sym more)
         (chain_goes_on options journal request old.old stored' nexts sound.without_faults old.stands (record {
-          mid = stored;
-          prepared = one;
+          mid = stored.cache;
+          plan = one.plan;
           gains = old.gains;
           sound = fit;
-          is_prepared = its;
+          may = its.may;
+          refs = its.refs;
+          exact = its.exact;
+          prepares = its.plan;
           loses = loses;
           stands = done then request keeps its;
           new_sound = fit';

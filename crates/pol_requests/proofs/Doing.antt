@@ -24,8 +24,8 @@ use Rattle.pol_tables.specs.Tables.{number_named}
 use Rattle.pol_peers.specs.References.{RefsOf}
 use Rattle.pol_requests.specs.declared.prepared.TableChange.TheVariants as change
 use Rattle.pol_store.specs.Parts.{numbers_of, with_numbers}
-use Rattle.pol_store.specs.Store.{IsLike, StandsFor, Stored, peers_of}
-use Rattle.pol_requests.specs.Prepared.{Changes, IsUnderWay, MayChange, change_for, or_none, peers_with}
+use Rattle.pol_store.specs.Store.{IsLike, StandsFor, Stored, peers_of, peers_with}
+use Rattle.pol_requests.specs.Prepared.{Changes, IsUnderWay, MayChange, change_for, or_none}
 use Rattle.pol_requests.proofs.ChangeParts.{differ, endpoint_of_change, name_of_change, number_of_change}
 use Rattle.pol_requests.proofs.Faults.{endpoint_there, may_be_added}
 use Rattle.pol_requests.proofs.LiveNumbers.{MayGo, live_number}

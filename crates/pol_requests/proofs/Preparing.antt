@@ -20,8 +20,8 @@ use Rattle.pol_rule.specs.Listed.{listed_peers}
 use Rattle.pol_peers.specs.References.{RefsOf}
 use Rattle.pol_requests.specs.declared.prepared.Prepared.{Prepared}
 use Rattle.pol_requests.specs.declared.error.PrepareError.TheVariants.{Fault}
-use Rattle.pol_store.specs.Store.{IsLike, Rooms, StandsFor, Stored, peers_of, with_rooms}
-use Rattle.pol_requests.specs.Prepared.{HasRoom, IsPrepared, PreparesOrNot, change_for, peers_with}
+use Rattle.pol_store.specs.Store.{IsLike, Rooms, StandsFor, Stored, peers_of, peers_with, with_rooms}
+use Rattle.pol_requests.specs.Prepared.{HasRoom, IsPrepared, PreparesOrNot, change_for}
 use Rattle.pol_requests.proofs.Likeness.{like_after, like_change, like_fault, like_taken}
 
 -- A request is prepared in the rows themselves.

@@ -24,8 +24,8 @@ use Rattle.pol_allocator.proofs.Coming.{number_not_local}
 use Rattle.pol_peers.specs.References.{RefsOf, references_of}
 use Rattle.pol_requests.specs.declared.prepared.Prepared.{Prepared}
 use Rattle.pol_store.specs.Parts.{begun, numbers_of, with_numbers}
-use Rattle.pol_store.specs.Store.{IsLike, StandsFor, Stored, peers_of}
-use Rattle.pol_requests.specs.Prepared.{HasRoom, IsPrepared, IsUnderWay, peers_with}
+use Rattle.pol_store.specs.Store.{IsLike, StandsFor, Stored, peers_of, peers_with}
+use Rattle.pol_requests.specs.Prepared.{HasRoom, IsPrepared, IsUnderWay}
 
 -- changes of sets leave the references as they were
 references_kept : (changes : List Planned) (p : Peer) (live : List Live) → references_of p (changed changes live) ≡ references_of p live

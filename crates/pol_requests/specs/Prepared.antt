@@ -1,7 +1,6 @@
 -- What a request that is prepared has taken, and what it will do.
-use Rattle.std.specs.Prelude.{ℕ, Bool, true, false, ◌≡◌, ◌+◌, ◌<◌, ◌≤◌, ◌++◌, List, Option, Some, option_map, Result, IfOk, IfErr, OnErr}
+use Rattle.std.specs.Prelude.{ℕ, Bool, true, false, ◌≡◌, ◌+◌, ◌<◌, ◌≤◌, Option, Some, option_map, Result, IfOk, IfErr, OnErr}
 use Rattle.std.specs.Option.{option_map_or}
-use Rattle.pol_rule.specs.declared.policy.Peer.{Peer}
 use Rattle.pol_rule.specs.Prefixes.{policy_prefixes}
 use Rattle.pol_model.specs.declared.request.Request.{Request}
 use Rattle.pol_model.specs.declared.request.Request.TheVariants.{AddEndpoint, RemoveEndpoint, AddIdentity, RemoveIdentity, Apply, Remove, SetMode}
@@ -18,14 +17,13 @@ use Rattle.pol_model_laws.specs.WithoutFaults.{MayCommit}
 use Rattle.pol_change_log.specs.Log.{newest}
 use Rattle.pol_selcache.specs.Live.{AreExact}
 use Rattle.pol_allocator.specs.Held.{Prepares}
-use Rattle.pol_rule.specs.Listed.{listed_peers}
 use Rattle.pol_peers.specs.References.{RefsOf}
 use Rattle.pol_requests.specs.declared.prepared.TableChange.{TableChange}
 use Rattle.pol_requests.specs.declared.prepared.TableChange.TheVariants as change
 use Rattle.pol_requests.specs.declared.prepared.Prepared.{Prepared}
 use Rattle.pol_requests.specs.declared.error.PrepareError.{PrepareError}
 use Rattle.pol_requests.specs.declared.error.PrepareError.TheVariants.{Fault, Memory}
-use Rattle.pol_store.specs.Store.{IsLike, Rooms, StandsFor, Stored, peers_of}
+use Rattle.pol_store.specs.Store.{IsLike, Rooms, StandsFor, Stored, peers_with}
 
 -- the number, or 0 where there is none
 abbrev pub or_none : Option ℕ → ℕ
@@ -41,11 +39,6 @@ change_for s (Apply policy) =
     change.Policy (record { policy = policy; stamp = s.revision + 1 }) policy.key (policy_prefixes policy) (prefixes_of (policy_at policy.key s.policies))
 change_for s (Remove key) = change.NoPolicy key (prefixes_of (policy_at key s.policies))
 change_for s (SetMode mode) = change.Mode mode
-
--- the peers that have references while the request is prepared: those of its own policy too
-abbrev pub peers_with : State → Request → List Peer
-peers_with s (Apply policy) = listed_peers policy ++ peers_of s.policies
-peers_with s _ = peers_of s.policies
 
 -- the tables have room for what the request adds
 abbrev pub HasRoom : Request → Rooms → Type 0

@@ -1,7 +1,9 @@
--- What a store is seen as, and which state it stands for.
-use Rattle.std.specs.Prelude.{ℕ, ◌≡◌, ◌≤◌, List}
+-- What a store is seen as, which state it stands for, and whose peers have references in it.
+use Rattle.std.specs.Prelude.{ℕ, ◌≡◌, ◌≤◌, ◌++◌, List}
 use Rattle.std.specs.List.{flat_map}
 use Rattle.pol_rule.specs.declared.policy.Peer.{Peer}
+use Rattle.pol_model.specs.declared.request.Request.{Request}
+use Rattle.pol_model.specs.declared.request.Request.TheVariants.{Apply}
 use Rattle.pol_model.specs.declared.row.Stamped.{Stamped}
 use Rattle.pol_model.specs.State.{State}
 use Rattle.pol_tables.specs.Tables.{SameNumbers}
@@ -40,6 +42,11 @@ pub record IsLike (s rows : State) : Type 0 where
 -- the peers that the policies list, each as often as it stands there
 abbrev pub peers_of : List Stamped → List Peer
 peers_of policies = flat_map (λ stamped. listed_peers stamped.policy) policies
+
+-- the peers that have references while the request is prepared: those of its own policy too
+abbrev pub peers_with : State → Request → List Peer
+peers_with s (Apply policy) = listed_peers policy ++ peers_of s.policies
+peers_with s _ = peers_of s.policies
 
 -- The store stands for the state: its rows are the state's, each peer of the policies has a reference for each of its
 -- places, each selector's set is exact, and no change is later than the state.
