@@ -87,7 +87,7 @@ fn double<R: Clock + Eprint + AllocGlobal>(rt: &R, doubled: Doubled, least: u32)
     Ok(())
 }
 
-/// Filters as `delta_bench` has them, each of which selects ten identities, and then one more, beside so many policies that
+/// Filters as `engine_bench` has them, each of which selects ten identities, and then one more, beside so many policies that
 /// select no endpoint.
 fn measure_filters<R: Clock + Eprint + AllocGlobal>(
     rt: &R,

@@ -1,7 +1,0 @@
-use Rattle.std.specs.Prelude.{IfSome}
-use Rattle.pol_arena.specs.Twin.{IsInUse}
-use Rattle.arena_bench.proofs.twins.walk.Given as goal
-
--- the walk stands at a node in use
-abbrev pub invariant-loop : goal.invariant-loop
-invariant-loop l = IfSome l.at (IsInUse l.twin)

@@ -1,4 +1,0 @@
-use Rattle.cache_bench.proofs.measure.Given as goal
-
-abbrev pub ghosts-time_over : goal.ghosts-time_over
-ghosts-time_over a args = record { name = args.blank.name; parts = args.blank.parts }

@@ -1,5 +1,0 @@
-use Rattle.pol_selcache.specs.Live.{AreExact}
-use Rattle.cache_bench.proofs.selectors.drop_each.Given as goal
-
-abbrev pub invariant-loop-peer : goal.invariant-loop-peer
-invariant-loop-peer l = AreExact l.identities l.cache.live

@@ -1,8 +1,0 @@
-use Rattle.std.proofs.Common.{sym, subst}
-use Rattle.std.specs.List.Sorted.{IsStrictlySortedBy}
-use Rattle.std.specs.Ordering.{nat_cmp}
-use Rattle.delta_bench.proofs.Numbered.{eleven_ascend}
-use Rattle.delta_bench.proofs.inputs.eleven.Goals as goal
-
-pub from_ascending-requires : goal.from_ascending-requires
-from_ascending-requires c = record { ascending = subst (IsStrictlySortedBy nat_cmp) (sym c.in_ok-ids.ensures.items) eleven_ascend }

@@ -1,7 +1,0 @@
-use Rattle.std.proofs.Common.{◌≡◌, length}
-use Rattle.std.specs.Arc.{arc_value}
-use Rattle.delta_bench.specs.Turns.{AllAt, RowAt}
-use Rattle.delta_bench.proofs.inputs.rows.Given as goal
-
-abbrev pub invariant-loop-number : goal.invariant-loop-number
-invariant-loop-number l = (length l.rows.items ≡ l.number) × AllAt (RowAt (arc_value l.set)) l.rows.items

@@ -1,6 +1,0 @@
-use Rattle.std.proofs.Common.{◌≡◌, take}
-use Rattle.delta_bench.proofs.inputs.with_one.Given as goal
-
--- the filters so far are copied
-abbrev pub invariant-loop-own : goal.invariant-loop-own
-invariant-loop-own l = l.list.items ≡ take l.own-index l.few

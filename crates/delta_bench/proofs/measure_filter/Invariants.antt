@@ -1,7 +1,0 @@
-use Rattle.std.specs.Arc.{arc_value}
-use Rattle.delta_bench.specs.Turns.{IsAt, ten}
-use Rattle.delta_bench.proofs.measure_filter.Given as goal
-
--- what came has gone
-abbrev pub invariant-loop : goal.invariant-loop
-invariant-loop g l = IsAt ten (arc_value l.few.filters) l.work

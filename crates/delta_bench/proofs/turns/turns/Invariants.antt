@@ -1,7 +1,0 @@
-use Rattle.std.specs.Arc.{arc_value}
-use Rattle.delta_bench.specs.Turns.{IsAt, ten}
-use Rattle.delta_bench.proofs.turns.turns.Given as goal
-
--- the identity is gone
-abbrev pub invariant-loop : goal.invariant-loop
-invariant-loop l = IsAt ten (arc_value l.there.filters) l.work

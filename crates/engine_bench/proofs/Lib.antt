@@ -1,0 +1,3 @@
+mod PrefixComes
+pub mod Numbered
+pub mod Turning

@@ -1,0 +1,140 @@
+//! Times a policy map of 16,000 keys over 1,000 identities: sets, look-ups, a copy and clears.
+ghost use Rattle.std.specs.Prelude.{◌≡◌};
+
+use anyhow::Result;
+use pol_data::Steps;
+use pol_mapkey::{KeyProto, Kind, MapKey, Word};
+use pol_ports::{Direction, PortPrefix, Proto};
+use pol_trie::PolicyTrie;
+use std::alloc::AllocError;
+use std::marker::Brand;
+use std::rt::Clock;
+use std::sync::ledger::{Blank, Ledger};
+use std::time::Instant;
+
+/// Identities, and keys of each.
+const IDENTITIES: u32 = 1_000;
+
+const KEYS: u32 = 16_000;
+
+/// How many packets are looked up.
+const LOOK_UPS: u32 = 100_000;
+
+/// A port, scattered by an odd factor.
+fn port_of(i: u32) -> u16 {
+    (i.wrapping_mul(0x9e37_79b1) >> 16) as u16
+}
+
+/// The key of a number: one port of an identity.
+fn key_of(i: u32) -> MapKey {
+    MapKey {
+        dir: Direction::Ingress,
+        id: 256 + i % IDENTITIES,
+        proto: KeyProto::Tcp,
+        port: PortPrefix {
+            bits: port_of(i),
+            len: 16,
+        },
+    }
+}
+
+/// Sets the keys.
+fn fill(trie: &mut PolicyTrie) -> Result<(), AllocError> {
+    for i in 0..KEYS {
+        if trie.count() < 1_000_000 {
+            trie.set(key_of(i), Kind::Allow)?;
+        }
+    }
+    Ok(())
+}
+
+/// Clears the keys, and counts those that were there.
+fn clear(trie: &mut PolicyTrie) -> u32 {
+    let mut there = 0u32;
+    for i in 0..KEYS {
+        if trie.clear(&key_of(i)) {
+            there = there.wrapping_add(1);
+        }
+    }
+    there
+}
+
+/// How many packets are allowed: half of them on a port of a key.
+fn allowed_over<L: Ledger>(blank: Blank, trie: &PolicyTrie) -> u32
+    requires name { blank.name ≡ L.name }
+    requires parts { blank.parts ≡ L.parts }
+    requires some { blank.parts ≡ 1 }
+{
+    let mut steps = Steps::<L>::new(blank);
+    let mut allowed = 0u32;
+    for i in 0..LOOK_UPS {
+        let id = 256 + i % IDENTITIES;
+        let word = trie.look(
+            Direction::Ingress,
+            id,
+            Proto::Tcp,
+            port_of(i % (2 * KEYS)),
+            &mut steps,
+        );
+        if word == Word::Allowed {
+            allowed = allowed.wrapping_add(1);
+        }
+    }
+    allowed
+}
+
+fn allowed(trie: &PolicyTrie) -> u32 {
+    allowed_over::<Brand>(Blank::new(1), trie)
+}
+
+fn time_sets<R: Clock + Eprint + AllocGlobal>(rt: &R, trie: &mut PolicyTrie) -> Result<()> {
+    let start = Instant::now(rt)?;
+    fill(trie)?;
+    let nanos = start.elapsed(rt)?.as_nanos() / u128::from(KEYS);
+    let count = trie.count();
+    let nodes = trie.nodes();
+    eprintln!(rt; "set: {nanos} ns, {count} keys, {nodes} nodes")?;
+    Ok(())
+}
+
+fn time_look_ups<R: Clock + Eprint + AllocGlobal>(rt: &R, trie: &PolicyTrie) -> Result<()> {
+    let start = Instant::now(rt)?;
+    let found = allowed(trie);
+    let nanos = start.elapsed(rt)?.as_nanos() / u128::from(LOOK_UPS);
+    eprintln!(rt; "look: {nanos} ns, {found} allowed")?;
+    Ok(())
+}
+
+/// How many microseconds a copy took, and how many keys it has.
+fn time_of_copy<R: Clock + AllocGlobal>(rt: &R, trie: &PolicyTrie) -> Result<(u128, u32)> {
+    let start = Instant::now(rt)?;
+    let copy = trie.copy(rt.alloc())?;
+    Ok((start.elapsed(rt)?.as_nanos() / 1000, copy.count()))
+}
+
+fn time_copy<R: Clock + Eprint + AllocGlobal>(rt: &R, trie: &PolicyTrie) -> Result<()> {
+    let (micros, count) = time_of_copy(rt, trie)?;
+    eprintln!(rt; "copy: {micros} us, {count} keys")?;
+    Ok(())
+}
+
+fn time_clears<R: Clock + Eprint + AllocGlobal>(rt: &R, trie: &mut PolicyTrie) -> Result<()> {
+    let start = Instant::now(rt)?;
+    let there = clear(trie);
+    let nanos = start.elapsed(rt)?.as_nanos() / u128::from(KEYS);
+    eprintln!(rt; "clear: {nanos} ns, {there} keys")?;
+    Ok(())
+}
+
+fn time_all<R: Clock + Eprint + AllocGlobal>(rt: &R, trie: &mut PolicyTrie) -> Result<()> {
+    time_sets(rt, trie)?;
+    time_look_ups(rt, trie)?;
+    time_copy(rt, trie)?;
+    time_clears(rt, trie)
+}
+
+/// Times all of these, on a map that is empty at first.
+pub(crate) fn time<R: Clock + Eprint + AllocGlobal>(rt: &R) -> Result<()> {
+    let mut trie = PolicyTrie::new(rt.alloc());
+    time_all(rt, &mut trie)
+}

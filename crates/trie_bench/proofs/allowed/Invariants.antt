@@ -1,4 +1,0 @@
-use Rattle.trie_bench.proofs.allowed.Given as goal
-
-abbrev pub ghosts-allowed_over : goal.ghosts-allowed_over
-ghosts-allowed_over a = record { name = a.blank.name; parts = a.blank.parts }
