@@ -50,7 +50,7 @@ fn acquired(identities: &mut Identities, labels: &LabelSet) -> Option<u32>
     ensures held { IfSome result (λ number. has_row number identities.new ≡ true) }
 {
     // No identity has the number 0. The call tells that the rows ascend.
-    let _none = identities.held(0);
+    identities.fits_together();
     match identities.acquire(labels) {
         Ok(number) => Some(number),
         Err(_) => None,
@@ -117,7 +117,7 @@ fn is_given_back(identities: &mut Identities, number: u32) -> bool
     ensures exact { IsTrue result → (live : List Live) → AreExact (rows_without (number ∷ []) identities.old) live → AreExact identities.new live }
 {
     // No identity has the number 0. The call tells that the rows fit together.
-    let _none = identities.held(0);
+    identities.fits_together();
     identities.release(number);
     !identities.held(number)
 }

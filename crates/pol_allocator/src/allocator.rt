@@ -83,12 +83,13 @@ impl Allocator {
         &self.selectors
     }
 
-    /// The revision of the newest change of a set that was dropped, 0 if none was.
-    pub fn horizon(&self) -> u64
-        ensures horizon { result ≡ self.now.cache.log.horizon }
+    /// The call tells that the rows fit together, and the selectors.
+    pub fn fits_together(&self)
+        ensures rows { KeepsRows self.now.rows }
         ensures sound { IsSound self.now.cache }
     {
-        self.selectors.horizon()
+        self.identities.fits_together();
+        self.selectors.fits_together();
     }
 
     /// The numbers of the held prefixes, as they are now. The table is shared as long as no prefix comes or goes, and copied

@@ -38,8 +38,7 @@ impl Allocator {
             &mut self.prefixes,
             prefixes,
         );
-        // No identity has the number 0. The call tells that the rows fit together.
-        let _none = self.identities.held(0);
+        self.identities.fits_together();
         let come = held?;
         let shared = self.shared.take();
         self.shared = once_held(shared, come.is_empty(), &self.identities, prefixes);

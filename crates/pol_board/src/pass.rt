@@ -77,6 +77,13 @@ impl<N: NodeName> Pass<N> {
         self.seen.again()
     }
 
+    /// The call tells that what it has seen is a legal history.
+    pub fn fits_together(&self)
+        ensures legal { IsLegal N.options self.now.has.history }
+    {
+        let _ = &self.seen;
+    }
+
     /// It has one commit more, which is the last of its own in this history.
     pub(crate) fn committed(&mut self, seen: &Seen<N>, request: &Request)
         requires longer { IsPrefix self.old.has.history seen.now }

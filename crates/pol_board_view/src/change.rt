@@ -14,10 +14,10 @@ ghost use Rattle.pol_board_view.specs.Rows.{ChangesMap, HasRoom, Holds, HoldsRow
 ghost use Rattle.pol_board_view.specs.Room.{HaveRoom};
 
 use crate::row::{FaceRow, Rows, show_map};
-use pol_prefixes::Addresses;
 use pol_change_list::ChangeList;
 use pol_data::{Memory, Text};
 use pol_history::LastReport;
+use pol_prefixes::Addresses;
 use std::alloc::Global;
 use std::sync::Arc;
 

@@ -102,6 +102,13 @@ impl ChangeList {
         self.changes.as_slice()
     }
 
+    /// The call tells that the changes are in key order, one of each key.
+    pub fn fits_together(&self)
+        ensures ascending { IsAscending self.now }
+    {
+        let _ = &self.changes;
+    }
+
     /// How many changes there are.
     pub fn len(&self) -> usize
         ensures { result ≡ length self.now }

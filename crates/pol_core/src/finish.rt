@@ -71,8 +71,7 @@ fn show(
     ensures ok { OnOk result ((shown : MachineMap) × (map.new ≡ Some shown) × IsShownOf map.old changes.old taken.now shown) }
     ensures err { OnErr result ((map.new ≡ map.old) × (changes.new ≡ changes.old)) }
 {
-    // The call tells that the changes are in key order.
-    let _changes = changes.as_slice();
+    changes.fits_together();
     let addresses = taken.addresses.clone()?;
     let revision = taken.revision;
     match map {

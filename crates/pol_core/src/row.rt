@@ -8,10 +8,10 @@ ghost use Rattle.pol_core.specs.Rows.{by_name, map_held, row_held};
 
 use crate::double::DoubleTrie;
 use indexmap::IndexMap;
-use pol_prefixes::Addresses;
 use pol_data::{Steps, Text};
 use pol_history::{LastReport, Reply};
 use pol_model::{Query, Remote};
+use pol_prefixes::Addresses;
 use pol_slot_map::Followed;
 use std::sync::Arc;
 use std::sync::ledger::Ledger;

@@ -123,8 +123,8 @@ impl<N: NodeName, R: Wait + Drop> Desk<N, R> {
         ensures shown { pass.new.has.history ≡ self.new.writer.seen }
     {
         self.writer.show(rt, pass);
-        // The call tells that each request had no fault: so only the first 256 slots are in use.
-        let _journal = self.repo.journal();
+        // Each request had no fault: so only the first 256 slots are in use.
+        self.repo.fits_together();
         (self.repo.revision(), slots_in(self.repo.endpoints()))
     }
 

@@ -32,8 +32,7 @@ fn hold_peer<L: Ledger>(
     ensures fresh { TakesFreshNumbers cache.old cache.new }
     ensures cost { steps.new ≤ steps.old + steps_of peer.now * length identities.now }
 {
-    // The call tells that the selectors fit together.
-    let _known = cache.selector_of(peer);
+    cache.fits_together();
     cache.add(peer, identities, steps)?;
     Ok(())
 }
@@ -102,8 +101,7 @@ pub fn hold_peers<L: Ledger>(
     ensures fresh { TakesFreshNumbers cache.old cache.new }
     ensures cost { steps.new ≤ steps.old + steps_to_hold (listed_peers policy.now) (length identities.now) }
 {
-    // The call tells that the selectors fit together.
-    let _horizon = cache.horizon();
+    cache.fits_together();
     let peers = listed_peers(alloc, policy)?;
     hold_each(cache, &peers, identities, steps)
 }

@@ -53,7 +53,6 @@ pub fn gone_numbers(
     requires once { IsDistinct same_prefix prefixes.now }
     ensures gone { IfOk result (λ gone. AreBeyond (prefixes_released prefixes.now identities.now) identities.now gone.items) }
 {
-    // The call tells that the rows fit together.
-    let _none = identities.held(0);
+    identities.fits_together();
     all_going(alloc, identities, prefixes)
 }

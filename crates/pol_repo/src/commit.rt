@@ -26,8 +26,7 @@ impl Repo {
     {
         let Ready { request, done } = ready;
         let prepared = self.prepared.take().unwrap();
-        // These calls tell that the selectors fit together, before and after.
-        let _before = self.store.numbers();
+        self.store.fits_together();
         accept(&mut self.store, prepared);
         let next = self.store.numbers().selectors().next_number();
         self.nexts.push(next).unwrap();
@@ -42,8 +41,7 @@ impl Repo {
     {
         let prepared = self.prepared.take().unwrap();
         withdraw(&mut self.store, prepared);
-        // The call tells that the selectors fit together.
-        let _known = self.store.numbers();
+        self.store.fits_together();
     }
 
     /// Does the request, if it has no fault, and raises the revision by one. The errors are those of `Repo::prepare`; after

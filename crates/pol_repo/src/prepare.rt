@@ -52,14 +52,13 @@ fn prepare_in<L: Ledger>(
     ensures prepared { PreparesOrNot request.now store.old store.new result }
     ensures cost { is_of_policy request.now ≡ false → steps.new ≤ steps.old + label_selectors store.old.cache.live }
 {
-    // The calls of this name tell that the selectors fit together.
-    let _before = store.numbers();
+    store.fits_together();
     journal.reserve(1)?;
     nexts.reserve(1)?;
     // The call tells that a capacity is a number of 64 bits, and so the revision is below the last one.
     let _capacity = journal.capacity();
     let prepared = prepare(store, request, steps);
-    let _after = store.numbers();
+    store.fits_together();
     prepared
 }
 
@@ -96,8 +95,7 @@ impl Repo {
         // Only a policy may list peers that are new, which are judged by all identities.
         ensures cost { is_of_policy request ≡ false → steps.new ≤ steps.old + label_peers (state_in self.old).policies }
     {
-        // The call tells that each selector has a reference, and no two are of one peer.
-        let _known = self.store.numbers();
+        self.store.fits_together();
         match prepare_in(
             &mut self.journal,
             &mut self.nexts,

@@ -72,6 +72,13 @@ impl Repo {
         self.journal.as_slice()
     }
 
+    /// The call tells that no request of the journal had a fault.
+    pub fn fits_together(&self)
+        ensures without_faults { WithoutFaults self.now.options self.now.journal }
+    {
+        let _ = &self.journal;
+    }
+
     /// How many requests were accepted so far.
     pub fn revision(&self) -> u64
         ensures revision { result ≡ (state_in self.now).revision }

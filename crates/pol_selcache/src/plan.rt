@@ -207,8 +207,7 @@ impl SelectorCache {
         ensures cost { steps.new ≤ steps.old + label_selectors self.old.live * length come.now }
     {
         let alloc = self.alloc;
-        // No identity has the number 0. The call tells that the rows ascend.
-        let _none = identities.held(0);
+        identities.fits_together();
         let come = set_of_slice(alloc, come)?;
         let gone = set_of_slice(alloc, gone)?;
         let changes = plan_all(alloc, &self.table, &come, &gone, identities, steps)?;

@@ -68,7 +68,7 @@ fn commit<N: NodeName, W: Wait, R: Wait + Drop, L: Ledger>(
     ensures nothing { OnErr result (PassGrows N.options pass.old pass.new []) }
     ensures hints { hint_pass.new.queue ≡ hints.now.name }
 {
-    let _seen = pass.seen();
+    pass.fits_together();
     // A place has no numbers for a list so long.
     if !request.is_short() {
         return Err(Memory);
@@ -96,7 +96,7 @@ fn look<N: NodeName, W: Wait, R: Wait + Drop, L: Ledger>(
 ) -> Answer
     ensures { (session : ℕ) → GoesOn N.options pass.old (command.Look session query.now) result pass.new }
 {
-    let _seen = pass.seen();
+    pass.fits_together();
     for _ in rt.forever() {
         match node.verdict(pass, query, steps) {
             Ok(verdict) => {

@@ -70,7 +70,7 @@ fn play_counted<N: NodeName, W: Wait, R: Wait + Drop, L: Ledger>(
     let mut left = lines;
     let mut answers = Answers::new(alloc);
     let mut round = HintRound::new();
-    let _seen = pass.seen();
+    pass.fits_together();
     while let Some(line) = left.next() {
         let answer = play_line(
             rt, alloc, node, pass, hints, hint_pass, &mut round, line, &mut steps,

@@ -132,8 +132,7 @@ impl Store {
         requires not_local { is_local number ≡ false }
         ensures released { self.new ≡ with_numbers (record (numbers_of self.old) { rows = released number self.old.state.identities }) self.old }
     {
-        // The call tells that the rows fit together.
-        let _rows = self.numbers.identities();
+        self.numbers.fits_together();
         self.numbers.release(number);
     }
 

@@ -123,14 +123,18 @@ impl Store {
         &self.policies
     }
 
-    /// The numbers that are held, and the selectors with their sets, which fit together.
+    /// The numbers that are held, and the selectors with their sets.
     pub fn numbers(&self) -> &Allocator
         ensures numbers { result.now ≡ numbers_of self.now }
+    {
+        &self.numbers
+    }
+
+    /// The call tells that the selectors fit together.
+    pub fn fits_together(&self)
         ensures sound { IsSound self.now.cache }
     {
-        // The call tells that the selectors fit together.
-        let _horizon = self.numbers.horizon();
-        &self.numbers
+        self.numbers.fits_together();
     }
 
     /// The identity of an address: that of the endpoint that has it, else of the longest held prefix that contains it, else

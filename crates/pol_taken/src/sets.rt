@@ -73,8 +73,7 @@ pub fn sets_of(alloc: Global, cache: &SelectorCache, filters: &Filters) -> Resul
     requires live { AllByRecursion (λ p. IsSome (number_of p cache.now.live)) (filter_peers filters.now) }
     ensures sets { IfOk result (AreSetsFor cache.now.live filters.now) }
 {
-    // The call tells that the selectors fit together.
-    let _horizon = cache.horizon();
+    cache.fits_together();
     let peers = listed_peers(alloc, filters)?;
     let rows = rows_for(alloc, cache, &peers)?;
     let sets = rows.into_sets(alloc)?;

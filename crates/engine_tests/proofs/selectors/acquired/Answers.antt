@@ -8,7 +8,7 @@ use Rattle.engine_tests.proofs.selectors.acquired.Goals as goal
 pub returns-in-Ok-clause-may : goal.returns-in-Ok-clause-may
 returns-in-Ok-clause-may c = λ revision cache newer exact.
     subst (λ (rows : List IdentityRow). MayPlan revision (c.in-Ok.number ∷ []) [] rows cache) (sym c.in-Ok.ensures.ok)
-    (new_may_come c.args.labels.now c.args.identities.now c.in-Ok.number c.held-none.ensures.sound.numbers c.in-Ok.ensures.number c.requires.new revision cache newer exact)
+    (new_may_come c.args.labels.now c.args.identities.now c.in-Ok.number c.fits_together.ensures.sound.numbers c.in-Ok.ensures.number c.requires.new revision cache newer exact)
 
 pub returns-in-Ok-clause-held : goal.returns-in-Ok-clause-held
 returns-in-Ok-clause-held c =

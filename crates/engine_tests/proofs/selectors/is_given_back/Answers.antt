@@ -10,6 +10,6 @@ pub returns : goal.returns
 returns c = record {
   exact = λ gone live exact.
       subst (λ (rows : List IdentityRow). AreExact rows live) (sym c.release.ensures.rows)
-      (exact_without c.args.number c.args.identities.now c.requires.held c.held-none.ensures.sound
+      (exact_without c.args.number c.args.identities.now c.requires.held c.fits_together.ensures.sound
       (ap (has_row c.args.number) (sym c.release.ensures.rows) ∙ sym c.held.ensures.held ∙ not-true c.held.result gone) live exact);
 }

@@ -8,14 +8,14 @@ use Rattle.pol_core.proofs.finish.show.Goals as goal
 pub change-requires : goal.change-requires
 change-requires c = record {
   few =
-      few_changes c.args.changes.now c.as_slice-changes.ensures.ascending c.in-Some.shown.trie (trie_of c.args.map.now) (ap trie_of (sym c.in-Some.is))
+      few_changes c.args.changes.now c.fits_together.ensures.ascending c.in-Some.shown.trie (trie_of c.args.map.now) (ap trie_of (sym c.in-Some.is))
       c.requires.few.before c.requires.few.after;
 }
 
 pub change-requires-in-None : goal.change-requires-in-None
 change-requires-in-None c = record {
   few =
-      few_changes c.args.changes.now c.as_slice-changes.ensures.ascending c.new-trie.result (trie_of c.args.map.now) (c.new-trie.ensures ∙ ap trie_of (sym c.in-None.is))
+      few_changes c.args.changes.now c.fits_together.ensures.ascending c.new-trie.result (trie_of c.args.map.now) (c.new-trie.ensures ∙ ap trie_of (sym c.in-None.is))
       c.requires.few.before c.requires.few.after;
 }
 

@@ -12,7 +12,7 @@ pub returns-in_err-add-clause-cost : goal.returns-in_err-add-clause-cost
 returns-in_err-add-clause-cost g c = omega (arith, c.add.ensures.cost, judged_at_most c.args.identities.now c.args.peer.now)
 
 pub returns-clause-ok : goal.returns-clause-ok
-returns-clause-ok g c = rw c.in_ok-add.ensures.added (added_more c.args.peer.now c.args.identities.now c.args.cache.now c.selector_of-known.ensures.sound.live)
+returns-clause-ok g c = rw c.in_ok-add.ensures.added (added_more c.args.peer.now c.args.identities.now c.args.cache.now c.fits_together.ensures.sound.live)
 
 pub returns-clause-log : goal.returns-clause-log
 returns-clause-log g c = rw c.in_ok-add.ensures.added (added_log c.args.peer.now c.args.identities.now c.args.cache.now)

@@ -64,7 +64,7 @@ returns-in-Err-clause-prepared g c =
 pub returns-in-Err-clause-selectors : goal.returns-in-Err-clause-selectors
 returns-in-Err-clause-selectors g c =
     gains_given_back (listed_peers c.args.policy.now) c.args.store.now.cache c.reserve_policy.new.self.cache c.refer.new.self.cache c.hold_prefixes.new.self.cache c.unrefer.new.self.cache
-    c.numbers-known.ensures.sound.live (ap (λ (t : Stored). t.cache) c.reserve_policy.ensures.same) c.refer.ensures.kept c.refer.ensures.fresh c.refer.ensures.log c.in_ok-refer.ensures.ok.more
+    c.fits_together.ensures.sound.live (ap (λ (t : Stored). t.cache) c.reserve_policy.ensures.same) c.refer.ensures.kept c.refer.ensures.fresh c.refer.ensures.log c.in_ok-refer.ensures.ok.more
     (ap (λ (t : Stored). t.cache) c.in-Err.ensures.err) (record { kept = c.unrefer.ensures.kept; next = c.unrefer.ensures.next; log = c.unrefer.ensures.log }) c.unrefer.ensures.peers
 
 pub returns-then-are_too_many-clause-prepared : goal.returns-then-are_too_many-clause-prepared

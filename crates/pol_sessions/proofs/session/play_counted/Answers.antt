@@ -1,13 +1,11 @@
-use Rattle.std.proofs.Common.{List, [], ◌∷◌, ◌++◌, refl, subst}
-use Rattle.pol_history.specs.declared.event.HistoryEvent.{HistoryEvent}
-use Rattle.pol_history.specs.Legal.{IsLegal}
+use Rattle.std.proofs.Common.{List, [], ◌∷◌, ◌++◌, refl}
 use Rattle.pol_sessions.proofs.Lines.{halfway-first, halfway-more, halfway-stopped, on_err, pass-same}
 use Rattle.pol_sessions.proofs.session.play_counted.Goals as goal
 
 pub loop-line-init : goal.loop-line-init
 loop-line-init g c =
     let options = g.N.NodeName.options in
-    let legal = subst (λ (history : List HistoryEvent). IsLegal options history) c.seen-seen.ensures.same c.seen-seen.ensures.legal in record {
+    let legal = c.fits_together.ensures.legal in record {
       halfway = rw c.new-answers.ensures (halfway-first options c.args.pass.now c.args.lines legal);
       hints = c.requires.hints;
     }

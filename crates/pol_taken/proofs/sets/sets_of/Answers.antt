@@ -10,6 +10,6 @@ returns c =
     let peers = ap (map (λ p. p.now)) c.deref.ensures.value ∙ c.in_ok-peers.ensures in
     record {
       sets = subst (AreSetsFor live filters) (sym c.in_ok-sets.ensures.rows)
-          (are_sets live c.horizon-horizon.ensures.sound.live filters c.in_ok-rows.rows
+          (are_sets live c.fits_together.ensures.sound.live filters c.in_ok-rows.rows
           (subst (λ ps. AreRowsFor live ps c.in_ok-rows.rows) peers c.in_ok-rows.ensures.rows));
     }

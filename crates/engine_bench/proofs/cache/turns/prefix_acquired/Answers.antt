@@ -8,7 +8,7 @@ use Rattle.engine_bench.proofs.cache.turns.prefix_acquired.Goals as goal
 pub returns-in-Ok-clause-may : goal.returns-in-Ok-clause-may
 returns-in-Ok-clause-may c =
     subst (λ (rows : List IdentityRow). MayCome c.in-Ok.number c.args.identities.now rows) (sym c.in-Ok.ensures.ok)
-    (prefix_may_come c.args.prefix c.args.identities.now c.in-Ok.number c.in-Ok.ensures.number c.held-none.ensures.sound.numbers c.requires.new)
+    (prefix_may_come c.args.prefix c.args.identities.now c.in-Ok.number c.in-Ok.ensures.number c.fits_together.ensures.sound.numbers c.requires.new)
 
 pub returns-in-Ok-clause-held : goal.returns-in-Ok-clause-held
 returns-in-Ok-clause-held c =

@@ -26,7 +26,7 @@ once_held-requires-clause-same c = λ none.
     let more = c.hold_prefixes-held.new.identities in
     subst (λ shared. IfSome shared (λ table. IsTableOf more (arc_value table))) (sym c.take-shared.ensures.value)
     (each_some c.self.inside.shared
-    (λ table. none_came c.args.prefixes.now rows more c.in_ok-come.ensures.rows (arc_value table) c.in_ok-come.come.items c.self.invariant.0 c.held-none.ensures.sound c.in_ok-come.ensures.come (ap (λ n. n == 0) (sym c.in_ok-come.come.ok.0) ∙ sym c.is_empty.ensures ∙ none))
+    (λ table. none_came c.args.prefixes.now rows more c.in_ok-come.ensures.rows (arc_value table) c.in_ok-come.come.items c.self.invariant.0 c.fits_together.ensures.sound c.in_ok-come.ensures.come (ap (λ n. n == 0) (sym c.in_ok-come.come.ok.0) ∙ sym c.is_empty.ensures ∙ none))
     c.self.invariant.2)
 
 pub once_held-requires-clause-others : goal.once_held-requires-clause-others

@@ -26,6 +26,6 @@ returns-clause-revision g c =
 pub returns-clause-few : goal.returns-clause-few
 returns-clause-few g c =
     let repo = c.args.self.now.repo in
-    let few = few_slots (state_in repo) (state_keeps repo.options repo.journal c.journal-journal.ensures.without_faults) in
+    let few = few_slots (state_in repo) (state_keeps repo.options repo.journal c.fits_together.ensures.without_faults) in
     let is = c.slots_in.ensures ∙ ap (λ (rows : List Endpoint). slots_of rows) c.endpoints.ensures.list in
     subst (λ (n : ℕ). n ≤ 256) (sym is) few

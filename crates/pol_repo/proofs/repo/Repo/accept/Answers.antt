@@ -36,7 +36,7 @@ invariant_of-self c =
           c.push-2.new.self.items c.push.new.self.items (vec_len c.push.new.self) (vec_capacity c.push.new.self) c.accept.new.store c.take.new.self
           (rw c.unwrap-2.ensures at c.push-2.ensures.items)
           (pushed ∙ ap (λ (next : ℕ). c.self.inside.nexts.items ++ next ∷ []) (c.next_number-next.ensures.next ∙ ap (λ (cache : Cache). cache.next) cache))
-          c.take.ensures.after c.numbers-before.ensures.sound (subst AreSound cache c.next_number-next.ensures.sound) c.accept.ensures.selectors c.accept.ensures.done,
+          c.take.ensures.after c.fits_together.ensures.sound (subst AreSound cache c.next_number-next.ensures.sound) c.accept.ensures.selectors c.accept.ensures.done,
     )
 
 pub returns-clause-committed : goal.returns-clause-committed

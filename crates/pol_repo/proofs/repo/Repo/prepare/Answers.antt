@@ -61,7 +61,7 @@ returns-in-Ok-clause-cost g c = λ other.
       arith,
       c.prepare_in.ensures.cost other,
       few_steps c.self.inside.options c.self.inside.journal.items (vec_len c.self.inside.journal) (vec_capacity c.self.inside.journal) c.self.inside.store c.self.inside.prepared c.args.self.now
-          c.self.view_is c.self.invariant.0 c.requires.idle c.numbers-known.ensures.sound.live,
+          c.self.view_is c.self.invariant.0 c.requires.idle c.fits_together.ensures.sound.live,
     )
 
 pub invariant_of-self-in-Err-Fault : goal.invariant_of-self-in-Err-Fault
@@ -89,7 +89,7 @@ returns-in-Err-Fault-clause-cost g c = λ other.
       arith,
       c.prepare_in.ensures.cost other,
       few_steps c.self.inside.options c.self.inside.journal.items (vec_len c.self.inside.journal) (vec_capacity c.self.inside.journal) c.self.inside.store c.self.inside.prepared c.args.self.now
-          c.self.view_is c.self.invariant.0 c.requires.idle c.numbers-known.ensures.sound.live,
+          c.self.view_is c.self.invariant.0 c.requires.idle c.fits_together.ensures.sound.live,
     )
 
 pub invariant_of-self-in-Err-Memory : goal.invariant_of-self-in-Err-Memory
@@ -110,5 +110,5 @@ returns-clause-cost g c = λ other.
       arith,
       c.prepare_in.ensures.cost other,
       few_steps c.self.inside.options c.self.inside.journal.items (vec_len c.self.inside.journal) (vec_capacity c.self.inside.journal) c.self.inside.store c.self.inside.prepared c.args.self.now
-          c.self.view_is c.self.invariant.0 c.requires.idle c.numbers-known.ensures.sound.live,
+          c.self.view_is c.self.invariant.0 c.requires.idle c.fits_together.ensures.sound.live,
     )

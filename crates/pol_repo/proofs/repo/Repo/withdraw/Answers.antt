@@ -28,5 +28,5 @@ invariant_of-self c = (
   told_withdrawn c.self.inside.options c.self.inside.journal.items (vec_len c.self.inside.journal) (vec_capacity c.self.inside.journal) c.self.inside.store c.self.inside.prepared c.args.self.now
       c.self.view_is c.self.invariant.0 c.self.inside.nexts.items (vec_len c.self.inside.nexts) (vec_capacity c.self.inside.nexts) c.self.invariant.1
       c.args.ready.request c.requires.request c.unwrap-prepared.result (sym c.take.ensures.value ∙ c.unwrap-prepared.ensures)
-      (vec_len c.self.inside.nexts) (vec_capacity c.self.inside.nexts) c.withdraw.new.store c.take.new.self c.take.ensures.after c.withdraw.ensures.selectors c.withdraw.ensures.back c.numbers-known.ensures.sound.live,
+      (vec_len c.self.inside.nexts) (vec_capacity c.self.inside.nexts) c.withdraw.new.store c.take.new.self c.take.ensures.after c.withdraw.ensures.selectors c.withdraw.ensures.back c.fits_together.ensures.sound.live,
 )

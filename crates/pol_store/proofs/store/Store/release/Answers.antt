@@ -12,7 +12,7 @@ invariant_of-self c =
       c.self.invariant.1,
       c.self.invariant.2,
       told_moved c.self.inside.endpoints.list rows c.release.new.self.rows c.self.inside.addresses
-          (λ own. ap (λ (h : Held). number_of_prefix own h.rows) c.release.ensures.released ∙ number_of_left rows c.identities-rows.ensures.sound c.args.number c.requires.not_local own)
+          (λ own. ap (λ (h : Held). number_of_prefix own h.rows) c.release.ensures.released ∙ number_of_left rows c.fits_together.ensures.rows c.args.number c.requires.not_local own)
           c.self.invariant.3,
       listed_still c.self.inside.numbers.cache c.release.new.self.cache c.self.inside.kept (ap (λ (h : Held). h.cache) c.release.ensures.released) c.self.invariant.4,
     )
