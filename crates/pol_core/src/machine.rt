@@ -27,7 +27,6 @@ use std::sync::ledger::Ledger;
 
 /// The policy core of one node, without threads: a repository, and for each live endpoint its published map with the map that
 /// was made last. Contracts see what it keeps, and the machine that this stands for (`specs/Stands`).
-#[derive(Drop)]
 pub struct Machine {
     alloc: Global,
     limit: u32,
@@ -51,6 +50,19 @@ impl Model for Machine {
     ghost view = { λ m. record { limit = m.limit; repo = m.repo; rows = m.rows.entries; takes = m.takes.entries } };
 
     ghost invariant = { λ m. StandsForSome (kept_of (record { limit = m.limit; repo = m.repo; rows = m.rows.entries; takes = m.takes.entries })) };
+}
+
+/// A destructor of its own, so that how the parts go is proved here, and not in each crate that lets a machine go.
+impl Drop for Machine {
+    fn drop(self) {
+        let Machine {
+            alloc: _alloc,
+            limit: _limit,
+            repo: _repo,
+            rows: _rows,
+            takes: _takes,
+        } = self;
+    }
 }
 
 /// The port of a query.

@@ -12,7 +12,6 @@ use std::marker::Model;
 
 /// The state that the requests so far have made, under its indexes. Contracts see the options, these requests, and the
 /// request that is prepared, if there is one (`specs/Repository`).
-#[derive(Drop)]
 pub struct Repo {
     pub(crate) options: Options,
     pub(crate) journal: Vec<Request>,
@@ -35,6 +34,19 @@ impl Model for Repo {
 
     ghost invariant = { λ repo. IsSound repo.options repo.journal.items (vec_len repo.journal) (vec_capacity repo.journal) repo.store repo.prepared
         × IsTold repo.options repo.journal.items repo.nexts.items (vec_len repo.nexts) (vec_capacity repo.nexts) repo.store repo.prepared };
+}
+
+/// A destructor of its own, so that how the parts go is proved here, and not in each crate that lets a repository go.
+impl Drop for Repo {
+    fn drop(self) {
+        let Repo {
+            options: _options,
+            journal: _journal,
+            nexts: _nexts,
+            store: _store,
+            prepared: _prepared,
+        } = self;
+    }
 }
 
 impl Repo {
