@@ -31,7 +31,7 @@ count_more count len same below = omega arith
 count_full : (count len taken : ℕ) → count ≡ len → len ≡ 65536 → taken ≡ min 65535 len → min 65536 (count + 1) ≡ suc taken
 count_full count len taken same full is = omega arith
 
-module _ (nodes : Twin SetChange) (count horizon spare : ℕ) (kept : IsKept nodes count horizon spare) (c : SetChange) (node : ℕ) where
+module _ (nodes : Twin SetChange) (count horizon latest spare : ℕ) (kept : IsKept nodes count horizon latest spare) (c : SetChange) (node : ℕ) where
   -- the nodes after the change
   abbrev pub nodes_after : Twin SetChange
   nodes_after = after_push (with_place nodes) (c.selector % 65536) c node
@@ -64,13 +64,14 @@ module _ (nodes : Twin SetChange) (count horizon spare : ℕ) (kept : IsKept nod
             })
       ]
 
-  pub kept_after : newest_of horizon (values nodes.ages) ≤ c.revision → 1 ≤ spare → IsKept nodes_after (min 65536 (count + 1)) (horizon_with_place nodes horizon) (spare - 1)
+  pub kept_after : newest_of horizon (values nodes.ages) ≤ c.revision → 1 ≤ spare → IsKept nodes_after (min 65536 (count + 1)) (horizon_with_place nodes horizon) c.revision (spare - 1)
   kept_after order some =
       let sound = subst (λ l. IsSound l) (sym log_after) (recorded_sound (log_of nodes horizon spare) c kept.sound order) in
       let chains = λ (_ : 0 < spare - 1). kept.chains some in
       elim (cases_lt (length nodes.ages) 65536) [
         | inl below ↦ record {
           sound = sound;
+          newest = refl;
           counted = rw (lt-ltb (length nodes.ages) 65536 below) (count_more count (length nodes.ages) kept.counted below);
           placed = rw (lt-ltb (length nodes.ages) 65536 below) (refl, kept.placed);
           room = rw (lt-ltb (length nodes.ages) 65536 below) (room_left spare count nodes.spare kept.room (rw kept.counted below) some);
@@ -80,6 +81,7 @@ module _ (nodes : Twin SetChange) (count horizon spare : ℕ) (kept : IsKept nod
             let full : length nodes.ages ≡ 65536 = omega (arith, at_most) in
             record {
               sound = sound;
+              newest = refl;
               counted = rw (le-ltb (length nodes.ages) 65536 above) (count_full count (length nodes.ages) _ kept.counted full (length-take (length nodes.ages - 1) nodes.ages ∙ ap (λ n. min (n - 1) (length nodes.ages)) full));
               placed = rw (le-ltb (length nodes.ages) 65536 above) (refl, every-take (λ (e : Entry SetChange). e.chain ≡ e.value.selector % 65536) (length nodes.ages - 1) nodes.ages kept.placed);
               room = rw (le-ltb (length nodes.ages) 65536 above, add-sub_cancel nodes.spare 1) (room_full spare count nodes.spare (rw kept.counted above));

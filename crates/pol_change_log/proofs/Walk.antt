@@ -68,7 +68,7 @@ from_used node (f ∷ es) e distinct is =
     ]
 
 -- the entry of a node in use
-used_entry : (node : ℕ) (es : List (Entry SetChange)) (c : SetChange) → value_of node es ≡ Some c → (e : Entry SetChange) × (entry_of node es ≡ Some e) × (e.value ≡ c)
+pub used_entry : (node : ℕ) (es : List (Entry SetChange)) (c : SetChange) → value_of node es ≡ Some c → (e : Entry SetChange) × (entry_of node es ≡ Some e) × (e.value ≡ c)
 used_entry node es c is =
     elim (entry_of node es) as (λ o. option_map (λ (e : Entry SetChange). e.value) o ≡ Some c → (e : Entry SetChange) × (o ≡ Some e) × (e.value ≡ c)) [
       | None ↦ λ is. cc
@@ -104,7 +104,7 @@ module _ (selector revision node : ℕ) (es : List (Entry SetChange)) (c : SetCh
   walk_falls = from_change (λ fs. length (from_node (older_than node es) es) < length fs) (λ e same. omega arith)
 
 -- ---- what the walk finds is what a scan of all changes finds
-and_nothing : (b : Bool) → (b && false) ≡ false
+pub and_nothing : (b : Bool) → (b && false) ≡ false
 and_nothing true = refl
 and_nothing false = refl
 
@@ -177,8 +177,8 @@ ahead_ended nodes selector revision came_ids went_ids ahead = record {
 }
 
 -- what the walk finds is the log's answer
-pub since_found : (nodes : Twin SetChange) (count horizon spare selector revision : ℕ) → IsKept nodes count horizon spare → horizon ≤ revision
+pub since_found : (nodes : Twin SetChange) (count horizon latest spare selector revision : ℕ) → IsKept nodes count horizon latest spare → horizon ≤ revision
     → Some (net selector (found_in selector revision (on_chain (selector % 65536) nodes.ages))) ≡ since (log_of nodes horizon spare) selector revision
-since_found nodes count horizon spare selector revision kept within =
+since_found nodes count horizon latest spare selector revision kept within =
     rw (le-ltb revision horizon within)
     (ap (λ cs. Some (net selector cs)) (found_by_scan selector revision horizon nodes.ages kept.placed kept.sound.in_order))

@@ -1,5 +1,5 @@
 -- What a contract sees of a `ChangeLog`.
-use Rattle.std.specs.Prelude.{ℕ, ◌-◌, ◌≤◌, Bool, ◌==◌, ◌&&◌, nat_lt, if◌then◌else◌, ⊤, List, [], ◌∷◌, length, take, filter, slice_get, Option, Some, None}
+use Rattle.std.specs.Prelude.{ℕ, ◌-◌, ◌%◌, ◌≤◌, Bool, ◌==◌, ◌&&◌, nat_lt, if◌then◌else◌, ⊤, List, [], ◌∷◌, length, take, filter, slice_get, Option, Some, None}
 use Rattle.std.specs.Option.{option_map_or}
 use Rattle.pol_sets.specs.declared.sets.Move.{Move}
 use Rattle.pol_change_log.specs.declared.change.SetChange.{SetChange}
@@ -42,6 +42,14 @@ newest_of horizon (c ∷ cs) = c.revision
 -- the revision of the newest change so far, or 0
 abbrev pub newest : Log → ℕ
 newest log = newest_of log.horizon log.kept
+
+-- the change is of a selector that shares this one's chain
+abbrev pub shares_chain : ℕ → SetChange → Bool
+shares_chain selector c = c.selector % 65536 == selector % 65536
+
+-- a revision since which the selector's set hasn't changed: that of the newest change on its chain, or the horizon
+abbrev pub unchanged_since : ℕ → Log → ℕ
+unchanged_since selector log = newest_of log.horizon (filter (shares_chain selector) log.kept)
 
 -- no change is newer than the next newer one, nor the horizon than any
 abbrev pub InOrder : ℕ → List SetChange → Type 0

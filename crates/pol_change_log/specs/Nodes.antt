@@ -4,7 +4,7 @@ use Rattle.std.specs.List.{AllByRecursion}
 use Rattle.std.specs.Option.{option_map_or}
 use Rattle.pol_arena.specs.Twin.{Entry, Twin, oldest, after_drop}
 use Rattle.pol_change_log.specs.declared.change.SetChange.{SetChange}
-use Rattle.pol_change_log.specs.Log.{Log, IsSound}
+use Rattle.pol_change_log.specs.Log.{Log, IsSound, newest_of}
 
 -- the changes of nodes
 abbrev pub values : List (Entry SetChange) → List SetChange
@@ -14,10 +14,12 @@ values es = map (λ e. e.value) es
 abbrev pub log_of : Twin SetChange → ℕ → ℕ → Log
 log_of nodes horizon spare = record { kept = values nodes.ages; horizon = horizon; spare = spare }
 
--- each change is on its selector's chain, and there are nodes and chains for the spare changes
-pub record IsKept (nodes : Twin SetChange) (count horizon spare : ℕ) : Type 0 where
+-- each change is on its selector's chain, the revision of the newest one is known, and there are nodes and chains for the
+-- spare changes
+pub record IsKept (nodes : Twin SetChange) (count horizon latest spare : ℕ) : Type 0 where
   pub sound : IsSound (log_of nodes horizon spare)
   pub counted : count ≡ length nodes.ages
+  pub newest : latest ≡ newest_of horizon (values nodes.ages)
   pub placed : AllByRecursion (λ e. e.chain ≡ e.value.selector % 65536) nodes.ages
   pub room : min spare (65536 - count) ≤ nodes.spare
   pub chains : 0 < spare → 65536 ≤ nodes.chains

@@ -1,12 +1,12 @@
 -- What a log says of all changes that were ever recorded, listed newest first.
-use Rattle.std.specs.Prelude.{◌≡◌, ℕ, ◌==◌, ◌&&◌, nat_le, nat_lt, if◌then◌else◌, List, [], ◌∷◌, take, filter, slice_get, Some, None}
+use Rattle.std.specs.Prelude.{◌≡◌, ◌≤◌, ℕ, ◌==◌, ◌&&◌, nat_le, nat_lt, if◌then◌else◌, List, [], ◌∷◌, take, filter, slice_get, Some, None}
 use Rattle.std.specs.List.Sorted.{IsStrictlySortedBy}
 use Rattle.std.specs.Option.{option_map_or}
 use Rattle.std.specs.Ordering.{nat_cmp}
 use Rattle.pol_sets.specs.declared.sets.Move.{Move}
 use Rattle.pol_change_log.specs.declared.change.SetChange.{SetChange}
 use Rattle.pol_change_log.specs.Net.{net, after_all}
-use Rattle.pol_change_log.specs.Log.{Log, empty_log, recorded, is_later_of, since, InOrder}
+use Rattle.pol_change_log.specs.Log.{Log, empty_log, recorded, is_later_of, since, unchanged_since, InOrder, IsSound}
 use Rattle.pol_change_log.specs.Sets.{AllFit, IsMove}
 
 -- the revision of the change that exactly 65,536 follow, or 0
@@ -47,3 +47,9 @@ SinceTellsDifference =
     → IsStrictlySortedBy nat_cmp start → AllFit start (changes_of selector all)
     → since log selector revision ≡ Some m
     → IsMove (after_all start (changes_until selector revision all)) (after_all start (changes_of selector all)) m
+
+-- Since then, or any later revision, the selector's set gained nothing and lost nothing.
+abbrev pub StaysUnchanged : Type 0
+StaysUnchanged =
+    (log : Log) (selector revision : ℕ) → IsSound log → unchanged_since selector log ≤ revision
+    → since log selector revision ≡ Some (record { selector = selector; gained = []; lost = [] })

@@ -1,5 +1,5 @@
 //! Laws of the log and of net changes, over the definitions alone.
-ghost use Rattle.pol_change_log.specs.Recorded.{LogsKeepLast, KeptChangesTell, SinceTellsDifference};
+ghost use Rattle.pol_change_log.specs.Recorded.{KeptChangesTell, LogsKeepLast, SinceTellsDifference, StaysUnchanged};
 ghost use Rattle.pol_change_log.specs.Sets.{NetIsExact, NetsJoin, DifferencesLead};
 
 /// A log keeps the last 65,536 of all changes that were ever recorded, and all where there are fewer. Its horizon is the
@@ -11,6 +11,12 @@ pub fn logs_keep_the_last_changes()
 /// Since a revision that isn't below the horizon the kept changes have the net change that all changes have.
 pub fn kept_changes_tell_what_all_do()
     ensures { KeptChangesTell }
+{}
+
+/// A log tells that a selector's set neither gained nor lost anything since the revision that `unchanged_since` gives, or any
+/// later one. None of these is below the horizon.
+pub fn a_set_is_unchanged_since_then()
+    ensures { StaysUnchanged }
 {}
 
 /// Where each change gained numbers that the set didn't have and lost numbers that it had, their net change is the

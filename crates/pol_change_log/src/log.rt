@@ -1,7 +1,7 @@
 //! The log of changes.
 ghost use Rattle.std.specs.Prelude.{◌≡◌, ◌↔◌, ◌+◌, ◌-◌, ◌<◌, ◌≤◌, ◌%◌, length, max, IfOk, IsOk, OnOk, OnErr, IsNone};
 ghost use Rattle.pol_arena.specs.Twin.{on_chain};
-ghost use Rattle.pol_change_log.specs.Log.{empty_log, newest, recorded, since, IsSound};
+ghost use Rattle.pol_change_log.specs.Log.{empty_log, newest, recorded, since, unchanged_since, IsSound};
 ghost use Rattle.pol_change_log.specs.Net.{net};
 ghost use Rattle.pol_change_log.specs.Nodes.{with_place, horizon_with_place, found_in};
 
@@ -25,6 +25,8 @@ pub struct ChangeLog {
     nodes: Twin<SetChange>,
     count: usize,
     horizon: u64,
+    // The revision of the newest change so far, 0 before the first.
+    latest: u64,
     spare: usize,
 }
 
@@ -37,7 +39,7 @@ impl Model for ChangeLog {
 
     ghost view = { λ log. log_of log.nodes log.horizon log.spare };
 
-    ghost invariant = { λ log. IsKept log.nodes log.count log.horizon log.spare };
+    ghost invariant = { λ log. IsKept log.nodes log.count log.horizon log.latest log.spare };
 }
 
 /// The chain of a selector.
@@ -99,6 +101,7 @@ impl ChangeLog {
             nodes: Twin::new(alloc),
             count: 0,
             horizon: 0,
+            latest: 0,
             spare: 0,
         }
     }
@@ -130,6 +133,7 @@ impl ChangeLog {
     {
         self.horizon = make_place(&mut self.nodes, self.count, self.horizon);
         self.count = KEPT.min(self.count + 1);
+        self.latest = change.revision;
         self.nodes.push(chain_of(change.selector), change);
         self.spare -= 1;
     }
@@ -145,6 +149,26 @@ impl ChangeLog {
             return Ok(None);
         }
         Ok(Some(net_on_chain(alloc, &self.nodes, selector, revision)?))
+    }
+
+    /// A revision since which the set of a selector hasn't changed: that of the newest change of the selectors that share its
+    /// chain, and the horizon where none is kept.
+    pub fn unchanged_since(&self, selector: u64) -> u64
+        ensures unchanged { result ≡ unchanged_since selector self.now }
+        ensures sound { IsSound self.now }
+    {
+        match self.nodes.newest(chain_of(selector)) {
+            Some(node) => self.nodes.get(node).revision,
+            None => self.horizon,
+        }
+    }
+
+    /// The revision of the newest change so far, 0 before the first.
+    pub fn newest(&self) -> u64
+        ensures newest { result ≡ newest self.now }
+        ensures sound { IsSound self.now }
+    {
+        self.latest
     }
 
     /// The revision of the newest change that was dropped, 0 if none was.

@@ -1,7 +1,7 @@
 //! The cache, and what it tells.
 ghost use Rattle.std.specs.Prelude.{◌≡◌, ◌↔◌, ◌<◌, IfOk, IsNone, OnOk, OnErr, [], Some, true, option_map};
 ghost use Rattle.std.specs.Arc.{arc_value};
-ghost use Rattle.pol_change_log.specs.Log.{empty_log, since};
+ghost use Rattle.pol_change_log.specs.Log.{empty_log, newest, since, unchanged_since};
 ghost use Rattle.pol_selcache.specs.Live.{is_live, selector_of};
 ghost use Rattle.pol_selcache.specs.Cache.{Cache, IsSound, dropped};
 
@@ -92,6 +92,23 @@ impl SelectorCache {
         ensures sound { IsSound self.now }
     {
         self.log.since(alloc, selector, revision)
+    }
+
+    /// A revision since which the set of a selector hasn't changed. It may be that of a change of another selector whose number is
+    /// the same modulo 65,536, or of the newest change that was dropped.
+    pub fn unchanged_since(&self, selector: u64) -> u64
+        ensures unchanged { result ≡ unchanged_since selector self.now.log }
+        ensures sound { IsSound self.now }
+    {
+        self.log.unchanged_since(selector)
+    }
+
+    /// The revision of the newest change of a set so far, 0 before the first.
+    pub fn newest(&self) -> u64
+        ensures newest { result ≡ newest self.now.log }
+        ensures sound { IsSound self.now }
+    {
+        self.log.newest()
     }
 
     /// The revision of the newest change that was dropped, 0 if none was. The last 65,536 changes are kept ('profile').
