@@ -27,10 +27,10 @@ pub record IsFor (labels : List Label) (localhost : Bool) (kept : Kept) : Type 0
   pub labels_are : kept.labels ≡ labels
   pub localhost_is : kept.localhost ≡ localhost
 
--- its peers are those that the filters list, and their numbers are known
+-- its rows are of the peers that the filters list, and are known
 pub record IsListedIn (cache : Cache) (kept : Kept) : Type 0 where
   pub listing : IsListingOf (filter_peers (arc_value kept.filters)) kept.known.rows
-  pub numbers : IsKnownIn cache kept.known
+  pub known : IsKnownIn cache kept.known
 
 -- so each of them
 abbrev pub AreListedIn : Cache → List Kept → Type 0

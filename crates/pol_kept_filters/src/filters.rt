@@ -103,8 +103,8 @@ impl KeptFilters {
         Ok(())
     }
 
-    /// Keeps filters and the peers that they list for the slot, in the place of what was kept. The one error is want of
-    /// memory.
+    /// Keeps filters and the rows of the peers that they list for the slot, in the place of what was kept. The one error is
+    /// want of memory.
     pub fn keep(
         &mut self,
         alloc: Global,

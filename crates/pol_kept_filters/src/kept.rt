@@ -11,7 +11,8 @@ use pol_taken::KnownPeers;
 use std::alloc::Global;
 use std::sync::Arc;
 
-/// Filters, with the labels that they were resolved for, whether with leave for the local host, and the peers that they list.
+/// Filters, with the labels that they were resolved for, whether with leave for the local host, and the rows of the peers that
+/// they list.
 #[derive(Drop)]
 pub struct Kept {
     pub(crate) labels: LabelSet,
@@ -56,7 +57,7 @@ impl Kept {
         &self.filters
     }
 
-    /// The peers that they list.
+    /// The rows of the peers that they list.
     pub fn known(&self) -> &KnownPeers
         ensures known { result.now ≡ self.now.known }
     {

@@ -41,9 +41,9 @@ impl Repo {
         Ok(taken)
     }
 
-    /// Keeps what a take of the slot's endpoint shares: its filters with the peers that they list, and what each address is,
-    /// until what they are made of changes. What is kept already stays. The repository is as before. Where memory is
-    /// wanting, or no live endpoint has the slot, less is kept; that is no error, and the next take makes it anew.
+    /// Keeps what a take of the slot's endpoint shares: its filters with the rows of the peers that they list, and what each
+    /// address is. What is kept and serves as it is stays. The repository is as before. Where memory is wanting, or no live
+    /// endpoint has the slot, less is kept; that is no error, and the next take makes it anew.
     pub fn refresh(&mut self, alloc: Global, slot: u32)
         requires idle { self.old.prepared ≡ None }
         ensures same { self.new ≡ self.old }

@@ -1,22 +1,25 @@
 -- What a store keeps for takes, as its parts change.
-use Rattle.std.proofs.Common.{◌≡◌, ℕ, true, false, not, if◌then◌else◌, List, [], ◌∷◌, find, IfOk, OnErr, Option, None, Some, option_map, Result, Ok, Err, refl, sym, ap, subst, ◌∙◌, arith}
+use Rattle.std.proofs.Common.{◌≡◌, ℕ, not, List, [], map, IfOk, OnErr, OnOk, Option, None, Some, Result, Ok, Err, sym, ap, subst, ◌∙◌}
 use Rattle.std.specs.Arc.{arc_value}
 use Rattle.std.specs.List.{AllByRecursion, IsDistinct}
 use Rattle.std.specs.declared.sync.Arc.{Arc}
 use Rattle.pol_addr.specs.declared.network.Prefix.{Prefix}
 use Rattle.pol_labels.specs.declared.label.Label.{Label}
-use Rattle.pol_rule.specs.contracts.policy.PeerPartialEq.TheImpl as peers
 use Rattle.pol_rule.specs.declared.policy.Peer.{Peer}
 use Rattle.pol_rule.specs.declared.policy.Policy.{Policy}
 use Rattle.pol_rule.specs.declared.policy.PolicyKey.{PolicyKey}
 use Rattle.pol_data.proofs.Every.{every-kept, every-weaker}
-use Rattle.pol_selcache.specs.Cache.{Cache, carried, with_room}
-use Rattle.pol_selcache.specs.Live.{Live, number_of}
-use Rattle.pol_selcache.specs.Plan.{Plan, Planned, after_changes, changed}
+use Rattle.pol_change_log.specs.Log.{Log}
+use Rattle.pol_selcache.specs.Cache.{Cache, IsPlanFor, IsSound, carried, with_room}
+use Rattle.pol_selcache.specs.Live.{AreExact}
+use Rattle.pol_selcache.specs.Plan.{Plan, changed}
+use Rattle.pol_selcache.proofs.Exact.{plan_makes_exact}
 use Rattle.pol_peers.specs.Numbering.{TakesFreshNumbers}
 use Rattle.pol_peers.specs.References.{KeepsNumbers}
 use Rattle.pol_peers.proofs.Numbering.{fresh_itself, fresh_less}
-use Rattle.pol_taken.proofs.Relisting.{known_on}
+use Rattle.pol_taken.specs.Known.{IsKnownIn, KnownRows}
+use Rattle.pol_taken.proofs.AsRead.{known_carried, known_on}
+use Rattle.pol_model.specs.Ascending.{Ascends}
 use Rattle.pol_model.specs.declared.options.Mode.{Mode}
 use Rattle.pol_model.specs.declared.row.Endpoint.{Endpoint}
 use Rattle.pol_model.specs.declared.row.IdentityRow.{IdentityRow}
@@ -31,8 +34,8 @@ use Rattle.pol_kept_filters.specs.declared.kept.Kept.{Kept}
 use Rattle.pol_kept_filters.specs.Kept.{AreKeptOf, AreListedIn, IsListedIn, KeysDiffer, selects, without_old, without_selected}
 use Rattle.pol_kept_filters.proofs.Unselected.{left_with, left_without}
 use Rattle.pol_allocator.specs.declared.hold.LabelsHeld.{LabelsHeld}
-use Rattle.pol_allocator.specs.Held.{Held, HoldsLabels}
-use Rattle.pol_store.specs.Inside.{Told, TellsAddresses}
+use Rattle.pol_allocator.specs.Held.{Held, HoldsLabels, RefersTo}
+use Rattle.pol_store.specs.Inside.{IsKeptIn, Told, TellsAddresses}
 
 -- ---- filters
 none_differ : KeysDiffer []
@@ -59,58 +62,85 @@ module _ (policies now : List Stamped) (mode : Mode) (old : Option Stamped) (row
       subst (λ (p : List Stamped). AreKeptOf p mode left) (sym now_is)
       (subst (λ (kept : List Kept). AreKeptOf (removed key policies) mode kept) (sym (left_is ∙ ap (λ (o : Option Stamped). without_old o rows) old_is)) (left_without policies mode rows are key differ))
 
--- ---- the peers that filters list
-pub none_listed : (cache : Cache) (rows : List Kept) → rows ≡ [] → AreListedIn cache rows
-none_listed cache rows empty = subst (AreListedIn cache) (sym empty) tt
-
--- changes of sets leave the numbers
-numbers_stay : (changes : List Planned) (p : Peer) (live : List Live) → number_of p (changed changes live) ≡ number_of p live
-numbers_stay changes p [] = refl
-numbers_stay changes p (s ∷ live) =
-    elim (peers.ghosts.eq p s.peer) as (λ b. option_map (λ (x : Live). x.number) (if b then Some (after_changes changes s) else find (λ (x : Live). peers.ghosts.eq p x.peer) (changed changes live))
-    ≡ option_map (λ (x : Live). x.number) (if b then Some s else find (λ (x : Live). peers.ghosts.eq p x.peer) live)) [
-      | true ↦ refl
-      | false ↦ numbers_stay changes p live
-    ]
-
-carried_fresh : (plan : Plan) (cache : Cache) → TakesFreshNumbers cache (carried plan cache)
-carried_fresh plan cache = record {
-  rises = omega arith;
-  lived = λ p number is below. sym (numbers_stay plan.changes p cache.live) ∙ is;
+-- ---- the rows of the peers that filters list
+pub nothing_listed_yet : (cache : Cache) (rows : List Kept) → cache.live ≡ [] → rows ≡ [] → IsKeptIn cache rows
+nothing_listed_yet cache rows none empty = record {
+  identities = [];
+  ascend = tt;
+  exact = subst (AreExact []) (sym none) tt;
+  listed = subst (AreListedIn cache) (sym empty) tt;
 }
 
 module _ (old new : Cache) (rows : List Kept) where
-  pub listed_on : TakesFreshNumbers old new → AreListedIn old rows → AreListedIn new rows
-  listed_on fresh was =
-      every-weaker (IsListedIn old) (IsListedIn new) (λ kept is. record { listing = is.listing; numbers = known_on old new kept.known fresh is.numbers }) rows was
+  each_listed : ((known : KnownRows) → IsKnownIn old known → IsKnownIn new known) → AreListedIn old rows → AreListedIn new rows
+  each_listed still was = every-weaker (IsListedIn old) (IsListedIn new) (λ kept is. record { listing = is.listing; known = still kept.known is.known }) rows was
 
-  pub listed_still : new ≡ old → AreListedIn old rows → AreListedIn new rows
-  listed_still same was = subst (λ (c : Cache). AreListedIn c rows) (sym same) was
+  -- as selectors come: the sets stay exact over these rows
+  pub listed_more : (identities : List IdentityRow) → Ascends (map (λ row. row.number) identities) → AreExact identities old.live → AreExact identities new.live → TakesFreshNumbers old new → new.log ≡ old.log
+      → IsKeptIn old rows → IsKeptIn new rows
+  listed_more identities ascend before after fresh log was = record {
+    identities = identities;
+    ascend = ascend;
+    exact = after;
+    listed = each_listed (λ known. known_on old new identities known before after fresh (ap (λ (l : Log). l.kept) log) (ap (λ (l : Log). l.horizon) log)) was.listed;
+  }
 
-  pub listed_in_room : (spare : ℕ) → new ≡ with_room spare old → AreListedIn old rows → AreListedIn new rows
+  -- as selectors go: the sets stay exact over whatever rows
+  pub listed_less : ((identities : List IdentityRow) → AreExact identities old.live → AreExact identities new.live) → new.next ≡ old.next → KeepsNumbers new.live old.live → new.log ≡ old.log
+      → IsKeptIn old rows → IsKeptIn new rows
+  listed_less exact next fewer log was =
+      listed_more was.identities was.ascend was.exact (exact was.identities was.exact) (fresh_less old old new (fresh_itself old) next fewer) log was
+
+  pub listed_still : new ≡ old → IsKeptIn old rows → IsKeptIn new rows
+  listed_still same was = subst (λ (c : Cache). IsKeptIn c rows) (sym same) was
+
+  pub listed_in_room : (spare : ℕ) → new ≡ with_room spare old → IsKeptIn old rows → IsKeptIn new rows
   listed_in_room spare same was =
-      subst (λ (c : Cache). AreListedIn c rows) (sym same)
-      (every-weaker (IsListedIn old) (IsListedIn (with_room spare old)) (λ kept is. record { listing = is.listing; numbers = record { within = is.numbers.within; numbers = is.numbers.numbers } }) rows was)
+      subst (λ (c : Cache). IsKeptIn c rows) (sym same)
+      (record {
+        identities = was.identities;
+        ascend = was.ascend;
+        exact = was.exact;
+        listed = every-weaker (IsListedIn old) (IsListedIn (with_room spare old))
+            (λ kept is. record { listing = is.listing; known = record { within = is.known.within; numbers = is.known.numbers; before = is.known.before; sets = is.known.sets } }) rows was.listed;
+      })
 
-  pub listed_less : new.next ≡ old.next → KeepsNumbers new.live old.live → AreListedIn old rows → AreListedIn new rows
-  listed_less next fewer = listed_on (fresh_less old old new (fresh_itself old) next fewer)
+  pub listed_carried : (plan : Plan) → IsSound old → IsPlanFor plan old → new ≡ carried plan old → IsKeptIn old rows → IsKeptIn new rows
+  listed_carried plan sound fits is was =
+      subst (λ (c : Cache). IsKeptIn c rows) (sym is)
+      (record {
+        identities = fits.rows;
+        ascend = fits.ascend;
+        exact = subst (λ changes. AreExact fits.rows (changed changes old.live)) (sym fits.changes) (plan_makes_exact fits.rows was.identities fits.ascend was.ascend old.live sound.live.numbers was.exact);
+        listed = every-weaker (IsListedIn old) (IsListedIn (carried plan old))
+            (λ kept its. record { listing = its.listing; known = known_carried plan old was.identities kept.known sound fits was.exact its.known }) rows was.listed;
+      })
 
-  pub listed_carried : (plan : Plan) → new ≡ carried plan old → AreListedIn old rows → AreListedIn new rows
-  listed_carried plan is = listed_on (subst (TakesFreshNumbers old) (sym is) (carried_fresh plan old))
+-- where a policy's peers are referred to, or aren't
+pub refers_exact : {E : Type 0} (peers : List Peer) (identities : List IdentityRow) (old new : Cache) (result : Result Unit E)
+    → OnOk result (RefersTo peers identities old new) → OnErr result (RefersTo [] identities old new) → AreExact identities new.live
+refers_exact peers identities old new (Ok _) ok err = ok.exact
+refers_exact peers identities old new (Err _) ok err = err.exact
 
 -- where a label set is held, or isn't
 pub listed_held : (revision : ℕ) (labels : List Label) (old new : Held) (rows : List Kept) (result : Result LabelsHeld IdentError)
-    → IfOk result (λ held. HoldsLabels revision labels old new held.number held.plan) → OnErr result (new ≡ old) → AreListedIn old.cache rows → AreListedIn new.cache rows
+    → IfOk result (λ held. HoldsLabels revision labels old new held.number held.plan) → OnErr result (new ≡ old) → IsKeptIn old.cache rows → IsKeptIn new.cache rows
 listed_held revision labels old new rows (Ok held) ok err was = listed_in_room old.cache new.cache rows _ ok.sets was
 listed_held revision labels old new rows (Err error) ok err was = listed_still old.cache new.cache rows (ap (λ (held : Held). held.cache) err) was
 
--- what is left as a policy comes or goes
-pub listed_selected : (cache : Cache) (policy : Policy) (rows left : List Kept) → left ≡ without_selected policy rows → AreListedIn cache rows → AreListedIn cache left
-listed_selected cache policy rows left is was =
-    subst (AreListedIn cache) (sym is) (every-kept (IsListedIn cache) (λ (kept : Kept). not (selects kept.labels policy)) rows was)
+-- what is left as all is forgotten, and as a policy comes or goes
+left_listed : (cache : Cache) (rows left : List Kept) → (AreListedIn cache rows → AreListedIn cache left) → IsKeptIn cache rows → IsKeptIn cache left
+left_listed cache rows left fewer was = record { identities = was.identities; ascend = was.ascend; exact = was.exact; listed = fewer was.listed }
 
-pub listed_old : (cache : Cache) (old : Option Stamped) (rows left : List Kept) → left ≡ without_old old rows → AreListedIn cache rows → AreListedIn cache left
-listed_old cache None rows left is was = subst (AreListedIn cache) (sym is) was
+pub all_forgotten : (cache : Cache) (rows left : List Kept) → left ≡ [] → IsKeptIn cache rows → IsKeptIn cache left
+all_forgotten cache rows left none = left_listed cache rows left (λ was. subst (AreListedIn cache) (sym none) tt)
+
+pub listed_selected : (cache : Cache) (policy : Policy) (rows left : List Kept) → left ≡ without_selected policy rows → IsKeptIn cache rows → IsKeptIn cache left
+listed_selected cache policy rows left is =
+    left_listed cache rows left (λ was. subst (AreListedIn cache) (sym is) (every-kept (IsListedIn cache) (λ (kept : Kept). not (selects kept.labels policy)) rows was))
+
+pub listed_old : (cache : Cache) (old : Option Stamped) (rows left : List Kept) → left ≡ without_old old rows → IsKeptIn cache rows → IsKeptIn cache left
+listed_old cache None rows left is was = subst (IsKeptIn cache) (sym is) was
 listed_old cache (Some stamped) rows left is was = listed_selected cache stamped.policy rows left is was
 
 -- ---- addresses

@@ -122,6 +122,7 @@ impl Store {
         ensures begun { self.new ≡ begun plan self.old }
         ensures newest { newest self.new.cache.log ≤ plan.revision }
     {
+        self.numbers.fits_together();
         self.numbers.carry_out(plan);
         self.revision += 1;
     }

@@ -47,6 +47,7 @@ impl Store {
         ensures fresh { TakesFreshNumbers self.old.cache self.new.cache }
         ensures log { self.new.cache.log ≡ self.old.cache.log }
     {
+        self.numbers.fits_together();
         self.numbers.refer(policy, steps)
     }
 

@@ -32,7 +32,8 @@ pub struct Store {
     pub(crate) named: Named,
     pub(crate) policies: Policies,
     pub(crate) numbers: Allocator,
-    // The filters that were taken for the endpoint of each slot. What a policy or the mode changes is forgotten.
+    // The filters that were taken for the endpoint of each slot, with the rows of the peers that they list. What a policy or
+    // the mode changes is forgotten.
     pub(crate) kept: KeptFilters,
     // What each address is. None where endpoints or prefixes changed since it was made.
     pub(crate) addresses: Option<Arc<Addresses>>,
@@ -45,8 +46,8 @@ impl Model for Store {
 
     ghost use Rattle.std.specs.List.{AllByRecursion};
     ghost use Rattle.pol_model.specs.Sizes.{IsShortPolicy};
-    ghost use Rattle.pol_kept_filters.specs.Kept.{AreKeptOf, AreListedIn, KeysDiffer};
-    ghost use Rattle.pol_store.specs.Inside.{Told};
+    ghost use Rattle.pol_kept_filters.specs.Kept.{AreKeptOf, KeysDiffer};
+    ghost use Rattle.pol_store.specs.Inside.{IsKeptIn, Told};
 
     ghost view = { λ store. record {
       state = record {
@@ -65,7 +66,7 @@ impl Model for Store {
         × KeysDiffer store.policies.list
         × AreKeptOf store.policies.list store.mode store.kept
         × Told store.endpoints.list store.numbers.rows store.addresses
-        × AreListedIn store.numbers.cache store.kept };
+        × IsKeptIn store.numbers.cache store.kept };
 }
 
 impl Store {

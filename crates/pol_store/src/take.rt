@@ -18,6 +18,7 @@ use crate::store::Store;
 use pol_data::Memory;
 use pol_kept_filters::Kept;
 use pol_l4::{Filters, resolve};
+use pol_labels::LabelSet;
 use pol_model::Endpoint;
 use pol_selcache::SelectorCache;
 use pol_taken::{Addresses, Sets, TakeError, Taken, sets_of};
@@ -41,8 +42,8 @@ fn parts_with(alloc: Global, cache: &SelectorCache, filters: Arc<Filters>) -> Re
     Ok(Parts { filters, sets })
 }
 
-/// The filters that are kept, and the sets of the peers that they list: by the numbers that are kept, and looked for by
-/// their peers where a selector came since these were listed.
+/// The filters that are kept, and the sets of the peers that they list: as they are kept where none has changed, else by the
+/// numbers that are kept, and looked for by their peers where a selector came since these were read.
 fn parts_of(alloc: Global, cache: &SelectorCache, kept: &Kept) -> Result<Parts, Memory>
     requires listed { IsListedIn cache.now kept.now }
     requires live { AllByRecursion (λ p. IsSome (number_of p cache.now.live)) (filter_peers (arc_value kept.now.filters)) }
@@ -58,20 +59,15 @@ fn parts_of(alloc: Global, cache: &SelectorCache, kept: &Kept) -> Result<Parts, 
 }
 
 impl Store {
-    /// What the policies say of the endpoint, resolved now, and the sets of the peers that it lists.
-    fn made_parts(
-        &self,
-        alloc: Global,
-        endpoint: &Endpoint,
-        localhost: bool,
-    ) -> Result<Parts, Memory>
+    /// What the policies say of these labels, resolved now, and the sets of the peers that it lists.
+    fn made_parts(&self, alloc: Global, labels: &LabelSet, localhost: bool) -> Result<Parts, Memory>
         requires refs { RefsOf (peers_of self.now.state.policies) self.now.cache.live }
-        ensures parts { IfOk result (ArePartsFor self.now endpoint.now localhost) }
+        ensures parts { IfOk result (ArePartsFor self.now labels.now localhost) }
     {
         let own = resolve(
             alloc,
             self.policies.as_slice(),
-            &endpoint.labels,
+            labels,
             self.mode,
             localhost,
         )?;
@@ -79,23 +75,21 @@ impl Store {
         parts_with(alloc, self.numbers.selectors(), filters)
     }
 
-    /// The filters of the endpoint, and the sets of the peers that they list: as they are kept for it or for one that is
-    /// alike, or made now.
+    /// The filters of an endpoint with these labels, and the sets of the peers that they list: as they are kept for the slot or
+    /// for one that is alike, or made now.
     pub(crate) fn parts(
         &self,
         alloc: Global,
-        endpoint: &Endpoint,
+        slot: u32,
+        labels: &LabelSet,
         localhost: bool,
     ) -> Result<Parts, Memory>
         requires refs { RefsOf (peers_of self.now.state.policies) self.now.cache.live }
-        ensures parts { IfOk result (ArePartsFor self.now endpoint.now localhost) }
+        ensures parts { IfOk result (ArePartsFor self.now labels.now localhost) }
     {
-        match self
-            .kept
-            .serving(endpoint.slot, &endpoint.labels, localhost)
-        {
+        match self.kept.serving(slot, labels, localhost) {
             Some(kept) => parts_of(alloc, self.numbers.selectors(), kept),
-            None => self.made_parts(alloc, endpoint, localhost),
+            None => self.made_parts(alloc, labels, localhost),
         }
     }
 
@@ -133,7 +127,7 @@ impl Store {
     }
 
     /// The live endpoint of the slot.
-    pub(crate) fn endpoint_copied(&self, alloc: Global, slot: u32) -> Result<Endpoint, TakeError>
+    fn endpoint_copied(&self, alloc: Global, slot: u32) -> Result<Endpoint, TakeError>
         ensures endpoint { IfOk result (λ endpoint. endpoint_in slot self.now.state.endpoints ≡ Some endpoint) }
         ensures gone { IsErrOf result TakeError.Gone ↔ (endpoint_in slot self.now.state.endpoints ≡ None) }
     {
@@ -150,7 +144,7 @@ impl Store {
             → endpoint_in slot s.endpoints ≡ Some endpoint → IsTakenOf options s slot taken) }
         ensures selectors { IfOk result (λ taken. AllByRecursion (λ row. number_of row.peer self.now.cache.live ≡ Some row.selector) taken.sets) }
     {
-        let parts = self.parts(alloc, &endpoint, localhost)?;
+        let parts = self.parts(alloc, endpoint.slot, &endpoint.labels, localhost)?;
         let addresses = self.addresses(alloc)?;
         Ok(Taken {
             revision: self.revision,

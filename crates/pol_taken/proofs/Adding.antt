@@ -123,17 +123,21 @@ module _ (live : List Live) (are : AreLive live) where
       sym set ∙ every-in (λ (y : Live). y.set ≡ set_at identities y.peer) live exact s.0 here.0
       ∙ ap (set_at identities) (sym ((peer_eq-Decides row.peer s.0.peer).0 here.1))
 
-  others_differ : (row : SetRow) (rows : List SetRow) → IsLiveRow live row → AllByRecursion (IsLiveRow live) rows
+  -- the row has the number of its peer's selector
+  abbrev HasOwn : SetRow → Type 0
+  HasOwn row = number_of row.peer live ≡ Some row.selector
+
+  others_differ : (row : SetRow) (rows : List SetRow) → HasOwn row → AllByRecursion HasOwn rows
       → AllByRecursion (λ m. nat_eq row.selector m ≡ false) (map (λ r. r.selector) rows) → AllByRecursion (λ q. peers.ghosts.eq row.peer q ≡ false) (map (λ r. r.peer) rows)
   others_differ row [] is all apart = tt
   others_differ row (r ∷ rows) is all apart = (
     false_from_ne_true (peers.ghosts.eq row.peer r.peer) (λ same.
-        let one : Some row.selector ≡ Some r.selector = sym is.selector ∙ ap (λ p. number_of p live) ((peer_eq-Decides row.peer r.peer).0 same) ∙ all.0.selector in
+        let one : Some row.selector ≡ Some r.selector = sym is ∙ ap (λ p. number_of p live) ((peer_eq-Decides row.peer r.peer).0 same) ∙ all.0 in
         both_ways (nat_eq row.selector r.selector) apart.0 (eq-eqb row.selector r.selector (same_Some row.selector r.selector one))),
     others_differ row rows is all.1 apart.1,
   )
 
-  peers_differ : (rows : List SetRow) → AllByRecursion (IsLiveRow live) rows → IsDistinct nat_eq (map (λ r. r.selector) rows) → IsDistinct peers.ghosts.eq (map (λ r. r.peer) rows)
+  peers_differ : (rows : List SetRow) → AllByRecursion HasOwn rows → IsDistinct nat_eq (map (λ r. r.selector) rows) → IsDistinct peers.ghosts.eq (map (λ r. r.peer) rows)
   unfolding IsDistinct
   peers_differ [] all apart = tt
   peers_differ (row ∷ rows) all apart = (others_differ row rows all.0 all.1 apart.0, peers_differ rows all.1 apart.1)
@@ -148,14 +152,23 @@ module _ (live : List Live) (are : AreLive live) where
       let parts = every-parts (λ p. IsTrue (has_set rows p)) (peers_in one.peers) (list_peers filters) all in
       (peers_have rows one.peers parts.0, lists_have rows filters parts.1)
 
-  pub are_sets : (filters : Filters) (rows : List SetRow) → AreRowsFor live (filter_peers filters) rows → AreSetsFor live filters rows
-  are_sets filters rows is =
-      let parts = every-parts (λ p. IsTrue (has_set rows p)) (list_peers filters.ingress) (list_peers filters.egress) is.every in
+  -- rows of the filters' peers, each with the number of its peer's selector and an exact set
+  pub sets_by : (filters : Filters) (rows : List SetRow) → AllByRecursion (λ row. Contains (filter_peers filters) row.peer) rows → AllByRecursion (λ p. IsTrue (has_set rows p)) (filter_peers filters)
+      → IsDistinct nat_eq (map (λ row. row.selector) rows) → AllByRecursion HasOwn rows
+      → ((identities : List IdentityRow) → AreExact identities live → AllByRecursion (λ row. arc_value row.set ≡ set_at identities row.peer) rows) → AreSetsFor live filters rows
+  sets_by filters rows listed every once own exact =
+      let parts = every-parts (λ p. IsTrue (has_set rows p)) (list_peers filters.ingress) (list_peers filters.egress) every in
       record {
         every = record { ingress = lists_have rows filters.ingress parts.0; egress = lists_have rows filters.egress parts.1 };
-        listed = is.listed;
-        selectors = every-weaker (IsLiveRow live) (λ row. number_of row.peer live ≡ Some row.selector) (λ row its. its.selector) rows is.live;
-        once = is.once;
-        apart = peers_differ rows is.live is.once;
-        exact = λ identities exact. every-weaker (IsLiveRow live) (λ row. arc_value row.set ≡ set_at identities row.peer) (exact_set identities exact) rows is.live;
+        listed = listed;
+        selectors = own;
+        once = once;
+        apart = peers_differ rows own once;
+        exact = exact;
       }
+
+  pub are_sets : (filters : Filters) (rows : List SetRow) → AreRowsFor live (filter_peers filters) rows → AreSetsFor live filters rows
+  are_sets filters rows is =
+      sets_by filters rows is.listed is.every is.once
+      (every-weaker (IsLiveRow live) HasOwn (λ row its. its.selector) rows is.live)
+      (λ identities exact. every-weaker (IsLiveRow live) (λ row. arc_value row.set ≡ set_at identities row.peer) (exact_set identities exact) rows is.live)

@@ -3,3 +3,4 @@ pub mod Listing
 pub mod Agreed
 pub mod Worked
 pub mod Relisting
+pub mod AsRead

@@ -2,8 +2,9 @@ use Rattle.std.proofs.Common.{◌≡◌, IfOk, IfSome, IsSome, sym, ◌∙◌, s
 use Rattle.std.specs.Arc.{arc_value}
 use Rattle.std.specs.List.{AllByRecursion}
 use Rattle.pol_l4.specs.declared.filter.Filters.{Filters}
+use Rattle.pol_sets.specs.declared.sets.SetRow.{SetRow}
 use Rattle.pol_selcache.specs.Live.{number_of}
-use Rattle.pol_taken.specs.Known.{IsKnownIn, IsListingOf, Listed, ListedPeers}
+use Rattle.pol_taken.specs.Known.{IsKnownIn, IsListingOf, KnownRows}
 use Rattle.pol_taken.specs.PeerRows.{AreSetsFor, filter_peers}
 use Rattle.pol_taken.proofs.Relisting.{listed_live}
 use Rattle.pol_store.proofs.take.parts_of.Goals as goal
@@ -13,8 +14,8 @@ sets_of-requires c =
     let kept = c.args.kept.now in
     let cache = c.args.cache.now in
     record {
-      known = subst (IsKnownIn cache) (sym c.known.ensures.known) c.requires.listed.numbers;
-      live = subst (λ (k : ListedPeers). AllByRecursion (λ (row : Listed). IsSome (number_of row.peer cache.live)) k.rows) (sym c.known.ensures.known)
+      known = subst (IsKnownIn cache) (sym c.known.ensures.known) c.requires.listed.known;
+      live = subst (λ (k : KnownRows). AllByRecursion (λ (row : SetRow). IsSome (number_of row.peer cache.live)) k.rows) (sym c.known.ensures.known)
           (listed_live cache (filter_peers (arc_value kept.filters)) kept.known.rows c.requires.live c.requires.listed.listing.listed);
     }
 
@@ -26,7 +27,7 @@ returns-in-Some c =
     record {
       filters = c.in_ok-filters.ensures ∙ c.filters.ensures.filters;
       sets = told (arc_value kept.filters)
-          (subst (λ (k : ListedPeers). IsListingOf (filter_peers (arc_value kept.filters)) k.rows) (sym c.known.ensures.known) c.requires.listed.listing);
+          (subst (λ (k : KnownRows). IsListingOf (filter_peers (arc_value kept.filters)) k.rows) (sym c.known.ensures.known) c.requires.listed.listing);
     }
 
 pub parts_with-requires : goal.parts_with-requires

@@ -5,5 +5,5 @@ use Rattle.pol_taken.specs.PeerRows.{IsLiveRow}
 use Rattle.pol_taken.proofs.known_peers.rows_now.Given as goal
 
 -- the first peers have their rows
-abbrev pub invariant-loop-peer : goal.invariant-loop-peer
-invariant-loop-peer l = (map key_of l.rows.items ≡ take l.peer-index l.listed) × AllByRecursion (IsLiveRow l.cache.live) l.rows.items
+abbrev pub invariant-loop-row : goal.invariant-loop-row
+invariant-loop-row l = (map key_of l.new.items ≡ map key_of (take l.row-index l.rows)) × AllByRecursion (IsLiveRow l.cache.live) l.new.items

@@ -1,5 +1,6 @@
-use Rattle.std.proofs.Common.{refl, sym}
-use Rattle.pol_store.proofs.Kept.{none_listed, nothing_kept}
+use Rattle.std.proofs.Common.{ap, refl, sym}
+use Rattle.pol_allocator.specs.Held.{Held}
+use Rattle.pol_store.proofs.Kept.{nothing_listed_yet, nothing_kept}
 use Rattle.pol_store.proofs.Starting.{starts}
 use Rattle.pol_store.proofs.store.Store.new.Goals as goal
 
@@ -10,4 +11,4 @@ returns-clause-start c = λ options mode.
 pub invariant_of-result : goal.invariant_of-result
 invariant_of-result c =
     let nothing = nothing_kept c.new-3.result.list c.args.mode c.new-5.result c.new-3.ensures.list c.new-5.ensures.none in
-    (nothing.0, nothing.1, nothing.2, tt, none_listed _ c.new-5.result c.new-5.ensures.none)
+    (nothing.0, nothing.1, nothing.2, tt, nothing_listed_yet _ c.new-5.result (ap (λ (h : Held). h.cache.live) c.in_ok-new.ensures.nothing) c.new-5.ensures.none)

@@ -14,24 +14,24 @@ use Rattle.pol_store.proofs.store.Store.parts.Goals as goal
 pub parts_of-requires : goal.parts_of-requires
 parts_of-requires c =
     let kept = c.in-Some.kept.now in
-    let labels = c.args.endpoint.now.labels in
+    let labels = c.args.labels.now in
     let own = subst (λ (t : Stored). arc_value kept.filters ≡ filters_for t.state.policies labels t.state.mode c.args.localhost) c.self.view_is
     (served c.self.inside.policies.list c.self.inside.mode c.self.inside.kept kept labels c.args.localhost c.self.invariant.2 c.in-Some.ensures.kept c.in-Some.ensures.serves) in
     let cache = c.selectors.ensures.cache ∙ ap (λ (t : Stored). t.cache) c.self.view_is in
     record {
       listed = subst (λ (cache : Cache). IsListedIn cache kept) (sym c.selectors.ensures.cache)
-          (every-among (IsListedIn c.self.inside.numbers.cache) c.self.inside.kept kept c.self.invariant.4 c.in-Some.ensures.kept);
+          (every-among (IsListedIn c.self.inside.numbers.cache) c.self.inside.kept kept c.self.invariant.4.listed c.in-Some.ensures.kept);
       live = subst (λ (cache : Cache). AllByRecursion (λ p. IsSome (number_of p cache.live)) (filter_peers (arc_value kept.filters))) (sym cache)
-          (listed_live c.args.self.now c.args.endpoint.now c.args.localhost (arc_value kept.filters) c.requires.refs own);
+          (listed_live c.args.self.now c.args.labels.now c.args.localhost (arc_value kept.filters) c.requires.refs own);
     }
 
 pub returns-in-Some : goal.returns-in-Some
 returns-in-Some c =
     let kept = c.in-Some.kept.now in
-    let labels = c.args.endpoint.now.labels in
+    let labels = c.args.labels.now in
     let own = subst (λ (t : Stored). arc_value kept.filters ≡ filters_for t.state.policies labels t.state.mode c.args.localhost) c.self.view_is
     (served c.self.inside.policies.list c.self.inside.mode c.self.inside.kept kept labels c.args.localhost c.self.invariant.2 c.in-Some.ensures.kept c.in-Some.ensures.serves) in
     let cache = c.selectors.ensures.cache ∙ ap (λ (t : Stored). t.cache) c.self.view_is in
     record {
-      parts = parts_are c.args.self.now c.args.endpoint.now c.args.localhost c.selectors.result.now (arc_value kept.filters) c.parts_of.result cache own c.parts_of.ensures.filters c.parts_of.ensures.sets;
+      parts = parts_are c.args.self.now c.args.labels.now c.args.localhost c.selectors.result.now (arc_value kept.filters) c.parts_of.result cache own c.parts_of.ensures.filters c.parts_of.ensures.sets;
     }

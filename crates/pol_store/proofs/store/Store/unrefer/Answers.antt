@@ -20,5 +20,5 @@ invariant_of-self c = (
   c.self.invariant.1,
   c.self.invariant.2,
   told_still c.self.inside.endpoints.list c.self.inside.numbers.rows c.unrefer.new.self.rows c.self.inside.addresses c.unrefer.ensures.rows c.self.invariant.3,
-  listed_less c.self.inside.numbers.cache c.unrefer.new.self.cache c.self.inside.kept c.unrefer.ensures.next c.unrefer.ensures.kept c.self.invariant.4,
+  listed_less c.self.inside.numbers.cache c.unrefer.new.self.cache c.self.inside.kept c.unrefer.ensures.exact c.unrefer.ensures.next c.unrefer.ensures.kept c.unrefer.ensures.log c.self.invariant.4,
 )

@@ -1,14 +1,16 @@
-use Rattle.std.proofs.Common.{sym, subst, map, ap, ◌∙◌}
-use Rattle.pol_taken.specs.Known.{IsListingOf, key_of}
-use Rattle.pol_taken.specs.PeerRows.{filter_peers}
-use Rattle.pol_taken.proofs.Relisting.{known_at, listing_of}
+use Rattle.std.proofs.Common.{subst, sym, arith}
+use Rattle.pol_taken.specs.Known.{AreUnchanged}
+use Rattle.pol_taken.specs.PeerRows.{AreSetsFor}
+use Rattle.pol_taken.proofs.AsRead.{known_as_read, unchanged_now}
 use Rattle.pol_taken.proofs.known_peers.KnownPeers.of.Goals as goal
 
-pub returns : goal.returns
-returns c =
-    let keys = c.in_ok-all_listed.ensures.keys ∙ ap (map key_of) c.as_slice.ensures.rows in
-    let sets = c.args.sets.now in
-    record {
-      listing = λ filters are. subst (IsListingOf (filter_peers filters)) (sym keys) (listing_of c.args.cache.now.live filters sets are);
-      known = known_at c.args.cache.now sets _ c.requires.numbers keys c.next_number.ensures.next;
-    }
+pub returns-clause-known : goal.returns-clause-known
+returns-clause-known c = λ filters are.
+    known_as_read c.args.cache.now filters (record { rows = c.in_ok-share.field-0; next = c.next_number.result; read = c.newest.result })
+    (subst (AreSetsFor c.args.cache.now.live filters) (sym c.in_ok-share.ensures.same) are) c.next_number.ensures.next (omega (arith, c.newest.ensures.newest))
+
+pub returns-clause-serves : goal.returns-clause-serves
+returns-clause-serves c = record {
+  current = c.next_number.ensures.next;
+  unchanged = subst (λ n. AreUnchanged c.args.cache.now n c.in_ok-share.field-0) (sym c.newest.ensures.newest) (unchanged_now c.args.cache.now c.newest.ensures.sound c.in_ok-share.field-0);
+}
