@@ -9,7 +9,7 @@ use crate::row::Rows;
 use indexmap::IndexMap;
 use pol_data::{Memory, Text};
 use pol_history::Reply;
-use pol_repo::{EndpointRow, Repo};
+use pol_repo::Repo;
 use pol_taken::{TakeError, Taken};
 use std::alloc::Global;
 
@@ -30,15 +30,14 @@ fn kept(rows: &Rows, name: &Text) -> Option<u64>
 }
 
 /// The revision of the map that was made last of the slot's endpoint.
-fn since(rows: &Rows, endpoints: &[EndpointRow], slot: u32) -> Option<u64>
-    ensures { result ≡ since_of (by_name rows.now) (endpoint_in slot endpoints.now) }
+fn since(rows: &Rows, repo: &Repo, slot: u32) -> Option<u64>
+    requires idle { repo.now.prepared ≡ None }
+    ensures { result ≡ since_of (by_name rows.now) (endpoint_in slot (state_in repo.now).endpoints) }
 {
-    for endpoint in endpoints {
-        if endpoint.slot == slot {
-            return kept(rows, &endpoint.name);
-        }
+    match repo.endpoint_at(slot) {
+        Some(endpoint) => kept(rows, &endpoint.name),
+        None => None,
     }
-    None
 }
 
 /// Takes what the map of the slot's endpoint is made of. The one error is want of memory, and then all is as before.
@@ -53,7 +52,7 @@ pub(crate) fn take(
     requires kept { IfSome (since_of (by_name rows.now) (endpoint_in slot (state_in repo.now).endpoints)) (λ revision. revision ≤ (state_in repo.now).revision) }
     ensures { WhatTakes repo.now (by_name rows.now) slot (by_slot takes.old) (by_slot takes.new) result }
 {
-    let since = since(rows, repo.endpoints(), slot);
+    let since = since(rows, repo, slot);
     match repo.take(alloc, slot, since) {
         Ok(taken) => keep(takes, slot, taken),
         Err(TakeError::Gone) => Ok(Reply::Gone),

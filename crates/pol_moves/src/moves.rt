@@ -1,13 +1,34 @@
 //! What sets gained and lost since a revision.
 ghost use Rattle.std.specs.Prelude.{◌≡◌, ◌≤◌, ◌++◌, true, IfOk, OnOk};
 ghost use Rattle.std.specs.List.{AllByRecursion};
+ghost use Rattle.pol_change_log.specs.Log.{since};
 ghost use Rattle.pol_selcache.specs.Live.{is_live};
 ghost use Rattle.pol_moves.specs.Moves.{move_since, moves_of};
 
 use pol_data::{Items, Memory};
 use pol_selcache::SelectorCache;
-use pol_sets::{Move, Moves, Sets};
+use pol_sets::{IdSet, Move, Moves, Sets};
 use std::alloc::Global;
+
+/// What the set of one selector gained and lost since a revision. The one error is want of memory.
+fn move_of(
+    alloc: Global,
+    cache: &SelectorCache,
+    selector: u64,
+    revision: u64,
+) -> Result<Option<Move>, Memory>
+    requires live { is_live selector cache.now.live ≡ true }
+    ensures { IfOk result (λ m. m ≡ since cache.now.log selector revision) }
+{
+    if cache.unchanged_since(selector) <= revision {
+        return Ok(Some(Move {
+            selector,
+            gained: IdSet::new(alloc),
+            lost: IdSet::new(alloc),
+        }));
+    }
+    cache.changes_since(alloc, selector, revision)
+}
 
 /// The move of one selector, where its number is less than `next`.
 fn push_move(
@@ -22,7 +43,7 @@ fn push_move(
     ensures { OnOk result (moves.new.items ≡ moves.old.items ++ move_since cache.now.log next revision selector) }
 {
     if selector < next {
-        match cache.changes_since(alloc, selector, revision)? {
+        match move_of(alloc, cache, selector, revision)? {
             Some(change) => moves.push(change)?,
             None => (),
         }

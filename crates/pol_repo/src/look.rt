@@ -5,6 +5,7 @@ ghost use Rattle.std.specs.Option.{option_copied};
 ghost use Rattle.pol_model.specs.Endpoints.{endpoint_of};
 ghost use Rattle.pol_model.specs.Remote.{number_at};
 ghost use Rattle.pol_model.specs.Sizes.{IsShortPolicy};
+ghost use Rattle.pol_tables.specs.Tables.{endpoint_in};
 ghost use Rattle.pol_repo.specs.Repository.{state_in};
 
 use crate::repo::Repo;
@@ -60,6 +61,14 @@ impl Repo {
         ensures found { option_copied result ≡ endpoint_of name.now (state_in self.now).endpoints }
     {
         self.store.endpoints().find(name)
+    }
+
+    /// The live endpoint of that slot.
+    pub fn endpoint_at(&self, slot: u32) -> Option<&Endpoint>
+        requires idle { self.now.prepared ≡ None }
+        ensures found { option_copied result ≡ endpoint_in slot (state_in self.now).endpoints }
+    {
+        self.store.endpoints().at_slot(slot)
     }
 
     /// The identity of an address: that of the endpoint that has it, else of the longest held prefix that contains it, else
