@@ -1,4 +1,5 @@
 pub mod Cuts
+pub mod InRules
 pub mod Listing
 pub mod Counted
 pub mod Recorded

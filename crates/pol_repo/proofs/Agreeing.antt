@@ -27,18 +27,14 @@ use Rattle.pol_model.specs.declared.row.Endpoint.{Endpoint}
 use Rattle.pol_model.specs.declared.row.Stamped.{Stamped}
 use Rattle.pol_data.proofs.Members.{In}
 use Rattle.pol_model_laws.proofs.Ledger.{same_prefix-is}
-use Rattle.pol_model_laws.proofs.Membership.{In-left, In-right, filter-In}
+use Rattle.pol_model_laws.proofs.Membership.{filter-In}
+use Rattle.pol_moves.proofs.InRules.{In-flat_map, in_rule}
 
 -- ---- lists
 
 any_within : {X : Type 0} (p q : X → Bool) (xs : List X) → ((x : X) → In x xs → p x ≡ q x) → list_any p xs ≡ list_any q xs
 any_within p q [] same = refl
 any_within p q (x ∷ xs) same = λ i. same x (inl refl) i || any_within p q xs (λ y later. same y (inr later)) i
-
-in_flat_map : {X Y : Type 0} (f : X → List Y) (y : Y) (x : X) (xs : List X) → In y (f x) → In x xs → In y (flat_map f xs)
-in_flat_map f y x [] own there = elim there [ ]
-in_flat_map f y x (z ∷ zs) own (inl same) = In-left y (f z) (flat_map f zs) (subst (λ w. In y (f w)) (sym same) own)
-in_flat_map f y x (z ∷ zs) own (inr later) = In-right y (f z) (flat_map f zs) (in_flat_map f y x zs own later)
 
 -- each prefix stands once among the distinct ones
 in_distinct : (prefix : Prefix) (prefixes : List Prefix) → In prefix prefixes → In prefix (distinct prefixes)
@@ -49,19 +45,6 @@ in_distinct prefix (first ∷ others) (inr later) =
       | inl same ↦ inl (same_prefix-is first prefix same)
       | inr other ↦ inr (filter-In (λ q. not (same_prefix first q)) prefix (distinct others) (in_distinct prefix others later) (ap not other))
     ]
-
--- an entry of a section is one of its rule's
-in_rule : (s : Section) (rule : Rule) (entry : Entry) → In entry (section_of s rule) → In entry (rule_entries rule)
-in_rule section.Ingress rule entry there =
-    In-left entry (rule.ingress ++ rule.ingress_deny ++ rule.egress) rule.egress_deny
-    (In-left entry (rule.ingress ++ rule.ingress_deny) rule.egress (In-left entry rule.ingress rule.ingress_deny there))
-in_rule section.IngressDeny rule entry there =
-    In-left entry (rule.ingress ++ rule.ingress_deny ++ rule.egress) rule.egress_deny
-    (In-left entry (rule.ingress ++ rule.ingress_deny) rule.egress (In-right entry rule.ingress rule.ingress_deny there))
-in_rule section.Egress rule entry there =
-    In-left entry (rule.ingress ++ rule.ingress_deny ++ rule.egress) rule.egress_deny
-    (In-right entry (rule.ingress ++ rule.ingress_deny) rule.egress there)
-in_rule section.EgressDeny rule entry there = In-right entry (rule.ingress ++ rule.ingress_deny ++ rule.egress) rule.egress_deny there
 
 -- ---- peers, entries, rules, policies
 
@@ -85,7 +68,7 @@ module _ (f g : Peer → Bool) where
   listed_agree : (policy : Policy) → AgreeOver f g (policy_prefixes policy) → AgreeOn f g (listed_peers policy)
   listed_agree policy agree p listed =
       agree p (λ prefix its.
-      in_distinct prefix (flat_map peer_prefixes (listed_peers policy)) (in_flat_map peer_prefixes prefix p (listed_peers policy) its listed))
+      in_distinct prefix (flat_map peer_prefixes (listed_peers policy)) (In-flat_map peer_prefixes prefix p (listed_peers policy) listed its))
 
   module _ (proto : Proto) (port : ℕ) where
     rule_agrees : (s : Section) (rule : Rule) → AgreeOn f g (rule_peers rule)
@@ -93,7 +76,7 @@ module _ (f g : Peer → Bool) where
     rule_agrees s rule agree =
         any_within (entry_covers f proto port) (entry_covers g proto port) (section_of s rule) (λ entry there.
         let its : AgreeOn f g (peers_in entry.peers)
-        = λ p among. agree p (in_flat_map (λ e. peers_in e.peers) p entry (rule_entries rule) among (in_rule s rule entry there)) in
+        = λ p among. agree p (In-flat_map (λ e. peers_in e.peers) p entry (rule_entries rule) (in_rule s rule entry there) among) in
         ap (λ b. has_effect entry && b && ports_cover proto port entry.ports) (peers_agree entry.peers its))
 
     policies_agree : (policies : List Stamped) (endpoint : Endpoint) (s : Section) → Agree f g policies
@@ -103,7 +86,7 @@ module _ (f g : Peer → Bool) where
         any_within _ _ policies (λ stamped there.
         any_within _ _ stamped.policy.rules (λ rule within.
         ap (λ b. rule_selects endpoint rule && b) (rule_agrees s rule (λ p among.
-        listed_agree stamped.policy (agree stamped there) p (in_flat_map rule_peers p rule stamped.policy.rules among within)))))
+        listed_agree stamped.policy (agree stamped there) p (In-flat_map rule_peers p rule stamped.policy.rules within among)))))
 
 -- ---- the verdict
 

@@ -81,6 +81,7 @@ impl Repo {
         ensures requests { result.now ≡ self.now.journal }
         ensures without_faults { WithoutFaults self.now.options self.now.journal }
     {
+        self.fits_together();
         self.journal.as_slice()
     }
 

@@ -15,28 +15,10 @@ use Rattle.pol_rule.specs.declared.policy.Section.{Section}
 use Rattle.pol_rule.specs.declared.policy.Section.TheVariants as section
 use Rattle.pol_model.specs.declared.row.Stamped.{Stamped}
 use Rattle.pol_model.specs.Enforced.{allow_section, deny_section}
-use Rattle.pol_model_laws.proofs.Membership.{In-left, In-right}
 use Rattle.pol_l4.specs.declared.filter.Filter.{Filter}
 use Rattle.pol_l4.specs.Resolved.{entry_filters, filter_at, filters_in, policy_filters, rule_filters}
 use Rattle.pol_rule.specs.Listed.{listed_peers, peers_in, rule_peers}
-
-pub In-flat_map : {X Y : Type 0} (f : Y → List X) (x : X) (y : Y) (ys : List Y) → In y ys → In x (f y) → In x (flat_map f ys)
-In-flat_map f x y [] there here = elim there [ ]
-In-flat_map f x y (z ∷ ys) (inl same) here = In-left x (f z) (flat_map f ys) (subst (λ w. In x (f w)) (sym same) here)
-In-flat_map f x y (z ∷ ys) (inr later) here = In-right x (f z) (flat_map f ys) (In-flat_map f x y ys later here)
-
--- an entry of a section is one of the rule's
-entry_of_rule : (part : Section) (rule : Rule) (entry : Entry) → In entry (section_of part rule) → In entry (rule_entries rule)
-entry_of_rule section.Ingress rule entry there =
-    In-left entry (rule.ingress ++ rule.ingress_deny ++ rule.egress) rule.egress_deny
-    (In-left entry (rule.ingress ++ rule.ingress_deny) rule.egress (In-left entry rule.ingress rule.ingress_deny there))
-entry_of_rule section.IngressDeny rule entry there =
-    In-left entry (rule.ingress ++ rule.ingress_deny ++ rule.egress) rule.egress_deny
-    (In-left entry (rule.ingress ++ rule.ingress_deny) rule.egress (In-right entry rule.ingress rule.ingress_deny there))
-entry_of_rule section.Egress rule entry there =
-    In-left entry (rule.ingress ++ rule.ingress_deny ++ rule.egress) rule.egress_deny
-    (In-right entry (rule.ingress ++ rule.ingress_deny) rule.egress there)
-entry_of_rule section.EgressDeny rule entry there = In-right entry (rule.ingress ++ rule.ingress_deny ++ rule.egress) rule.egress_deny there
+use Rattle.pol_moves.proofs.InRules.{In-flat_map, in_rule}
 
 -- the policy has the filter's stamp, and lists its peers
 pub record Lists (stamped : Stamped) (one : Filter) : Type 0 where
@@ -66,7 +48,7 @@ module _ (stamped : Stamped) where
   of_section number rule there part =
       of_entries number part 0 (section_of part rule) (λ entry at p listed.
       In-flat_map rule_peers p rule stamped.policy.rules there
-      (In-flat_map (λ (e : Entry). peers_in e.peers) p entry (rule_entries rule) (entry_of_rule part rule entry at) listed))
+      (In-flat_map (λ (e : Entry). peers_in e.peers) p entry (rule_entries rule) (in_rule part rule entry at) listed))
 
   of_rules : (labels : List Label) (dir : Direction) (n : ℕ) (rules : List Rule) → ((rule : Rule) → In rule rules → In rule stamped.policy.rules)
       → AllByRecursion (Lists stamped) (policy_filters stamped labels dir n rules)

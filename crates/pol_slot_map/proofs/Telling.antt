@@ -25,7 +25,7 @@ use Rattle.pol_store.specs.Store.{peers_of}
 use Rattle.pol_moves.specs.Changes.{IsListedSince, is_listed, set_in, state_at}
 use Rattle.pol_moves.specs.Moves.{AreMovesOf, IsMoveOf}
 use Rattle.pol_delta.specs.Applies.{HasMove}
-use Rattle.pol_slot_map.proofs.Listing.{In-flat_map}
+use Rattle.pol_moves.proofs.InRules.{In-flat_map}
 use Rattle.pol_slot_map.proofs.Stamps.{policy_then}
 
 -- what is in a list made of lists is in one of them
