@@ -224,7 +224,7 @@ def proved():
 
 
 def diagram():
-    """The diagram of docs/ARCHITECTURE.md is what crates.txt says, and says something of each crate."""
+    """The diagram of docs/LAYERS.md is what crates.txt says, and says something of each crate."""
     wanted = layers.drawn()
     wrong = compare.difference("the diagram", wanted.encode(), layers.there().encode())
     unsaid = [it for it, what in layers.described().items() if what == layers.UNKNOWN]
@@ -241,7 +241,7 @@ def introduced(name):
 
 
 def checks():
-    yield "diagram docs/ARCHITECTURE.md", diagram
+    yield "diagram docs/LAYERS.md", diagram
     yield from rooms.checks()
     yield from definitions.checks()
     yield from kinds.checks()

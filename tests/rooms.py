@@ -13,8 +13,8 @@ BOX = re.compile(r"\+-- ([a-z ]+), (\d+) crates -")
 ROOM = re.compile(r"# Room: (.+)")
 # The picture fits a screen.
 LINES_MOST, COLUMNS_MOST = 40, 100
-# The room that stands on no other, and the room that no other stands on.
-LOWEST, HIGHEST = "ground", "tests and benchmarks"
+# The room that nothing stands on.
+HIGHEST = "tests and benchmarks"
 
 
 def rooms():
@@ -44,28 +44,24 @@ def cut_rooms():
     return [f"the room {it} begins twice" for it in sorted({*names}) if names.count(it) > 1]
 
 
-def early():
-    """Crates that stand before one of their room that they use."""
-    listed, wrong = program.crates(), []
-    for _, crates in rooms():
-        wrong += [f"{it} stands before {below}, which it uses" for at, it in enumerate(crates) for below in listed[it] if below in crates[at:]]
-    return wrong
-
-
-def out_of_place():
-    """Crates of the lowest room that use another room, and crates of other rooms that use the highest."""
-    of, wrong = room_of(), []
+def upward():
+    """Crates that use one that stands after them: of their own room, or of a higher one."""
+    of, wrong, seen = room_of(), [], set()
     for crate, libraries in program.crates().items():
-        for it in libraries:
-            above, below = of[crate], of.get(it)
-            if above == LOWEST and below not in (None, LOWEST) or below == HIGHEST != above:
-                wrong.append(f"{crate} of the room {above} uses {it} of the room {below}")
+        wrong += [f"{crate} of the room {of[crate]} uses {it} of the room {of[it]}, which stands after it" for it in libraries if it in of and it not in seen]
+        seen.add(crate)
     return wrong
+
+
+def used_tests():
+    """Crates that use one of the highest room, which nothing stands on."""
+    of = room_of()
+    return [f"{crate} uses {it} of the room {HIGHEST}" for crate, libraries in program.crates().items() for it in libraries if of.get(it) == HIGHEST]
 
 
 def listed():
-    """Each room of crates.txt is one section, the lowest crates first, between the lowest room and the highest."""
-    return [*cut_rooms(), *early(), *out_of_place()]
+    """Each room of crates.txt is one section, and each crate stands behind all that it uses."""
+    return [*cut_rooms(), *upward(), *used_tests()]
 
 
 # The picture.
