@@ -3,6 +3,8 @@
 A type is an `enum`, `struct`, `trait`, `union` or `type` that begins at the margin of a file of `src`; it is public
 where it is `pub`, whoever else it is handed on by. TWICE has the names that aren't so yet, each with the crates whose
 types have it. It may only shrink: a name that stands once, or whose crates are others, is told too.
+
+A crate's name says what the crate holds: no crate takes a name back that said less.
 """
 import re
 
@@ -12,6 +14,9 @@ TYPE = re.compile(r"(?m)^(pub )?(?:pub\(\w+\) )?(?:enum|struct|trait|union|type)
 TWICE = {
     "Entries": "pol_audit pol_rule",
 }
+
+# Names that crates had, which said less of what they hold than those that they have.
+TOO_SHORT = {"pol_base", "pol_change_list", "pol_change_log", "pol_core", "pol_delta", "pol_k8s", "pol_l4", "pol_lpm", "pol_moves", "pol_placed", "pol_pool", "pol_raw_entries"}
 
 
 def types():
@@ -33,5 +38,11 @@ def once():
     return [*wrong, *(f"{name} stands once now: TWICE needs it no more" for name in TWICE if name not in several)]
 
 
+def telling():
+    """No crate has a name that says too little of it."""
+    return [f"{it} was given up, since it says too little of what the crate holds" for it in program.crates() if it in TOO_SHORT]
+
+
 def checks():
     yield "names of public types", once
+    yield "names of crates", telling

@@ -9,11 +9,11 @@ use Rattle.document_laws.specs.NetworkWellFormed.{IsWellFormedNetKey}
 use Rattle.document_laws.specs.NetworkWritten.{net_entry_document, net_entry_fields, net_peer_document, net_peer_fields, net_port_document, net_port_fields, net_spec_document, net_spec_fields, network_document_of}
 use Rattle.document_laws.specs.Written.{cidr_set_document, selector_document}
 use Rattle.pol_json.specs.Build.{cidr_set_of, selector_of, text_of}
-use Rattle.pol_k8s.specs.Document.{key_of, raw_entry_of, raw_of, raw_peer_of, raw_port_of, raw_with}
-use Rattle.pol_k8s.specs.declared.raw.RawNetEntry.{RawNetEntry}
-use Rattle.pol_k8s.specs.declared.raw.RawNetPeer.{RawNetPeer}
-use Rattle.pol_k8s.specs.declared.raw.RawNetPort.{RawNetPort}
-use Rattle.pol_k8s.specs.declared.raw.RawNetworkPolicy.{RawNetworkPolicy}
+use Rattle.pol_netpol.specs.Document.{key_of, raw_entry_of, raw_of, raw_peer_of, raw_port_of, raw_with}
+use Rattle.pol_netpol.specs.declared.raw.RawNetEntry.{RawNetEntry}
+use Rattle.pol_netpol.specs.declared.raw.RawNetPeer.{RawNetPeer}
+use Rattle.pol_netpol.specs.declared.raw.RawNetPort.{RawNetPort}
+use Rattle.pol_netpol.specs.declared.raw.RawNetworkPolicy.{RawNetworkPolicy}
 use Rattle.pol_ports.specs.declared.Direction.{Direction}
 use Rattle.pol_ports.specs.declared.Direction.TheVariants.{Ingress, Egress}
 use Rattle.pol_rule.specs.declared.policy.PolicyKey.{PolicyKey}

@@ -19,8 +19,8 @@ use Rattle.pol_json.specs.Document.{has_name}
 use Rattle.pol_json.specs.Members.{present}
 use Rattle.pol_json.specs.Network.{network_fault, network_head_fault}
 use Rattle.pol_json.specs.declared.fault.DocFault.TheVariants.{NotPolicy, NoName, NoSpec}
-use Rattle.pol_k8s.specs.Document.{raw_entry_of, raw_of, raw_peer_of, read_document}
-use Rattle.pol_k8s.specs.declared.raw.RawNetworkPolicy.{RawNetworkPolicy}
+use Rattle.pol_netpol.specs.Document.{raw_entry_of, raw_of, raw_peer_of, read_document}
+use Rattle.pol_netpol.specs.declared.raw.RawNetworkPolicy.{RawNetworkPolicy}
 use Rattle.pol_ports.specs.declared.Direction.{Direction}
 use Rattle.pol_ports.specs.declared.Direction.TheVariants.{Ingress, Egress}
 

@@ -13,10 +13,10 @@ use Rattle.document_laws.specs.NetworkWritten.{net_entry_document, net_entry_fie
 use Rattle.document_laws.specs.WellFormed.{IsWellFormedCidr, IsWellFormedSet}
 use Rattle.document_laws.specs.Written.{cidr_set_document, cidr_set_fields, whole_document}
 use Rattle.pol_json.specs.Places.{cause_of}
-use Rattle.pol_k8s.specs.declared.raw.RawNetEntry.{RawNetEntry}
-use Rattle.pol_k8s.specs.declared.raw.RawNetPeer.{RawNetPeer}
-use Rattle.pol_k8s.specs.declared.raw.RawNetPort.{RawNetPort}
-use Rattle.pol_k8s.specs.declared.raw.RawNetworkPolicy.{RawNetworkPolicy}
+use Rattle.pol_netpol.specs.declared.raw.RawNetEntry.{RawNetEntry}
+use Rattle.pol_netpol.specs.declared.raw.RawNetPeer.{RawNetPeer}
+use Rattle.pol_netpol.specs.declared.raw.RawNetPort.{RawNetPort}
+use Rattle.pol_netpol.specs.declared.raw.RawNetworkPolicy.{RawNetworkPolicy}
 use Rattle.pol_ports.specs.declared.Direction.{Direction}
 use Rattle.pol_ports.specs.declared.Direction.TheVariants.{Ingress, Egress}
 use Rattle.pol_rule.specs.declared.policy.PolicyKey.{PolicyKey}

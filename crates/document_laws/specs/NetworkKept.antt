@@ -3,10 +3,10 @@
 use Rattle.std.specs.Prelude.{◌^◌, ◌<◌, IfSome}
 use Rattle.std.specs.List.{AllByRecursion}
 use Rattle.document_laws.specs.Kept.{IsKeptSelector}
-use Rattle.pol_k8s.specs.declared.raw.RawNetEntry.{RawNetEntry}
-use Rattle.pol_k8s.specs.declared.raw.RawNetPeer.{RawNetPeer}
-use Rattle.pol_k8s.specs.declared.raw.RawNetPort.{RawNetPort}
-use Rattle.pol_k8s.specs.declared.raw.RawNetworkPolicy.{RawNetworkPolicy}
+use Rattle.pol_netpol.specs.declared.raw.RawNetEntry.{RawNetEntry}
+use Rattle.pol_netpol.specs.declared.raw.RawNetPeer.{RawNetPeer}
+use Rattle.pol_netpol.specs.declared.raw.RawNetPort.{RawNetPort}
+use Rattle.pol_netpol.specs.declared.raw.RawNetworkPolicy.{RawNetworkPolicy}
 
 pub record IsKeptNetPort (port : RawNetPort) : Type 0 where
   pub first : IfSome port.port (λ n. n < 2 ^ 64)

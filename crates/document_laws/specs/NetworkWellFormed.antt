@@ -5,9 +5,9 @@ use Rattle.std.specs.List.{AllByRecursion}
 use Rattle.document_laws.specs.NetworkWritten.{net_front, net_name}
 use Rattle.document_laws.specs.WellFormed.{IsWellFormedSet}
 use Rattle.pol_json.specs.Texts.{is_dns_name}
-use Rattle.pol_k8s.specs.declared.raw.RawNetEntry.{RawNetEntry}
-use Rattle.pol_k8s.specs.declared.raw.RawNetPeer.{RawNetPeer}
-use Rattle.pol_k8s.specs.declared.raw.RawNetworkPolicy.{RawNetworkPolicy}
+use Rattle.pol_netpol.specs.declared.raw.RawNetEntry.{RawNetEntry}
+use Rattle.pol_netpol.specs.declared.raw.RawNetPeer.{RawNetPeer}
+use Rattle.pol_netpol.specs.declared.raw.RawNetworkPolicy.{RawNetworkPolicy}
 use Rattle.pol_rule.specs.declared.policy.PolicyKey.{PolicyKey}
 
 abbrev pub IsWellFormedPeer : RawNetPeer → Type 0

@@ -4,10 +4,10 @@ use Rattle.std.specs.Prelude.{ℕ, List, ◌∷◌, [], codes, drop, length, Som
 use Rattle.serde_json.specs.Data.{Data, string}
 use Rattle.document_laws.specs.Fields.{Fields, object_of, array_of, unless_empty}
 use Rattle.document_laws.specs.Written.{cidr_set_document, selector_document, texts_document, whole_document}
-use Rattle.pol_k8s.specs.declared.raw.RawNetEntry.{RawNetEntry}
-use Rattle.pol_k8s.specs.declared.raw.RawNetPeer.{RawNetPeer}
-use Rattle.pol_k8s.specs.declared.raw.RawNetPort.{RawNetPort}
-use Rattle.pol_k8s.specs.declared.raw.RawNetworkPolicy.{RawNetworkPolicy}
+use Rattle.pol_netpol.specs.declared.raw.RawNetEntry.{RawNetEntry}
+use Rattle.pol_netpol.specs.declared.raw.RawNetPeer.{RawNetPeer}
+use Rattle.pol_netpol.specs.declared.raw.RawNetPort.{RawNetPort}
+use Rattle.pol_netpol.specs.declared.raw.RawNetworkPolicy.{RawNetworkPolicy}
 use Rattle.pol_ports.specs.declared.Direction.{Direction}
 use Rattle.pol_ports.specs.declared.Direction.TheVariants.{Ingress, Egress}
 use Rattle.pol_rule.specs.declared.policy.PolicyKey.{PolicyKey}

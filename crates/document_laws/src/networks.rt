@@ -6,8 +6,8 @@ ghost use Rattle.serde_json.specs.Written.{compact_text};
 ghost use Rattle.document_laws.specs.NetworkKept.{IsKeptNetwork};
 ghost use Rattle.document_laws.specs.NetworkWellFormed.{IsWellFormedNetwork};
 ghost use Rattle.document_laws.specs.NetworkWritten.{network_document_of};
-ghost use Rattle.pol_k8s.specs.Document.{read_document};
-ghost use Rattle.pol_k8s.specs.declared.raw.RawNetworkPolicy.{RawNetworkPolicy};
+ghost use Rattle.pol_netpol.specs.Document.{read_document};
+ghost use Rattle.pol_netpol.specs.declared.raw.RawNetworkPolicy.{RawNetworkPolicy};
 
 /// A well-formed NetworkPolicy is read again from the document that writes it: no member, no item and no text of it is lost,
 /// and none is read as another.

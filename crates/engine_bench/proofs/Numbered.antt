@@ -7,9 +7,9 @@ use Rattle.std.specs.declared.cmp.Ordering.TheVariants.{Less}
 use Rattle.std.proofs.lemmas.Bool.{cases_lt, cond-true, lt-ltb}
 use Rattle.std.proofs.lemmas.Grind.{length_at_push}
 use Rattle.std.proofs.lemmas.List.{get_or_append_left, get_or_default, get_or_push}
-use Rattle.pol_l4.specs.declared.filter.Filter.{Filter}
-use Rattle.pol_l4.specs.declared.filter.Filters.{Filters}
-use Rattle.pol_delta.specs.Applies.{NamesFilters, PlacesDiffer, all_filters}
+use Rattle.pol_filters.specs.declared.filter.Filter.{Filter}
+use Rattle.pol_filters.specs.declared.filter.Filters.{Filters}
+use Rattle.pol_kept_map.specs.Applies.{NamesFilters, PlacesDiffer, all_filters}
 use Rattle.engine_bench.specs.Turns.{AllAt, AreNumbered, Extends, FilterAt, eleven, ten}
 
 pub no_elements : {X : Type 0} (P : ℕ → X → Type 0) → AllAt P []

@@ -2,7 +2,7 @@
 use Rattle.std.proofs.Common.{◌≡◌, ℕ, ◌==◌, ◌||◌, true, false, not, List, [], ◌∷◌, None, refl, sym, ap, ◌∙◌, inl, inr}
 use Rattle.std.proofs.lemmas.Bool.{both_ways, eq-eqb, ne_eqb}
 use Rattle.pol_addr.specs.declared.network.Prefix.{Prefix}
-use Rattle.pol_change_log.specs.Ids.{has}
+use Rattle.pol_set_changes.specs.Ids.{has}
 use Rattle.pol_model_laws.specs.Holding.{has_row}
 use Rattle.pol_model_laws.proofs.HoldingLaws.{held_adds, held_has}
 use Rattle.pol_model_laws.proofs.Parts.{free_row, part-prefixes_held}

@@ -13,13 +13,13 @@ use Rattle.pol_rule.specs.declared.policy.Peers.TheVariants.{Every, Listed}
 use Rattle.pol_sets.specs.declared.sets.Move.{Move}
 use Rattle.pol_sets.specs.declared.sets.SetRow.{SetRow}
 use Rattle.pol_sets.specs.Sets.{has_set, is_row_of, set_given}
-use Rattle.pol_change_log.specs.Ids.{without}
-use Rattle.pol_l4.specs.declared.filter.Filter.{Filter}
-use Rattle.pol_l4.specs.declared.filter.Filters.{Filters}
+use Rattle.pol_set_changes.specs.Ids.{without}
+use Rattle.pol_filters.specs.declared.filter.Filter.{Filter}
+use Rattle.pol_filters.specs.declared.filter.Filters.{Filters}
 use Rattle.pol_distill.specs.Sorted.{HaveSets, ListHasSets, PeersHaveSets}
-use Rattle.pol_delta.specs.Applies.{HasMove, MovesTell, NamesFilters, all_filters}
-use Rattle.pol_delta.specs.Work.{AllOfFilters, AllOfPeers, IsWorkOf, WorkOf}
-use Rattle.pol_delta.specs.declared.changes.Changes.{Changes}
+use Rattle.pol_kept_map.specs.Applies.{HasMove, MovesTell, NamesFilters, all_filters}
+use Rattle.pol_kept_map.specs.Work.{AllOfFilters, AllOfPeers, IsWorkOf, WorkOf}
+use Rattle.pol_kept_map.specs.declared.changes.Changes.{Changes}
 use Rattle.engine_bench.specs.Turns.{AllAt, IsAt, RowAt, Turns}
 
 both_of : (P Q R : Peer → Type 0) → ((p : Peer) → P p → Q p → R p) → (ps : List Peer) → AllByRecursion P ps → AllByRecursion Q ps → AllByRecursion R ps

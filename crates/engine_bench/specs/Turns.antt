@@ -5,11 +5,11 @@ use Rattle.std.specs.List.{slice_index_or}
 use Rattle.pol_sets.specs.declared.sets.Move.{Move}
 use Rattle.pol_sets.specs.declared.sets.SetRow.{SetRow}
 use Rattle.pol_sets.specs.Sets.{set_given}
-use Rattle.pol_change_log.specs.Ids.{without}
-use Rattle.pol_l4.specs.declared.filter.Filter.{Filter}
-use Rattle.pol_l4.specs.declared.filter.Filters.{Filters}
-use Rattle.pol_delta.specs.Work.{AllListed, WorkOf}
-use Rattle.pol_delta.specs.declared.changes.Changes.{Changes}
+use Rattle.pol_set_changes.specs.Ids.{without}
+use Rattle.pol_filters.specs.declared.filter.Filter.{Filter}
+use Rattle.pol_filters.specs.declared.filter.Filters.{Filters}
+use Rattle.pol_kept_map.specs.Work.{AllListed, WorkOf}
+use Rattle.pol_kept_map.specs.declared.changes.Changes.{Changes}
 
 -- what each peer selects without the identity that comes and goes, and with it
 abbrev pub ten : List ℕ

@@ -6,7 +6,7 @@ mod selectors;
 mod turns;
 
 ghost use Rattle.std.specs.Prelude.{◌≡◌};
-ghost use Rattle.pol_change_log.specs.Log.{newest};
+ghost use Rattle.pol_set_changes.specs.Log.{newest};
 ghost use Rattle.pol_selcache.specs.Live.{AreExact};
 
 use crate::cache::asked::{Ask, holder_for};

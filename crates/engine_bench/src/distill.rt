@@ -5,7 +5,7 @@ use crate::filter::{enforced, filter, peer, port};
 use anyhow::Result;
 use pol_data::Memory;
 use pol_distill::{MapTable, distill, have_sets};
-use pol_l4::{Filter, FilterList, Filters};
+use pol_filters::{Filter, FilterList, Filters};
 use pol_mapkey::Word;
 use pol_ports::{Direction, Proto};
 use pol_rule::PortSpecs;

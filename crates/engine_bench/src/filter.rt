@@ -4,7 +4,7 @@ ghost use Rattle.engine_bench.specs.Turns.{FilterAt};
 
 use pol_addr::{Addr, Prefix};
 use pol_data::{Memory, Text};
-use pol_l4::{Filter, FilterList, Filters};
+use pol_filters::{Filter, FilterList, Filters};
 use pol_ports::{PortRange, Proto};
 use pol_rule::{Peer, PeerList, Peers, Place, PolicyKey, PortSpec, PortSpecs, Prefixes, Section};
 use std::alloc::Global;

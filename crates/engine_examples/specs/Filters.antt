@@ -8,8 +8,8 @@ use Rattle.pol_rule.specs.declared.policy.Section.{Section}
 use Rattle.pol_model.specs.declared.row.Stamped.{Stamped}
 use Rattle.pol_model_laws.specs.Examples.{app, cidrs, key_of, net}
 use Rattle.pol_model_laws.specs.WorkedMaps.{app_is}
-use Rattle.pol_l4.specs.Resolved.{filters_in}
-use Rattle.pol_l4.specs.declared.filter.Filter.{Filter}
+use Rattle.pol_filters.specs.Resolved.{filters_in}
+use Rattle.pol_filters.specs.declared.filter.Filter.{Filter}
 
 abbrev covers_net : ℕ → Entry
 covers_net n = record { peers = Listed (cidrs (net n ∷ [])); ports = [] }

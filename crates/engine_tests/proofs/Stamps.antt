@@ -2,9 +2,9 @@
 use Rattle.std.proofs.Common.{◌≡◌, ◌≢◌, ℕ, zero, suc, ◌<◌, [], ◌∷◌, ◌++◌, sym, ◌∙◌, ap, subst, arith}
 use Rattle.std.specs.List.{AllByRecursion, AllPairs}
 use Rattle.pol_data.proofs.Every.{every-contained}
-use Rattle.pol_l4.specs.declared.filter.Filter.{Filter}
-use Rattle.pol_l4.specs.declared.filter.Filters.{Filters}
-use Rattle.pol_delta.specs.Applies.{NamesFilters, all_filters}
+use Rattle.pol_filters.specs.declared.filter.Filter.{Filter}
+use Rattle.pol_filters.specs.declared.filter.Filters.{Filters}
+use Rattle.pol_kept_map.specs.Applies.{NamesFilters, all_filters}
 use Rattle.engine_tests.specs.Works.{AreStamped, StandsThere}
 
 -- filters of different stamps have no stamp in common

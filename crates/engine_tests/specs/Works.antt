@@ -1,9 +1,9 @@
 -- Filters of one stamp at different places.
 use Rattle.std.specs.Prelude.{◌≡◌, ℕ}
 use Rattle.std.specs.List.{AllByRecursion}
-use Rattle.pol_l4.specs.declared.filter.Filter.{Filter}
-use Rattle.pol_l4.specs.declared.filter.Filters.{Filters}
-use Rattle.pol_delta.specs.Applies.{PlacesDiffer, all_filters}
+use Rattle.pol_filters.specs.declared.filter.Filter.{Filter}
+use Rattle.pol_filters.specs.declared.filter.Filters.{Filters}
+use Rattle.pol_kept_map.specs.Applies.{PlacesDiffer, all_filters}
 
 -- each filter has the stamp, and no two have one place
 pub record AreStamped (stamp : ℕ) (filters : Filters) : Type 0 where

@@ -1,9 +1,9 @@
 //! What a log of few changes tells, and one of 65,537.
 ghost use Rattle.std.specs.Prelude.{◌≡◌, IfOk};
-ghost use Rattle.pol_change_log.specs.Log.{newest};
+ghost use Rattle.pol_set_changes.specs.Log.{newest};
 
-use pol_change_log::{ChangeLog, SetChange};
 use pol_data::Memory;
+use pol_set_changes::{ChangeLog, SetChange};
 use pol_sets::IdSet;
 use std::alloc::Global;
 use std::test::Fail;

@@ -2,7 +2,7 @@
 
 use crate::policy::{no_labels, policy};
 use pol_data::Memory;
-use pol_l4::{Mode, resolve};
+use pol_filters::{Mode, resolve};
 use pol_rule::{Entity, Peer};
 use std::alloc::Global;
 use std::test::Fail;

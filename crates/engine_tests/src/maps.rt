@@ -3,7 +3,7 @@ ghost use Rattle.std.specs.Prelude.{◌≤◌};
 
 use pol_data::{Items, Memory, Text};
 use pol_distill::{MapTable, distill, have_sets};
-use pol_l4::{Filter, FilterList, Filters};
+use pol_filters::{Filter, FilterList, Filters};
 use pol_mapkey::{KeyProto, Kind, MapKey, Word};
 use pol_ports::{Direction, PortPrefix, PortRange, Proto};
 use pol_rule::{Entity, Peer, PeerList, Peers, Place, PolicyKey, PortSpec, PortSpecs, Section};

@@ -3,7 +3,7 @@ ghost use Rattle.std.specs.Prelude.{IfOk};
 ghost use Rattle.pol_model.specs.Sizes.{HasShortSections, IsShortPolicy};
 
 use pol_data::{Memory, Text};
-use pol_l4::Stamped;
+use pol_filters::Stamped;
 use pol_labels::{LabelSet, Selector};
 use pol_rule::{Entries, Entry, Peer, PeerList, Peers, Policy, PolicyKey, PortSpecs, Rule, Rules};
 use std::alloc::{AllocError, Global};

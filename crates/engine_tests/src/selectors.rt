@@ -1,6 +1,6 @@
 //! A selector's set as an identity comes and goes: what it gained, and since when, also after more changes than are kept.
 ghost use Rattle.std.specs.Prelude.{◌≡◌, ℕ, ◌+◌, ◌^◌, ◌<◌, ◌≤◌, ◌∷◌, [], List, None, true, false, IfSome, IsTrue};
-ghost use Rattle.pol_change_log.specs.Log.{newest};
+ghost use Rattle.pol_set_changes.specs.Log.{newest};
 ghost use Rattle.pol_model_laws.specs.Holding.{has_row};
 ghost use Rattle.pol_model.specs.Fault.{has_reserved};
 ghost use Rattle.pol_model.specs.Identities.{number_of_labels};

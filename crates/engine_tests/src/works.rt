@@ -3,9 +3,9 @@ ghost use Rattle.std.specs.Prelude.{◌≡◌, ◌<◌, ◌≤◌, ◌∷◌, []
 ghost use Rattle.engine_tests.specs.Works.{AreStamped, StandsThere};
 
 use pol_data::{Items, Memory, Text};
-use pol_delta::{Change, ChangeList, Changes, Givers, Work};
 use pol_distill::have_sets;
-use pol_l4::{Filter, FilterList, Filters};
+use pol_filters::{Filter, FilterList, Filters};
+use pol_kept_map::{Change, ChangeList, Changes, Givers, Work};
 use pol_mapkey::{KeyProto, Kind, MapKey};
 use pol_ports::{Direction, PortPrefix, PortRange, Proto};
 use pol_rule::{Entity, Peer, PeerList, Peers, Place, PolicyKey, PortSpec, PortSpecs, Section};

@@ -1,4 +1,4 @@
-//! Computed examples that hold the definitions of histories: what `pol_history`, `pol_placed`, `pol_phases` and `pol_sessions` say of
+//! Computed examples that hold the definitions of histories: what `pol_history`, `pol_run_laws`, `pol_phases` and `pol_sessions` say of
 //! small histories and scripts, and what they don't.
 //!
 //! Nothing stands on this crate. Each law is the contract of a function that does nothing.

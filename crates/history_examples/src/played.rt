@@ -3,10 +3,10 @@
 ghost use Rattle.std.specs.Prelude.{◌≡◌, ℕ, List, [], ◌∷◌};
 ghost use Rattle.pol_answer.specs.declared.answer.Answer.TheVariants as answer;
 ghost use Rattle.pol_history.specs.Legal.{IsLegal};
-ghost use Rattle.pol_placed.specs.Cut.{AreSeated, answers_to, script_of};
-ghost use Rattle.pol_placed.specs.Phases.{ArePlayedInPhases};
-ghost use Rattle.pol_placed.specs.Placed.{IsPlaced};
-ghost use Rattle.pol_placed.specs.Seats.{AreNewSeats, ArePhases};
+ghost use Rattle.pol_run_laws.specs.Cut.{AreSeated, answers_to, script_of};
+ghost use Rattle.pol_run_laws.specs.Phases.{ArePlayedInPhases};
+ghost use Rattle.pol_run_laws.specs.Placed.{IsPlaced};
+ghost use Rattle.pol_run_laws.specs.Seats.{AreNewSeats, ArePhases};
 ghost use Rattle.pol_run.specs.ExampleLines.{unlimited};
 ghost use Rattle.pol_run.specs.Spots.{Line};
 ghost use Rattle.pol_script.specs.declared.line_fault.LineFault.TheVariants.{Json, NoOp};

@@ -3,7 +3,7 @@
 
 use anyhow::Result;
 use pol_addr::{Addr, Prefix};
-use pol_lpm::PrefixTable;
+use pol_prefix_table::PrefixTable;
 use std::alloc::{AllocError, Global};
 use std::rt::Clock;
 use std::time::Instant;

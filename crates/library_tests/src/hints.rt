@@ -2,7 +2,7 @@
 //! the same time.
 ghost use Rattle.std.specs.Prelude.{◌≡◌, true, Some, None, IfOk};
 
-use pol_pool::{Calls, Gate, HintPass, HintRound, Hints, HintsFull, Job, Over, work};
+use pol_hints::{Calls, Gate, HintPass, HintRound, Hints, HintsFull, Job, Over, work};
 use std::alloc::{AllocError as Memory, Global};
 use std::sync::Wait;
 use std::sync::atomic::{AtomicBool, AtomicU32, Ordering};

@@ -1,6 +1,6 @@
 //! A small table and its copy.
 use pol_addr::{Addr, Prefix};
-use pol_lpm::PrefixTable;
+use pol_prefix_table::PrefixTable;
 use std::alloc::{AllocError, Global};
 use std::test::Fail;
 

@@ -1,5 +1,7 @@
 //! What no clause says: that memory is there, and that the two adapters read, write and flush as they are asked to.
-use pol_base::{IoSink, IoSource, MemSink, MemSource, Memory, ReadAllError, read_all, write_all};
+use pol_streams::{
+    IoSink, IoSource, MemSink, MemSource, Memory, ReadAllError, read_all, write_all,
+};
 use std::alloc::Global;
 use std::io::{self, Write};
 use std::test::Fail;

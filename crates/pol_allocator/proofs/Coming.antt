@@ -13,8 +13,8 @@ use Rattle.pol_model_laws.proofs.FoundRows.{found_with, labels_pass}
 use Rattle.pol_model_laws.proofs.HoldingLaws.{held_adds}
 use Rattle.pol_model_laws.proofs.Membership.{list_any-In}
 use Rattle.pol_model_laws.proofs.Parts.{free_row, part-labels_held}
-use Rattle.pol_change_log.specs.Ids.{has}
-use Rattle.pol_change_log.specs.Log.{newest}
+use Rattle.pol_set_changes.specs.Ids.{has}
+use Rattle.pol_set_changes.specs.Log.{newest}
 use Rattle.pol_selcache.specs.Cache.{Cache, MayPlan}
 use Rattle.pol_selcache.specs.Live.{AreExact}
 use Rattle.pol_selcache.proofs.Coming.{one_comes}

@@ -13,8 +13,8 @@ use Rattle.pol_model_laws.proofs.Membership.{find-In, found-some, list_any-In}
 use Rattle.pol_model_laws.proofs.Parts.{part-released}
 use Rattle.pol_model_laws.proofs.RowCounts.{number-count, number-goes}
 use Rattle.pol_model_laws.proofs.RowLaws.{keep_released}
-use Rattle.pol_change_log.specs.Ids.{has}
-use Rattle.pol_change_log.specs.Log.{newest}
+use Rattle.pol_set_changes.specs.Ids.{has}
+use Rattle.pol_set_changes.specs.Log.{newest}
 use Rattle.pol_selcache.specs.Cache.{Cache, MayPlan}
 use Rattle.pol_selcache.specs.Live.{Live, AreExact, rows_without}
 use Rattle.pol_selcache.proofs.Staying.{exact_as_gone}

@@ -14,8 +14,8 @@ use Rattle.pol_model_laws.specs.Holding.{has_row}
 use Rattle.pol_model_laws.specs.Keeps.{KeepsRows}
 use Rattle.pol_model_laws.proofs.RowLaws.{prefixes_undone}
 use Rattle.pol_model_laws.proofs.Parts.{part-prefixes_held, part-prefixes_released}
-use Rattle.pol_change_log.specs.Ids.{has}
-use Rattle.pol_change_log.specs.Log.{newest}
+use Rattle.pol_set_changes.specs.Ids.{has}
+use Rattle.pol_set_changes.specs.Log.{newest}
 use Rattle.pol_selcache.specs.Cache.{Cache, MayPlan}
 use Rattle.pol_selcache.specs.Live.{Live, AreExact, rows_without}
 use Rattle.pol_selcache.proofs.Staying.{exact_as_come, exact_as_gone}

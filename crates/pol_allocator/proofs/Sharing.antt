@@ -15,7 +15,7 @@ use Rattle.pol_model_laws.proofs.Ledger.{same_prefix-is}
 use Rattle.pol_model_laws.proofs.Membership.{In-list_any, list_any-In}
 use Rattle.pol_model_laws.proofs.Parts.{part-prefixes_held, part-prefixes_released}
 use Rattle.pol_model_laws.proofs.RowLaws.{keep_prefixes_released, keep_released}
-use Rattle.pol_lpm.specs.Table.{PrefixMap}
+use Rattle.pol_prefix_table.specs.Table.{PrefixMap}
 use Rattle.pol_prefixes.specs.Beyond.{AreBeyond}
 use Rattle.pol_prefixes.specs.Tables.{IsTableOf}
 use Rattle.pol_prefixes.proofs.Numbers.{if_there, number_has, number_in_part, number_of_held, number_of_released, some_is_none}

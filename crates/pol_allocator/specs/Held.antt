@@ -8,7 +8,7 @@ use Rattle.pol_addr.specs.declared.network.Prefix.{Prefix}
 use Rattle.pol_model.specs.Prefixes.{prefixes_held, prefixes_released}
 use Rattle.pol_model_laws.specs.Holding.{has_row}
 use Rattle.pol_model.specs.Identities.{labels_held, number_for, reserved_identities}
-use Rattle.pol_change_log.specs.Log.{empty_log, newest}
+use Rattle.pol_set_changes.specs.Log.{empty_log, newest}
 use Rattle.pol_selcache.specs.Cache.{Cache, IsPlanFor, with_room}
 use Rattle.pol_selcache.specs.Live.{AreExact}
 use Rattle.pol_selcache.specs.Plan.{Plan, changed}

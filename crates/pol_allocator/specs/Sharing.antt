@@ -6,7 +6,7 @@ use Rattle.pol_addr.specs.declared.network.Prefix.{Prefix}
 use Rattle.pol_addr.specs.Prefix.{same_prefix}
 use Rattle.pol_model.specs.declared.row.IdentityRow.{IdentityRow}
 use Rattle.pol_model.specs.Prefixes.{number_of_prefix}
-use Rattle.pol_lpm.specs.Table.{PrefixMap}
+use Rattle.pol_prefix_table.specs.Table.{PrefixMap}
 
 -- one of these
 abbrev pub is_of : List Prefix → Prefix → Bool

@@ -8,7 +8,7 @@ ghost use Rattle.pol_model.specs.Fault.{locals_held, locals_wanted};
 ghost use Rattle.pol_model.specs.Prefixes.{prefixes_held, prefixes_released};
 ghost use Rattle.pol_model_laws.specs.Holding.{has_row};
 ghost use Rattle.pol_model_laws.specs.Keeps.{KeepsRows};
-ghost use Rattle.pol_change_log.specs.Log.{newest};
+ghost use Rattle.pol_set_changes.specs.Log.{newest};
 ghost use Rattle.pol_selcache.specs.Live.{AreExact, rows_without};
 ghost use Rattle.pol_prefixes.specs.Beyond.{AreBeyond};
 ghost use Rattle.pol_allocator.specs.Held.{Prepares, with_log_room};

@@ -11,7 +11,7 @@ ghost use Rattle.pol_allocator.specs.Sharing.{IsRenewedAt, IsTableBut, IsWithout
 use pol_addr::Prefix;
 use pol_data::Memory;
 use pol_ident::Identities;
-use pol_lpm::PrefixTable;
+use pol_prefix_table::PrefixTable;
 use std::alloc::Global;
 use std::sync::Arc;
 

@@ -9,8 +9,8 @@ ghost use Rattle.pol_history.specs.Machine.{endpoint_id};
 ghost use Rattle.pol_board_view.specs.Changes.{IsMadeOf, Tells};
 
 use pol_board_view::FaceChange;
-use pol_change_list::ChangeList;
 use pol_data::Memory;
+use pol_map_changes::ChangeList;
 use pol_model::Request;
 use pol_taken::Taken;
 use std::alloc::Global;

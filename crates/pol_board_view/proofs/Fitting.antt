@@ -5,8 +5,8 @@ use Rattle.std.specs.FinMap as finite
 use Rattle.indexmap.specs.IndexMap.{IndexMap, get}
 use Rattle.std.proofs.lemmas.Bool.Decides.{nat_tests}
 use Rattle.pol_data.specs.contracts.text.TextPartialEq.TheImpl as text
-use Rattle.pol_change_list.specs.declared.change.Change.{Change as Edit}
-use Rattle.pol_change_list.specs.Changes.{IsAscending, changed, set_count}
+use Rattle.pol_map_changes.specs.declared.change.Change.{Change as Edit}
+use Rattle.pol_map_changes.specs.Changes.{IsAscending, changed, set_count}
 use Rattle.pol_mapkey.specs.Entries.{Entry as MapEntry}
 use Rattle.pol_model.specs.declared.options.Options.{Options}
 use Rattle.pol_model.specs.declared.request.Request.{Request}
@@ -29,7 +29,7 @@ use Rattle.pol_board_view.specs.declared.row.FaceMap.{FaceMap}
 use Rattle.pol_board_view.specs.Changes.{Tells, table_held}
 use Rattle.pol_board_view.specs.Room.{HaveRoom, IsLimited}
 use Rattle.pol_board_view.specs.Rows.{HasRoom, Holds, HoldsMap, HoldsRow, Leads, RowHasRoom, table_in}
-use Rattle.pol_change_list.proofs.Counting.{sets_fit}
+use Rattle.pol_map_changes.proofs.Counting.{sets_fit}
 use Rattle.pol_board_view.proofs.Holding.{no_entries}
 
 -- ---- the maps of a content

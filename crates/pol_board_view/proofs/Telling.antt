@@ -5,7 +5,7 @@ use mathlib.Core.List.{IsPrefix}
 use Rattle.indexmap.specs.IndexMap.{IndexMap, get}
 use Rattle.pol_data.specs.contracts.text.TextPartialEq.TheImpl as text
 use Rattle.pol_prefixes.specs.AddressTable.{AddressTable}
-use Rattle.pol_change_list.specs.declared.change.Change.{Change as Edit}
+use Rattle.pol_map_changes.specs.declared.change.Change.{Change as Edit}
 use Rattle.pol_mapkey.specs.Entries.{Entry as MapEntry}
 use Rattle.pol_model.specs.After.{state_of}
 use Rattle.pol_model.specs.declared.options.Options.{Options}

@@ -7,7 +7,7 @@ use Rattle.pol_model.specs.After.{state_of}
 use Rattle.pol_model.specs.declared.options.Options.{Options}
 use Rattle.pol_model.specs.declared.request.Request.{Request}
 use Rattle.pol_model.specs.declared.request.Request.TheVariants.{AddEndpoint, RemoveEndpoint}
-use Rattle.pol_change_list.specs.declared.change.Change.{Change as Edit}
+use Rattle.pol_map_changes.specs.declared.change.Change.{Change as Edit}
 use Rattle.pol_mapkey.specs.Entries.{Entry as MapEntry}
 use Rattle.pol_history.specs.declared.event.HistoryEvent.{HistoryEvent}
 use Rattle.pol_history.specs.declared.event.HistoryEvent.TheVariants as event

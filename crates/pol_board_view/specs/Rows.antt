@@ -6,8 +6,8 @@ use Rattle.indexmap.specs.IndexMap.{IndexMap, get}
 use Rattle.pol_addr.specs.declared.address.Addr.{Addr}
 use Rattle.pol_prefixes.specs.AddressTable.{AddressTable, number_in}
 use Rattle.pol_data.specs.contracts.text.TextPartialEq.TheImpl as text
-use Rattle.pol_change_list.specs.declared.change.Change.{Change}
-use Rattle.pol_change_list.specs.Changes.{IsAscending, changed, set_count}
+use Rattle.pol_map_changes.specs.declared.change.Change.{Change}
+use Rattle.pol_map_changes.specs.Changes.{IsAscending, changed, set_count}
 use Rattle.pol_mapkey.specs.Entries.{Entry as MapEntry}
 use Rattle.pol_model.specs.declared.request.Remote.{Remote}
 use Rattle.pol_model.specs.declared.request.Remote.TheVariants.{Identity, Address}

@@ -14,9 +14,9 @@ ghost use Rattle.pol_board_view.specs.Rows.{ChangesMap, HasRoom, Holds, HoldsRow
 ghost use Rattle.pol_board_view.specs.Room.{HaveRoom};
 
 use crate::row::{FaceRow, Rows, show_map};
-use pol_change_list::ChangeList;
 use pol_data::{Memory, Text};
 use pol_history::LastReport;
+use pol_map_changes::ChangeList;
 use pol_prefixes::Addresses;
 use std::alloc::Global;
 use std::sync::Arc;

@@ -10,9 +10,9 @@ ghost use Rattle.pol_board_view.specs.Rows.{ChangesMap, HasRoom, Holds, HoldsMap
 
 use crate::answer::{LookError, Verdict};
 use indexmap::IndexMap;
-use pol_change_list::ChangeList;
 use pol_data::{Memory, Steps, Text};
 use pol_history::LastReport;
+use pol_map_changes::ChangeList;
 use pol_model::{Query, Remote};
 use pol_prefixes::Addresses;
 use pol_trie::PolicyTrie;

@@ -26,10 +26,10 @@ use Rattle.pol_model.specs.Verdict.{is_never}
 use Rattle.pol_model_laws.proofs.PeerSets.{map_same}
 use Rattle.pol_sets.specs.declared.sets.SetRow.{SetRow}
 use Rattle.pol_sets.specs.Sets.{set_given}
-use Rattle.pol_l4.specs.declared.filter.Filter.{Filter}
-use Rattle.pol_l4.specs.FilterParts.{allowing, denying, entry_of, filter_parts}
-use Rattle.pol_l4.specs.Resolved.{denies, entry_filters, filter_at, filters_in, labels_enforced, policy_filters, rule_filters}
-use Rattle.pol_l4.proofs.EnforcedBy.{enforced_by_labels}
+use Rattle.pol_filters.specs.declared.filter.Filter.{Filter}
+use Rattle.pol_filters.specs.FilterParts.{allowing, denying, entry_of, filter_parts}
+use Rattle.pol_filters.specs.Resolved.{denies, entry_filters, filter_at, filters_in, labels_enforced, policy_filters, rule_filters}
+use Rattle.pol_filters.proofs.EnforcedBy.{enforced_by_labels}
 use Rattle.pol_distill.specs.Distilled.{HasSetsOf, distilled, filters_at}
 
 filter_append : {X : Type 0} (p : X → Bool) (xs ys : List X) → filter p (xs ++ ys) ≡ filter p xs ++ filter p ys

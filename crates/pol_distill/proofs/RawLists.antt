@@ -19,8 +19,8 @@ use Rattle.pol_rule.specs.declared.policy.Peer.{Peer}
 use Rattle.pol_rule.specs.declared.policy.Peers.TheVariants.{Every}
 use Rattle.pol_rule.specs.declared.policy.PortSpec.{PortSpec}
 use Rattle.pol_model.specs.PolicyMap.{entry_entries, ports_keys, protos_of, spec_keys}
-use Rattle.pol_l4.specs.declared.filter.Filter.{Filter}
-use Rattle.pol_l4.specs.FilterParts.{entry_of}
+use Rattle.pol_filters.specs.declared.filter.Filter.{Filter}
+use Rattle.pol_filters.specs.FilterParts.{entry_of}
 use Rattle.pol_distill.specs.RawKeys.{entries_for, with_id}
 
 -- a key with the fields of another is that key

@@ -9,9 +9,9 @@ use Rattle.pol_model.specs.State.{State}
 use Rattle.pol_model_laws.specs.MapFacts.{AgreeOnParts}
 use Rattle.pol_sets.specs.declared.sets.SetRow.{SetRow}
 use Rattle.pol_sets.specs.Sets.{set_given}
-use Rattle.pol_l4.specs.declared.filter.Filters.{Filters}
-use Rattle.pol_l4.specs.FilterParts.{filter_parts}
-use Rattle.pol_l4.specs.Resolved.{filters_for}
+use Rattle.pol_filters.specs.declared.filter.Filters.{Filters}
+use Rattle.pol_filters.specs.FilterParts.{filter_parts}
+use Rattle.pol_filters.specs.Resolved.{filters_for}
 
 -- the canonical map of the filters, where a peer selects what its row says
 abbrev pub distilled : Filters → List SetRow → List Entry

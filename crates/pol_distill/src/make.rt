@@ -9,7 +9,7 @@ use crate::index::PeerSets;
 use crate::sweep::canonical;
 use crate::table::MapTable;
 use pol_data::Memory;
-use pol_l4::{Filter, Filters};
+use pol_filters::{Filter, Filters};
 use pol_rule::{Peer, Peers};
 use pol_sets::{SetRow, Sets};
 use std::alloc::Global;

@@ -13,7 +13,7 @@ use Rattle.pol_mapkey.specs.declared.MapKey.{MapKey}
 use Rattle.pol_mapkey.proofs.Equality.{map_key_eq-Decides}
 use Rattle.pol_mapkey.proofs.KeyOrder.{key_cmp_total}
 use Rattle.pol_model_laws.proofs.Merged.{any_from, passing}
-use Rattle.pol_change_list.proofs.Said.{same_of}
+use Rattle.pol_map_changes.proofs.Said.{same_of}
 use Rattle.pol_entry_tally.specs.Affected.{Keeps, has_key}
 use Rattle.pol_mapkey.proofs.Order.{cmp-key_cmp}
 use Rattle.std.proofs.Common.{inl, inr}

@@ -15,9 +15,9 @@ use Rattle.pol_mapkey.specs.declared.Kind.TheVariants.{Allow, Deny}
 use Rattle.pol_mapkey.specs.declared.MapKey.{MapKey}
 use Rattle.pol_mapkey.proofs.Equality.{same_key-is, same_key-self}
 use Rattle.pol_mapkey.proofs.KeyOrder.{key_cmp_total}
-use Rattle.pol_change_list.specs.declared.change.Change.{Change}
-use Rattle.pol_change_list.specs.Changes.{IsAscending, IsDifference, difference_at, key_of, said}
-use Rattle.pol_change_list.proofs.Said.{same_of}
+use Rattle.pol_map_changes.specs.declared.change.Change.{Change}
+use Rattle.pol_map_changes.specs.Changes.{IsAscending, IsDifference, difference_at, key_of, said}
+use Rattle.pol_map_changes.proofs.Said.{same_of}
 use Rattle.pol_trie.specs.PolicyMap.{PolicyMap}
 use Rattle.pol_entry_tally.specs.Affected.{change_at, has_key}
 use Rattle.pol_entry_tally.proofs.Found.{itself}

@@ -14,7 +14,7 @@ use Rattle.pol_mapkey.specs.declared.Kind.{Kind}
 use Rattle.pol_mapkey.specs.declared.MapKey.{MapKey}
 use Rattle.pol_mapkey.proofs.KeyOrder.{key_cmp_total}
 use Rattle.pol_distill.specs.Sorted.{IsTable, entry_order}
-use Rattle.pol_change_list.proofs.Said.{same_of}
+use Rattle.pol_map_changes.proofs.Said.{same_of}
 
 abbrev pub kind_in : MapKey → List Entry → Option Kind
 kind_in q xs = finite.find key_cmp q xs

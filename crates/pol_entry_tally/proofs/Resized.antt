@@ -4,9 +4,9 @@ use Rattle.std.proofs.lemmas.List.Sums.{sum_by-append}
 use Rattle.pol_data.proofs.Counts.{count_by-cons}
 use Rattle.pol_mapkey.specs.declared.Kind.{Kind}
 use Rattle.pol_mapkey.specs.declared.MapKey.{MapKey}
-use Rattle.pol_change_list.specs.declared.change.Change.{Change}
-use Rattle.pol_change_list.specs.declared.change.Change.TheVariants.{Set, Clear}
-use Rattle.pol_change_list.specs.Changes.{difference_at, same_kind}
+use Rattle.pol_map_changes.specs.declared.change.Change.{Change}
+use Rattle.pol_map_changes.specs.declared.change.Change.TheVariants.{Set, Clear}
+use Rattle.pol_map_changes.specs.Changes.{difference_at, same_kind}
 use Rattle.pol_entry_tally.specs.Affected.{change_at}
 use Rattle.pol_entry_tally.specs.Sizes.{Resizes, clear_count, is_clear, is_new, new_count}
 use Rattle.pol_entry_tally.specs.Times.{Times, kind_of}

@@ -9,8 +9,8 @@ use Rattle.pol_mapkey.specs.declared.MapKey.{MapKey}
 use Rattle.pol_mapkey.proofs.KeyOrder.{key_cmp_total}
 use Rattle.pol_model.specs.PolicyMap.{canonical}
 use Rattle.pol_distill.specs.Sorted.{IsSmall}
-use Rattle.pol_change_list.specs.declared.change.Change.{Change}
-use Rattle.pol_change_list.specs.Changes.{IsAscending, IsDifference, table_of}
+use Rattle.pol_map_changes.specs.declared.change.Change.{Change}
+use Rattle.pol_map_changes.specs.Changes.{IsAscending, IsDifference, table_of}
 use Rattle.pol_entry_tally.specs.declared.cells.Cell.{Cell}
 use Rattle.pol_entry_tally.specs.declared.cells.Side.{Side}
 use Rattle.pol_entry_tally.specs.declared.cells.Side.TheVariants.{Before, After}

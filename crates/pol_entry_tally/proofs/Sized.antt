@@ -17,11 +17,11 @@ use Rattle.pol_mapkey.proofs.KeyOrder.{key_cmp_total}
 use Rattle.pol_model.specs.PolicyMap.{canonical}
 use Rattle.pol_distill.specs.Sorted.{IsSmall}
 use Rattle.pol_distill.proofs.OnePass.{canonical_is_table}
-use Rattle.pol_change_list.specs.declared.change.Change.{Change}
-use Rattle.pol_change_list.specs.declared.change.Change.TheVariants.{Set, Clear}
-use Rattle.pol_change_list.specs.Changes.{IsAscending, change_order, changed, changed_once, difference_at, key_of, kind_after, same_kind, table_of}
-use Rattle.pol_change_list.proofs.Differences.{differences_lead, tables_have_their_entries}
-use Rattle.pol_change_list.proofs.Said.{get_once, same_of}
+use Rattle.pol_map_changes.specs.declared.change.Change.{Change}
+use Rattle.pol_map_changes.specs.declared.change.Change.TheVariants.{Set, Clear}
+use Rattle.pol_map_changes.specs.Changes.{IsAscending, change_order, changed, changed_once, difference_at, key_of, kind_after, same_kind, table_of}
+use Rattle.pol_map_changes.proofs.Differences.{differences_lead, tables_have_their_entries}
+use Rattle.pol_map_changes.proofs.Said.{get_once, same_of}
 use Rattle.pol_trie.specs.PolicyMap.{PolicyMap}
 use Rattle.pol_entry_tally.specs.Affected.{ListsAffected, change_at}
 use Rattle.pol_entry_tally.specs.Counted.{CellsOf, times_on}

@@ -9,9 +9,9 @@ use Rattle.pol_mapkey.specs.MapKey.{covers, key_cmp, same_key}
 use Rattle.pol_mapkey.specs.declared.Kind.{Kind}
 use Rattle.pol_mapkey.specs.declared.Kind.TheVariants.{Deny}
 use Rattle.pol_mapkey.specs.declared.MapKey.{MapKey}
-use Rattle.pol_change_list.specs.declared.change.Change.{Change}
-use Rattle.pol_change_list.specs.declared.change.Change.TheVariants.{Set, Clear}
-use Rattle.pol_change_list.specs.Changes.{difference_at}
+use Rattle.pol_map_changes.specs.declared.change.Change.{Change}
+use Rattle.pol_map_changes.specs.declared.change.Change.TheVariants.{Set, Clear}
+use Rattle.pol_map_changes.specs.Changes.{difference_at}
 use Rattle.pol_entry_tally.specs.declared.cells.Cell.{Cell}
 use Rattle.pol_entry_tally.specs.declared.cells.Side.TheVariants.{Before, After}
 use Rattle.pol_entry_tally.specs.Counted.{CellsOf, times_on}

@@ -1,7 +1,7 @@
 -- How many keys a list of changes adds to a map, and how many it takes away.
 use Rattle.std.specs.Prelude.{◌≡◌, ℕ, ◌+◌, Bool, not, ◌&&◌, List, Option, count_by, is_some, if◌then◌else◌}
-use Rattle.pol_change_list.specs.declared.change.Change.{Change}
-use Rattle.pol_change_list.specs.Changes.{key_of, kind_after}
+use Rattle.pol_map_changes.specs.declared.change.Change.{Change}
+use Rattle.pol_map_changes.specs.Changes.{key_of, kind_after}
 use Rattle.pol_mapkey.specs.declared.Kind.{Kind}
 use Rattle.pol_entry_tally.specs.Times.{Times, kind_of}
 

@@ -6,7 +6,7 @@ ghost use Rattle.pol_mapkey.specs.declared.Kind.{Kind as OneKind};
 ghost use Rattle.pol_mapkey.specs.declared.MapKey.{MapKey as OneKey};
 ghost use Rattle.pol_model.specs.PolicyMap.{canonical};
 ghost use Rattle.pol_distill.specs.Sorted.{IsSmall};
-ghost use Rattle.pol_change_list.specs.Changes.{IsDifference, table_of};
+ghost use Rattle.pol_map_changes.specs.Changes.{IsDifference, table_of};
 ghost use Rattle.pol_entry_tally.specs.Affected.{ListsAffected};
 ghost use Rattle.pol_entry_tally.specs.Cells.{lowered, raised};
 ghost use Rattle.pol_entry_tally.specs.Counted.{IsAtRest, IsStillBefore, IsTallyOf, cells_of, settled_where, times_of, times_on};
@@ -20,8 +20,8 @@ use crate::differences::changes_at;
 use crate::lists::{lower_all, raise_all, settle_all};
 use crate::sizes::Changed;
 use crate::tally::Tally;
-use pol_change_list::ChangeList;
 use pol_data::Memory;
+use pol_map_changes::ChangeList;
 use pol_mapkey::{Kind, MapKey};
 use std::alloc::Global;
 

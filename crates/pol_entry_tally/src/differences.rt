@@ -1,6 +1,6 @@
 //! What differs between the maps before and after a change.
 ghost use Rattle.std.specs.Prelude.{◌≡◌, ◌+◌, ◌++◌, IfOk, OnOk};
-ghost use Rattle.pol_change_list.specs.Changes.{difference_at};
+ghost use Rattle.pol_map_changes.specs.Changes.{difference_at};
 ghost use Rattle.pol_entry_tally.specs.declared.cells.Side.TheVariants.{Before, After};
 ghost use Rattle.pol_entry_tally.specs.Affected.{change_at, changes_at};
 ghost use Rattle.pol_entry_tally.specs.Counted.{cells_of, times_on};
@@ -9,8 +9,8 @@ ghost use Rattle.pol_entry_tally.specs.Sizes.{clear_count, new_count};
 use crate::reading::kinds_at;
 use crate::sizes::resized;
 use crate::tally::Tally;
-use pol_change_list::Change;
 use pol_data::Memory;
+use pol_map_changes::Change;
 use pol_mapkey::{Kind, MapKey};
 use std::alloc::Global;
 

@@ -2,8 +2,8 @@
 ghost use Rattle.std.specs.Prelude.{IfOk};
 ghost use Rattle.pol_entry_tally.specs.Sizes.{Resizes};
 
-use pol_change_list::ChangeList;
 use pol_data::Memory;
+use pol_map_changes::ChangeList;
 use pol_mapkey::Kind;
 
 /// What a change makes of a map.

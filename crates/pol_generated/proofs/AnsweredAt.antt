@@ -19,7 +19,7 @@ use Rattle.pol_model.specs.declared.options.Options.{Options}
 use Rattle.pol_model.specs.declared.request.Query.{Query}
 use Rattle.pol_model.specs.declared.request.Request.{Request}
 use Rattle.pol_model.specs.declared.row.Endpoint.{Endpoint}
-use Rattle.pol_placed.specs.HistoryOfRun.{IsHistoryOf}
+use Rattle.pol_run_laws.specs.HistoryOfRun.{IsHistoryOf}
 use Rattle.pol_run.specs.ByIndex.{IsLine}
 use Rattle.pol_run.specs.History.{history_of}
 use Rattle.pol_run.specs.Run.{readings_of}

@@ -8,7 +8,7 @@ use Rattle.pol_history.specs.declared.event.EndpointId.{EndpointId}
 use Rattle.pol_history.specs.declared.event.HistoryEvent.{HistoryEvent}
 use Rattle.pol_model.specs.declared.options.Options.{Options}
 use Rattle.pol_model.specs.declared.request.Query.{Query}
-use Rattle.pol_placed.specs.HistoryOfRun.{HasPublished, IsHistoryOf}
+use Rattle.pol_run_laws.specs.HistoryOfRun.{HasPublished, IsHistoryOf}
 use Rattle.pol_run.specs.Run.{readings_of}
 use Rattle.pol_script.specs.declared.command.Command.TheVariants as command
 use Rattle.pol_generated.specs.Asked.{asked}

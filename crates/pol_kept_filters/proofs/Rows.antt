@@ -12,7 +12,7 @@ use Rattle.pol_labels.specs.Same.{same_labels}
 use Rattle.pol_labels.specs.SameLaws.{same_labels-Decides}
 use Rattle.pol_model.specs.declared.options.Mode.{Mode}
 use Rattle.pol_model.specs.declared.row.Stamped.{Stamped}
-use Rattle.pol_l4.specs.Resolved.{filters_for}
+use Rattle.pol_filters.specs.Resolved.{filters_for}
 use Rattle.pol_kept_filters.specs.declared.kept.Kept.{Kept}
 use Rattle.pol_kept_filters.specs.Kept.{AreKeptOf, IsFor, IsKeptOf}
 

@@ -18,7 +18,7 @@ use Rattle.pol_model.specs.Fault.{is_init}
 use Rattle.pol_model.specs.Policies.{applied, is_of_key, policy_at, removed}
 use Rattle.pol_model.specs.Verdict.{is_never}
 use Rattle.pol_model_laws.proofs.PolicyHolders.{same_key-Decides}
-use Rattle.pol_l4.specs.Resolved.{filters_for, filters_in, labels_enforced, policy_filters, policy_says, rule_filters}
+use Rattle.pol_filters.specs.Resolved.{filters_for, filters_in, labels_enforced, policy_filters, policy_says, rule_filters}
 use Rattle.pol_kept_filters.specs.declared.kept.Kept.{Kept}
 use Rattle.pol_kept_filters.specs.Kept.{AreKeptOf, IsKeptOf, KeysDiffer, selects, without_old, without_selected}
 

@@ -8,7 +8,7 @@ use Rattle.pol_rule.specs.Keys.{same_key}
 use Rattle.pol_rule.specs.declared.policy.Policy.{Policy}
 use Rattle.pol_model.specs.declared.options.Mode.{Mode}
 use Rattle.pol_model.specs.declared.row.Stamped.{Stamped}
-use Rattle.pol_l4.specs.Resolved.{filters_for}
+use Rattle.pol_filters.specs.Resolved.{filters_for}
 use Rattle.pol_selcache.specs.Cache.{Cache}
 use Rattle.pol_taken.specs.Known.{IsKnownIn, IsListingOf}
 use Rattle.pol_taken.specs.PeerRows.{filter_peers}

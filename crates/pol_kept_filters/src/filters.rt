@@ -5,7 +5,7 @@ ghost use Rattle.std.specs.List.{IsAmong};
 ghost use Rattle.std.specs.Option.{option_copied};
 ghost use Rattle.pol_model.specs.declared.options.Mode.{Mode as AnyMode};
 ghost use Rattle.pol_model.specs.declared.row.Stamped.{Stamped as OnePolicy};
-ghost use Rattle.pol_l4.specs.Resolved.{filters_for};
+ghost use Rattle.pol_filters.specs.Resolved.{filters_for};
 ghost use Rattle.pol_selcache.specs.Cache.{Cache as AnyCache};
 ghost use Rattle.pol_taken.specs.Known.{IsKnownIn, IsListingOf};
 ghost use Rattle.pol_taken.specs.PeerRows.{filter_peers};
@@ -14,7 +14,7 @@ ghost use Rattle.pol_kept_filters.specs.Kept.{AreKeptOf, AreListedIn, IsFor, IsL
 use crate::kept::Kept;
 use indexmap::IndexMap;
 use pol_data::Memory;
-use pol_l4::Filters;
+use pol_filters::Filters;
 use pol_labels::LabelSet;
 use pol_model::Stamped;
 use pol_rule::Policy;

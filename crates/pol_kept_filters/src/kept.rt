@@ -5,7 +5,7 @@ ghost use Rattle.std.specs.Bool.{beq};
 ghost use Rattle.pol_labels.specs.Same.{same_labels};
 
 use pol_data::Memory;
-use pol_l4::Filters;
+use pol_filters::Filters;
 use pol_labels::LabelSet;
 use pol_taken::KnownPeers;
 use std::alloc::Global;

@@ -5,7 +5,7 @@ ghost use Rattle.pol_rule.specs.declared.policy.PolicyKey.{PolicyKey};
 ghost use Rattle.pol_model.specs.declared.options.Mode.{Mode};
 ghost use Rattle.pol_model.specs.declared.row.Stamped.{Stamped};
 ghost use Rattle.pol_model.specs.Policies.{applied, policy_at, removed};
-ghost use Rattle.pol_l4.specs.Resolved.{filters_for};
+ghost use Rattle.pol_filters.specs.Resolved.{filters_for};
 ghost use Rattle.pol_kept_filters.specs.declared.kept.Kept.{Kept};
 ghost use Rattle.pol_kept_filters.specs.Kept.{AreKeptOf, KeysDiffer, selects, without_old, without_selected};
 

@@ -9,8 +9,8 @@ use Rattle.pol_model.specs.declared.row.Endpoint.{Endpoint}
 use Rattle.pol_model.specs.PolicyMap.{policy_map}
 use Rattle.pol_model.specs.State.{State}
 use Rattle.pol_model_laws.proofs.Membership.{find-In}
-use Rattle.pol_change_list.specs.Changes.{changed, table_of}
-use Rattle.pol_delta.specs.Work.{map_of}
+use Rattle.pol_map_changes.specs.Changes.{changed, table_of}
+use Rattle.pol_kept_map.specs.Work.{map_of}
 use Rattle.pol_history.specs.declared.event.HistoryEvent.{HistoryEvent}
 use Rattle.pol_history.specs.Commits.{commits_in, live_endpoint, revision_of, state_after, state_now}
 use Rattle.pol_history.specs.Machine.{endpoint_id}

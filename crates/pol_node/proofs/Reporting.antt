@@ -9,9 +9,9 @@ use mathlib.Core.List.{IsPrefix}
 use Rattle.pol_data.proofs.Members.{Contains-from_In}
 use Rattle.pol_mapkey.specs.Entries.{Entry as MapEntry}
 use Rattle.pol_trie.specs.PolicyMap.{PolicyMap}
-use Rattle.pol_change_list.specs.Changes.{changed, table_of}
-use Rattle.pol_change_list.specs.declared.change.Change.{Change}
-use Rattle.pol_change_list.proofs.Differences.{tables_have_their_entries}
+use Rattle.pol_map_changes.specs.Changes.{changed, table_of}
+use Rattle.pol_map_changes.specs.declared.change.Change.{Change}
+use Rattle.pol_map_changes.proofs.Differences.{tables_have_their_entries}
 use Rattle.pol_model.specs.PolicyMap.{map_parts, map_size, policy_map, raw_entries}
 use Rattle.pol_model.specs.Selects.{set_at}
 use Rattle.pol_model.specs.State.{State}

@@ -1,7 +1,7 @@
 -- What a slot does with what was taken at a history, and what it tells of how that was finished.
 use Rattle.std.specs.Prelude.{◌≡◌, ℕ, ◌≤◌, List, true, false, Option, None, option_map}
 use Rattle.std.specs.Arc.{arc_value}
-use Rattle.pol_moves.specs.Moves.{TellsMovesSince}
+use Rattle.pol_set_moves.specs.Moves.{TellsMovesSince}
 use Rattle.pol_distill.specs.Distilled.{distilled}
 use Rattle.pol_slot_map.specs.declared.follow.Followed.{Followed}
 use Rattle.pol_slot_map.specs.Followed.{id_in}

@@ -1,9 +1,9 @@
 //! What lies under the desk's lock.
 ghost use Rattle.std.specs.Prelude.{◌≡◌, ◌↔◌, ◌+◌, ◌<◌, ◌≤◌, ◌∷◌, [], IfErr, IfOk, IfSome, IsErrOf, IsTrue, MatchBool, None, OnErr, OnOk, Some, false, length, map, true};
 ghost use Rattle.std.specs.Arc.{arc_value};
-ghost use Rattle.pol_moves.specs.Moves.{TellsMovesSince};
+ghost use Rattle.pol_set_moves.specs.Moves.{TellsMovesSince};
 ghost use Rattle.pol_distill.specs.Distilled.{distilled};
-ghost use Rattle.pol_change_list.specs.Changes.{changed, table_of};
+ghost use Rattle.pol_map_changes.specs.Changes.{changed, table_of};
 ghost use Rattle.pol_slot_map.specs.Followed.{table_then};
 ghost use Rattle.pol_history.specs.Calls.{IsAccepted, IsTraced};
 ghost use Rattle.pol_history.specs.Commits.{Lives, commits_in, revision_of, state_now};
@@ -26,9 +26,9 @@ use crate::report::{Finished, TraceError, Traced};
 use left_right::Absorb;
 use pol_board::{BoardWriter, NodeName, Pass};
 use pol_board_view::{Face, FaceOp};
-use pol_change_list::ChangeList;
 use pol_data::{Memory, Steps};
 use pol_history::LastReport;
+use pol_map_changes::ChangeList;
 use pol_model::{CommitError, Committed, Query, Request};
 use pol_repo::{EndpointRow, Repo};
 use pol_taken::{TakeError, Taken};

@@ -2,7 +2,7 @@
 ghost use Rattle.std.specs.Prelude.{◌≡◌, ◌≤◌, [], IfOk, IfSome, IsErrOf, IsTrue, None, OnErr, OnOk, Some, length};
 ghost use Rattle.std.specs.Arc.{arc_value};
 ghost use mathlib.Core.List.{IsPrefix};
-ghost use Rattle.pol_change_list.specs.Changes.{changed, table_of};
+ghost use Rattle.pol_map_changes.specs.Changes.{changed, table_of};
 ghost use Rattle.pol_slot_map.specs.declared.follow.Followed.{Followed as OneFollowed};
 ghost use Rattle.pol_slot_map.specs.Followed.{Follows, id_in, table_then};
 ghost use Rattle.pol_history.specs.Commits.{revision_of, state_now};
@@ -16,9 +16,9 @@ ghost use Rattle.pol_node.specs.Slot.{IsMade, IsTakenAt, TellsAnyTurn, TellsMove
 use crate::desk::Desk;
 use crate::report::{Finished, Regen};
 use pol_board::{NodeName, Pass, Seen};
-use pol_change_list::ChangeList;
 use pol_data::Memory;
 use pol_history::SlotTurn;
+use pol_map_changes::ChangeList;
 use pol_model::FullSlot;
 use pol_slot_map::Followed;
 use pol_taken::{TakeError, Taken};

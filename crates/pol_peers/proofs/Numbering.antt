@@ -5,7 +5,7 @@ use Rattle.std.proofs.lemmas.List.Folds.{find-append}
 use Rattle.pol_rule.specs.declared.policy.Peer.{Peer}
 use Rattle.pol_model.specs.declared.row.IdentityRow.{IdentityRow}
 use Rattle.pol_model.specs.Selects.{set_at}
-use Rattle.pol_change_log.specs.Log.{Log}
+use Rattle.pol_set_changes.specs.Log.{Log}
 use Rattle.pol_selcache.specs.Cache.{Cache, added, added_by, with_room}
 use Rattle.pol_selcache.specs.Live.{AreLive, Live, number_of, one_more}
 use Rattle.pol_peers.specs.Numbering.{GainsSelectors, LosesSelectors, TakesFreshNumbers}

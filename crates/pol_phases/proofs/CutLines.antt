@@ -5,8 +5,8 @@ use Rattle.std.proofs.lemmas.List.{length-replicate, map-append}
 use Rattle.pol_script.specs.declared.command.Command.{Command}
 use Rattle.pol_script.specs.declared.line_fault.LineFault.{LineFault}
 use Rattle.pol_run.specs.Spots.{Reading, session_of}
-use Rattle.pol_placed.specs.Cut.{change_at, change_last, change_session, command_behind, list_at, script_of, session_at, with_command}
-use Rattle.pol_placed.proofs.OneMore.{fault_more, line_more}
+use Rattle.pol_run_laws.specs.Cut.{change_at, change_last, change_session, command_behind, list_at, script_of, session_at, with_command}
+use Rattle.pol_run_laws.proofs.OneMore.{fault_more, line_more}
 use Rattle.pol_phases.specs.declared.mark.Mark.{Mark}
 use Rattle.pol_phases.specs.declared.mark.Mark.TheVariants as mark
 use Rattle.pol_phases.specs.Marks.{IsCut, mark_for, mark_of}

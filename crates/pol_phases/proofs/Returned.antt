@@ -4,7 +4,7 @@ use Rattle.pol_answer.specs.declared.answer.Answer.{Answer}
 use Rattle.pol_answer.specs.declared.answer.Answer.TheVariants as answer
 use Rattle.pol_script.specs.declared.command.Command.TheVariants as command
 use Rattle.pol_run.specs.Spots.{Reading}
-use Rattle.pol_placed.specs.Cut.{answer_in, answers_from, answers_to, change_session, first_phase, told_after}
+use Rattle.pol_run_laws.specs.Cut.{answer_in, answers_from, answers_to, change_session, first_phase, told_after}
 use Rattle.pol_phases.specs.declared.mark.Mark.{Mark}
 use Rattle.pol_phases.specs.declared.mark.Mark.TheVariants as mark
 use Rattle.pol_phases.specs.Marks.{IsLeft, answer_by, answers_by, mark_of, number_by, told_by}

@@ -4,7 +4,7 @@ use Rattle.std.specs.List.{AllByRecursion}
 use Rattle.std.proofs.lemmas.List.{map-append}
 use Rattle.pol_script.specs.declared.command.Command.{Command}
 use Rattle.pol_run.specs.Spots.{Reading, session_of}
-use Rattle.pol_placed.specs.Cut.{change_at, change_session, first_phase, list_at, script_of, with_command}
+use Rattle.pol_run_laws.specs.Cut.{change_at, change_session, first_phase, list_at, script_of, with_command}
 use Rattle.pol_phases.specs.declared.cut_script.CutScript.{CutScript}
 use Rattle.pol_phases.specs.Cuts.{IsCutOf}
 use Rattle.pol_phases.specs.Marks.{beside, joined, mark_of}

@@ -1,7 +1,7 @@
 -- A script that was cut.
 use Rattle.std.specs.Prelude.{◌≡◌, ℕ, List, map}
 use Rattle.pol_run.specs.Spots.{Reading}
-use Rattle.pol_placed.specs.Cut.{script_of}
+use Rattle.pol_run_laws.specs.Cut.{script_of}
 use Rattle.pol_phases.specs.declared.cut_script.CutScript.{CutScript}
 use Rattle.pol_phases.specs.Marks.{mark_of}
 

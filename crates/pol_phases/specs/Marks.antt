@@ -4,7 +4,7 @@ use Rattle.pol_answer.specs.declared.answer.Answer.{Answer}
 use Rattle.pol_answer.specs.declared.answer.Answer.TheVariants as answer
 use Rattle.pol_script.specs.declared.command.Command.{Command}
 use Rattle.pol_run.specs.Spots.{Reading, session_of}
-use Rattle.pol_placed.specs.Cut.{answer_in, first_phase, list_at, script_of, told_after}
+use Rattle.pol_run_laws.specs.Cut.{answer_in, first_phase, list_at, script_of, told_after}
 use Rattle.pol_phases.specs.declared.mark.Mark.{Mark}
 use Rattle.pol_phases.specs.declared.mark.Mark.TheVariants as mark
 

@@ -1,6 +1,6 @@
 //! The answers of the sessions are put back in the order of the lines.
 ghost use Rattle.std.specs.Prelude.{◌≡◌, ◌<◌, ◌-◌, ◌^◌, ◌++◌, ◌∷◌, [], List, drop, map, IfOk, OnOk};
-ghost use Rattle.pol_placed.specs.Cut.{answers_to, change_session, first_answer, first_phase, session_at};
+ghost use Rattle.pol_run_laws.specs.Cut.{answers_to, change_session, first_answer, first_phase, session_at};
 ghost use Rattle.pol_run.specs.Spots.{Reading as OneReading};
 ghost use Rattle.pol_phases.specs.Marks.{IsLeft, answer_by, mark_of, number_by, told_by};
 

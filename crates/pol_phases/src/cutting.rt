@@ -1,6 +1,6 @@
 //! A script is cut into phases.
 ghost use Rattle.std.specs.Prelude.{◌≡◌, ◌++◌, ◌∷◌, [], List, replicate, IfOk, OnOk};
-ghost use Rattle.pol_placed.specs.Cut.{change_session};
+ghost use Rattle.pol_run_laws.specs.Cut.{change_session};
 ghost use Rattle.pol_run.specs.Spots.{Reading as OneReading};
 ghost use Rattle.pol_phases.specs.Cuts.{IsCutOf};
 ghost use Rattle.pol_phases.specs.Marks.{IsCut, IsOfSession};

@@ -1,6 +1,6 @@
 //! The phases of two parts of a script become one list.
 ghost use Rattle.std.specs.Prelude.{◌≡◌, ◌++◌, drop, IfOk, OnOk};
-ghost use Rattle.pol_placed.specs.Cut.{first_phase, list_at};
+ghost use Rattle.pol_run_laws.specs.Cut.{first_phase, list_at};
 ghost use Rattle.pol_phases.specs.Marks.{beside, joined};
 
 use crate::commands::Commands;

@@ -3,7 +3,7 @@
 //!
 //! `cut` hands out the commands of each session in each phase, and keeps of each line what its answer needs (`Mark`).
 //! Whoever plays the phases gives `put_back` the answers of each session in each phase. Both go by the definitions of
-//! `pol_placed` (`specs/Cut`), and take time linear in the script.
+//! `pol_run_laws` (`specs/Cut`), and take time linear in the script.
 #![tactic(auto)]
 
 mod answers;

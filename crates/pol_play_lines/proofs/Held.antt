@@ -6,14 +6,14 @@ use Rattle.pol_answer.specs.declared.answer.Answer.{Answer}
 use Rattle.pol_script.specs.declared.command.Command.{Command}
 use Rattle.pol_history.specs.declared.event.HistoryEvent.{HistoryEvent}
 use Rattle.pol_history.specs.Legal.{IsLegal}
-use Rattle.pol_placed.specs.Cut.{AreSeated, answers_to, script_of}
-use Rattle.pol_placed.specs.HistoryOfRun.{IsHistoryOf}
-use Rattle.pol_placed.specs.Seats.{ArePhases}
-use Rattle.pol_placed.proofs.Held.{histories_hold}
-use Rattle.pol_placed.proofs.Law.{placed_lines}
-use Rattle.pol_placed.proofs.Phased.{are_placed}
-use Rattle.pol_placed.proofs.PutBack.{one_each}
-use Rattle.pol_placed.proofs.SeatedLines.{phases_played}
+use Rattle.pol_run_laws.specs.Cut.{AreSeated, answers_to, script_of}
+use Rattle.pol_run_laws.specs.HistoryOfRun.{IsHistoryOf}
+use Rattle.pol_run_laws.specs.Seats.{ArePhases}
+use Rattle.pol_run_laws.proofs.Held.{histories_hold}
+use Rattle.pol_run_laws.proofs.Law.{placed_lines}
+use Rattle.pol_run_laws.proofs.Phased.{are_placed}
+use Rattle.pol_run_laws.proofs.PutBack.{one_each}
+use Rattle.pol_run_laws.proofs.SeatedLines.{phases_played}
 use Rattle.pol_run.specs.Run.{IsRun}
 use Rattle.pol_run.specs.Spots.{Reading, spots_of}
 use Rattle.pol_phases.specs.declared.mark.Mark.{Mark}

@@ -2,18 +2,18 @@
 ghost use Rattle.std.specs.Prelude.{◌≡◌, ◌≤◌, length, IfOk, IsSomeAnd};
 ghost use Rattle.std.specs.List.{zip};
 ghost use Rattle.pol_history.specs.Legal.{IsLegal};
-ghost use Rattle.pol_placed.specs.HistoryOfRun.{IsHistoryOf};
+ghost use Rattle.pol_run_laws.specs.HistoryOfRun.{IsHistoryOf};
 ghost use Rattle.pol_run.specs.Run.{IsRun, readings_of};
 ghost use Rattle.pol_run.specs.Spots.{spots_of};
 
 use pol_answer::Answer;
 use pol_data::Memory;
+use pol_hints::Gate;
 use pol_history_log::SeenHistory;
 use pol_model::Options;
 use pol_parallel_lines::cut_lines;
 use pol_phases::put_back;
-use pol_placed::phases::lines_are_seated;
-use pol_pool::Gate;
+use pol_run_laws::phases::lines_are_seated;
 use pol_sessions::{Config, play_script};
 use std::alloc::Global;
 use std::sync::Wait;

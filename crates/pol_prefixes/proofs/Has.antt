@@ -2,7 +2,7 @@
 use Rattle.std.proofs.Common.{◌≡◌, ℕ, ◌==◌, ◌||◌, Bool, true, false, List, [], ◌∷◌, Option, None, Some, refl, ap, ◌∙◌}
 use Rattle.std.specs.List.{cons_option, filter_map, list_any}
 use Rattle.std.proofs.lemmas.Bool.{eqb-true, eq-eqb}
-use Rattle.pol_change_log.specs.Ids.{has}
+use Rattle.pol_set_changes.specs.Ids.{has}
 
 -- whether it is this number
 abbrev pub is_some_of : ℕ → Option ℕ → Bool

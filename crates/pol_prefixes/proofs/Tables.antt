@@ -19,8 +19,8 @@ use Rattle.pol_model_laws.specs.Keeps.{KeepsRows}
 use Rattle.pol_model_laws.proofs.Ledger.{same_prefix-is}
 use Rattle.pol_model_laws.proofs.PrefixHolders.{same_prefix-itself, same_tests}
 use Rattle.pol_ident.specs.Look.{number_for_prefix}
-use Rattle.pol_lpm.specs.Table.{PrefixMap, look_up}
-use Rattle.pol_lpm.proofs.Scan.{look_up-from_entries}
+use Rattle.pol_prefix_table.specs.Table.{PrefixMap, look_up}
+use Rattle.pol_prefix_table.proofs.Scan.{look_up-from_entries}
 use Rattle.pol_prefixes.specs.Tables.{IsTableOf}
 use Rattle.pol_prefixes.proofs.Numbers.{if_there, number_of_held, number_of_released}
 

@@ -8,7 +8,7 @@ use Rattle.pol_addr.specs.contracts.address.AddrPartialEq.TheImpl as addr
 use Rattle.pol_model.specs.declared.row.Endpoint.{Endpoint}
 use Rattle.pol_model.specs.Remote.{endpoint_at}
 use Rattle.pol_model.specs.Worlds.{world_of}
-use Rattle.pol_lpm.specs.Table.{PrefixMap, look_up, table_code}
+use Rattle.pol_prefix_table.specs.Table.{PrefixMap, look_up, table_code}
 
 -- the addresses of endpoints with their identities, and the numbers of prefixes
 pub record AddressTable : Type 0 where

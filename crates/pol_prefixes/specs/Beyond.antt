@@ -1,6 +1,6 @@
 -- Numbers that come with some rows, or go with them.
 use Rattle.std.specs.Prelude.{ℕ, ◌≡◌, ◌&&◌, not, List}
-use Rattle.pol_change_log.specs.Ids.{has}
+use Rattle.pol_set_changes.specs.Ids.{has}
 use Rattle.pol_model.specs.declared.row.IdentityRow.{IdentityRow}
 use Rattle.pol_model_laws.specs.Holding.{has_row}
 

@@ -14,8 +14,8 @@ use crate::release::release_prefixes;
 use pol_addr::Prefix;
 use pol_data::Memory;
 use pol_ident::{IdentError, Identities};
-use pol_lpm::PrefixTable;
 use pol_model::LOCAL_IDENTITIES;
+use pol_prefix_table::PrefixTable;
 use std::alloc::{AllocError, Global};
 
 /// Holds the prefix once more, and gives its number where that is new.

@@ -10,7 +10,7 @@ ghost use Rattle.pol_model.specs.declared.row.IdentityRow.{IdentityRow as OneRow
 ghost use Rattle.pol_model.specs.Identities.{is_local, labels_held, released};
 ghost use Rattle.pol_model.specs.Remote.{longest_at};
 ghost use Rattle.pol_model_laws.specs.Keeps.{KeepsRows};
-ghost use Rattle.pol_lpm.specs.Table.{PrefixMap, look_up};
+ghost use Rattle.pol_prefix_table.specs.Table.{PrefixMap, look_up};
 ghost use Rattle.pol_prefixes.specs.Tables.{IsTableOf};
 
 /// An address finds in the table of the rows what a scan of the rows finds: the number of the longest held prefix that

@@ -6,7 +6,7 @@ ghost use Rattle.pol_prefixes.specs.Tables.{IsTableOf};
 
 use pol_addr::Prefix;
 use pol_ident::Identities;
-use pol_lpm::PrefixTable;
+use pol_prefix_table::PrefixTable;
 
 /// Takes one holder away from the prefix. With its last one the prefix leaves the table.
 fn release_prefix(identities: &mut Identities, table: &mut PrefixTable, prefix: Prefix)

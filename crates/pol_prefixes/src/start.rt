@@ -5,8 +5,8 @@ ghost use Rattle.pol_prefixes.specs.Tables.{IsTableOf};
 
 use pol_addr::Prefix;
 use pol_data::Memory;
-use pol_lpm::PrefixTable;
 use pol_model::WORLD_IDENTITY;
+use pol_prefix_table::PrefixTable;
 use std::alloc::Global;
 
 /// The table of the reserved identities: the world's prefix, 0.0.0.0/0, has the number 2 (Cilium, Terminology, "Special

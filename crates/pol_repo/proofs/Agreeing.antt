@@ -28,7 +28,7 @@ use Rattle.pol_model.specs.declared.row.Stamped.{Stamped}
 use Rattle.pol_data.proofs.Members.{In}
 use Rattle.pol_model_laws.proofs.Ledger.{same_prefix-is}
 use Rattle.pol_model_laws.proofs.Membership.{filter-In}
-use Rattle.pol_moves.proofs.InRules.{In-flat_map, in_rule}
+use Rattle.pol_set_moves.proofs.InRules.{In-flat_map, in_rule}
 
 -- ---- lists
 

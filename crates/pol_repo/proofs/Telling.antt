@@ -16,10 +16,10 @@ use Rattle.pol_requests.specs.declared.prepared.Prepared.{Prepared}
 use Rattle.pol_requests.specs.declared.error.PrepareError.{PrepareError}
 use Rattle.pol_requests.specs.Prepared.{IsPrepared, PreparesOrNot, TakesBack}
 use Rattle.pol_store.specs.Store.{StandsFor, Stored}
-use Rattle.pol_moves.specs.Chained.{IsChained, IsChainedBefore}
-use Rattle.pol_moves.specs.Moves.{TellsMovesSince, moves_by}
-use Rattle.pol_moves.proofs.MoveLaws.{moves_told_since}
-use Rattle.pol_moves.proofs.Chains.{chain_goes_on, chain_stays, gains_undone}
+use Rattle.pol_set_moves.specs.Chained.{IsChained, IsChainedBefore}
+use Rattle.pol_set_moves.specs.Moves.{TellsMovesSince, moves_by}
+use Rattle.pol_set_moves.proofs.MoveLaws.{moves_told_since}
+use Rattle.pol_set_moves.proofs.Chains.{chain_goes_on, chain_stays, gains_undone}
 use Rattle.pol_repo.specs.Inside.{IsSound, IsTold, seen_as}
 use Rattle.pol_repo.specs.Repository.{Repository, state_in}
 use Rattle.pol_repo.proofs.Standing.{counts, keeps_now, none_prepared, prepared_now, revision_is, stands_now}

@@ -15,7 +15,7 @@ use Rattle.pol_requests.specs.declared.prepared.TableChange.TheVariants as chang
 use Rattle.pol_requests.specs.declared.prepared.Prepared.{Prepared}
 use Rattle.pol_requests.specs.Prepared.{IsPrepared}
 use Rattle.pol_store.specs.Store.{StandsFor, Stored}
-use Rattle.pol_moves.specs.Chained.{IsChained, IsChainedBefore}
+use Rattle.pol_set_moves.specs.Chained.{IsChained, IsChainedBefore}
 use Rattle.pol_repo.specs.Repository.{Repository}
 
 -- the labels of the number's row, none where it has none

@@ -2,10 +2,10 @@
 ghost use Rattle.std.specs.Prelude.{◌≡◌, ◌<◌, true, IfOk, IfSome, length};
 ghost use Rattle.std.specs.List.{AllByRecursion};
 ghost use Rattle.pol_selcache.specs.Live.{is_live};
-ghost use Rattle.pol_moves.specs.Moves.{moves_by};
+ghost use Rattle.pol_set_moves.specs.Moves.{moves_by};
 
 use pol_data::Memory;
-use pol_moves::moves_since;
+use pol_set_moves::moves_since;
 use pol_sets::{Moves, Sets};
 use pol_store::Store;
 use std::alloc::Global;

@@ -5,7 +5,7 @@ ghost use Rattle.pol_model.specs.PolicyMap.{policy_map};
 ghost use Rattle.pol_distill.specs.Distilled.{distilled};
 ghost use Rattle.pol_tables.specs.Tables.{endpoint_in};
 ghost use Rattle.pol_taken.specs.OfState.{IsTakenOf};
-ghost use Rattle.pol_moves.specs.Moves.{TellsMovesSince};
+ghost use Rattle.pol_set_moves.specs.Moves.{TellsMovesSince};
 ghost use Rattle.pol_repo.specs.Repository.{state_in};
 
 use crate::moves::moves_in;

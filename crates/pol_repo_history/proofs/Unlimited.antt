@@ -5,8 +5,8 @@ use Rattle.pol_sets.specs.declared.sets.SetRow.{SetRow}
 use Rattle.pol_model.specs.State.{State}
 use Rattle.pol_model.specs.declared.options.Options.{Options}
 use Rattle.pol_model.specs.declared.request.Request.{Request}
-use Rattle.pol_moves.specs.Moves.{TellsMovesSince}
-use Rattle.pol_moves.proofs.Unlimited.{moves_under, taken_under}
+use Rattle.pol_set_moves.specs.Moves.{TellsMovesSince}
+use Rattle.pol_set_moves.proofs.Unlimited.{moves_under, taken_under}
 use Rattle.pol_history.specs.declared.event.HistoryEvent.{HistoryEvent}
 use Rattle.pol_history.specs.Commits.{commits_in, state_now}
 use Rattle.pol_repo.specs.Repository.{Repository, state_in}

@@ -11,7 +11,7 @@ ghost use Rattle.pol_history.specs.declared.event.HistoryEvent.TheVariants as ev
 ghost use Rattle.pol_history.specs.Commits.{commits_in, revision_of, state_now};
 ghost use Rattle.pol_taken.specs.OfState.{IsTakenOf};
 ghost use Rattle.pol_taken.specs.declared.taken.Taken.{Taken};
-ghost use Rattle.pol_moves.specs.Moves.{TellsMovesSince};
+ghost use Rattle.pol_set_moves.specs.Moves.{TellsMovesSince};
 ghost use Rattle.pol_repo.specs.Repository.{Repository, state_in};
 ghost use Rattle.pol_repo_history.specs.AtHistory.{IsAt};
 

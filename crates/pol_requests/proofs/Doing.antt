@@ -17,7 +17,7 @@ use Rattle.pol_model_laws.specs.Holding.{has_row}
 use Rattle.pol_model_laws.specs.Keeps.{IsLiveIn, Keeps}
 use Rattle.pol_model_laws.proofs.Keyed.{placed-here}
 use Rattle.pol_model_laws.proofs.StateLaws.{keeps-after}
-use Rattle.pol_change_log.specs.Log.{newest}
+use Rattle.pol_set_changes.specs.Log.{newest}
 use Rattle.pol_selcache.specs.Cache.{Cache}
 use Rattle.pol_selcache.specs.Live.{AreExact}
 use Rattle.pol_tables.specs.Tables.{number_named}

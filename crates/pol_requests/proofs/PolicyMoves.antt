@@ -17,7 +17,7 @@ use Rattle.pol_model.specs.Sizes.{IsShortPolicy}
 use Rattle.pol_model_laws.specs.Keeps.{Keeps}
 use Rattle.pol_model_laws.proofs.NoFault.{apply, remove}
 use Rattle.pol_model_laws.proofs.RowLaws.{prefixes_undone}
-use Rattle.pol_change_log.specs.Log.{newest}
+use Rattle.pol_set_changes.specs.Log.{newest}
 use Rattle.pol_selcache.specs.Cache.{Cache}
 use Rattle.pol_selcache.specs.Live.{AreExact, Live}
 use Rattle.pol_tables.specs.Tables.{number_named}

@@ -28,7 +28,7 @@ use Rattle.pol_model_laws.proofs.Membership.{find-In}
 use Rattle.pol_model_laws.proofs.PolicyHolders.{policy_differ}
 use Rattle.pol_ident.specs.declared.error.IdentError.{IdentError}
 use Rattle.pol_ident.specs.declared.error.IdentError.TheVariants as ident
-use Rattle.pol_change_log.specs.Log.{newest}
+use Rattle.pol_set_changes.specs.Log.{newest}
 use Rattle.pol_selcache.specs.Cache.{Cache, with_room}
 use Rattle.pol_selcache.specs.Live.{AreExact}
 use Rattle.pol_selcache.specs.Plan.{Plan}

@@ -12,7 +12,7 @@ use Rattle.pol_model.specs.Fault.{fault_of}
 use Rattle.pol_model.specs.Sizes.{IsShort}
 use Rattle.pol_model_laws.specs.Holding.{rows_taken}
 use Rattle.pol_model_laws.specs.Valid.{IsValid}
-use Rattle.pol_change_log.specs.Log.{newest}
+use Rattle.pol_set_changes.specs.Log.{newest}
 use Rattle.pol_selcache.specs.Live.{AreExact}
 use Rattle.pol_tables.specs.Tables.{number_named}
 use Rattle.pol_allocator.specs.Held.{Prepares}

@@ -1,7 +1,7 @@
 -- What becomes of the selectors in the steps of a policy's request.
 use Rattle.std.proofs.Common.{◌≡◌, List, ap, sym, subst}
 use Rattle.pol_rule.specs.declared.policy.Peer.{Peer}
-use Rattle.pol_change_log.specs.Log.{Log}
+use Rattle.pol_set_changes.specs.Log.{Log}
 use Rattle.pol_selcache.specs.Cache.{Cache, with_room}
 use Rattle.pol_selcache.specs.Live.{AreLive}
 use Rattle.pol_peers.specs.Numbering.{GainsSelectors, LosesSelectors, TakesFreshNumbers}

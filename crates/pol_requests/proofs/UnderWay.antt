@@ -15,7 +15,7 @@ use Rattle.pol_model_laws.specs.Holding.{has_row}
 use Rattle.pol_model_laws.specs.Keeps.{Keeps}
 use Rattle.pol_model_laws.proofs.HoldingLaws.{held_has}
 use Rattle.pol_model_laws.proofs.RowLaws.{labels_undone}
-use Rattle.pol_change_log.specs.Log.{newest}
+use Rattle.pol_set_changes.specs.Log.{newest}
 use Rattle.pol_selcache.specs.Cache.{Cache}
 use Rattle.pol_selcache.specs.Live.{AreExact, Live}
 use Rattle.pol_selcache.specs.Plan.{Planned, after_changes, changed}

@@ -14,7 +14,7 @@ use Rattle.pol_model.specs.Policies.{policy_at, prefixes_of}
 use Rattle.pol_model_laws.specs.Holding.{rows_taken}
 use Rattle.pol_model_laws.specs.Keeps.{Keeps}
 use Rattle.pol_model_laws.specs.WithoutFaults.{MayCommit}
-use Rattle.pol_change_log.specs.Log.{newest}
+use Rattle.pol_set_changes.specs.Log.{newest}
 use Rattle.pol_selcache.specs.Live.{AreExact}
 use Rattle.pol_allocator.specs.Held.{Prepares}
 use Rattle.pol_peers.specs.References.{RefsOf}

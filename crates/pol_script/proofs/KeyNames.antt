@@ -5,7 +5,7 @@ use Rattle.std.specs.List.{list_all, starts_with}
 use Rattle.std.proofs.lemmas.Bool.Decides.{Decides-eqb}
 use Rattle.std.proofs.lemmas.Slice.Eq.{starts_is}
 use Rattle.pol_json.specs.Texts.{has_name_length, is_between, is_digit, is_dns_byte, is_dns_name, is_lowercase, is_name_byte}
-use Rattle.pol_k8s.specs.Document.{name_front}
+use Rattle.pol_netpol.specs.Document.{name_front}
 use Rattle.pol_script.proofs.ScriptLaws.{both_parts}
 use Rattle.pol_script.specs.Names.{is_applied_name, is_network_name}
 

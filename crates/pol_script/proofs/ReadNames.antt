@@ -8,9 +8,9 @@ use Rattle.pol_json.specs.Document.{read_document}
 use Rattle.pol_json.specs.Network.{is_network_policy, network_name, network_namespace}
 use Rattle.pol_json.specs.Texts.{is_dns_name, is_name}
 use Rattle.pol_json.specs.declared.fault.DocFault.{DocFault}
-use Rattle.pol_k8s.proofs.ReadKept.{read_key, read_name, read_namespace}
-use Rattle.pol_k8s.specs.Document.{name_front, netpol_of, network_key}
-use Rattle.pol_k8s.specs.declared.fault.NetFault.{NetFault}
+use Rattle.pol_netpol.proofs.ReadKept.{read_key, read_name, read_namespace}
+use Rattle.pol_netpol.specs.Document.{name_front, netpol_of, network_key}
+use Rattle.pol_netpol.specs.declared.fault.NetFault.{NetFault}
 use Rattle.pol_labels.specs.declared.label.Label.{Label}
 use Rattle.pol_model.specs.declared.request.Remote.{Remote}
 use Rattle.pol_model.specs.declared.request.Request.{Request}

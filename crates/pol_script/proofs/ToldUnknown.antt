@@ -10,9 +10,9 @@ use Rattle.pol_script.specs.declared.op.Op.TheVariants as op
 use Rattle.pol_json.specs.Document.{read_document}
 use Rattle.pol_json.specs.Members.{present, text_at}
 use Rattle.pol_json.specs.Network.{is_network_policy}
-use Rattle.pol_k8s.specs.Document.{netpol_of}
-use Rattle.pol_k8s.specs.declared.fault.NetFault.{NetFault}
-use Rattle.pol_k8s.specs.declared.fault.NetFault.TheVariants as net
+use Rattle.pol_netpol.specs.Document.{netpol_of}
+use Rattle.pol_netpol.specs.declared.fault.NetFault.{NetFault}
+use Rattle.pol_netpol.specs.declared.fault.NetFault.TheVariants as net
 use Rattle.pol_labels.specs.LabelText.{read_label}
 use Rattle.pol_labels.specs.Order.{label_set_of}
 use Rattle.pol_addr.specs.Address.{read_addr}

@@ -5,9 +5,9 @@ use Rattle.pol_addr.specs.Address.{read_addr}
 use Rattle.serde_json.specs.Data.{Data}
 use Rattle.pol_json.specs.Document.{read_document}
 use Rattle.pol_json.specs.Network.{is_network_policy}
-use Rattle.pol_k8s.specs.Document.{netpol_of, network_key}
-use Rattle.pol_k8s.specs.declared.fault.NetFault.{NetFault}
-use Rattle.pol_k8s.specs.declared.fault.NetFault.TheVariants as net
+use Rattle.pol_netpol.specs.Document.{netpol_of, network_key}
+use Rattle.pol_netpol.specs.declared.fault.NetFault.{NetFault}
+use Rattle.pol_netpol.specs.declared.fault.NetFault.TheVariants as net
 use Rattle.pol_labels.specs.declared.label.Label.{Label}
 use Rattle.pol_labels.specs.Order.{label_set_of}
 use Rattle.pol_labels.specs.LabelText.{read_label}

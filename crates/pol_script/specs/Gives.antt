@@ -6,8 +6,8 @@ use Rattle.pol_labels.specs.declared.label.LabelError.{LabelError}
 use Rattle.pol_labels.specs.declared.label.LabelError.TheVariants as label
 use Rattle.pol_labels.specs.declared.label_set.SetError.{SetError}
 use Rattle.pol_labels.specs.declared.label_set.SetError.TheVariants as labels
-use Rattle.pol_k8s.specs.declared.fault.NetError.{NetError}
-use Rattle.pol_k8s.specs.declared.fault.NetError.TheVariants as network
+use Rattle.pol_netpol.specs.declared.fault.NetError.{NetError}
+use Rattle.pol_netpol.specs.declared.fault.NetError.TheVariants as network
 use Rattle.pol_sanitize.specs.declared.fault.SanitizeError.{SanitizeError}
 use Rattle.pol_sanitize.specs.declared.fault.SanitizeError.TheVariants as rules
 use Rattle.pol_script.specs.Commands.{net_fault}

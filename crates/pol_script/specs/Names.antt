@@ -2,7 +2,7 @@
 use Rattle.std.specs.Prelude.{ℕ, Bool, ◌==◌, ◌&&◌, ◌||◌, List, length, drop}
 use Rattle.std.specs.List.{starts_with}
 use Rattle.pol_json.specs.Texts.{is_dns_name}
-use Rattle.pol_k8s.specs.Document.{name_front}
+use Rattle.pol_netpol.specs.Document.{name_front}
 
 -- of a NetworkPolicy: `networkpolicy/`, and the object's name
 abbrev pub is_network_name : List ℕ → Bool

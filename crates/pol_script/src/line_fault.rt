@@ -6,8 +6,8 @@ ghost use Rattle.pol_script.specs.declared.line_fault.LineError.TheVariants.{Mem
 
 use pol_data::{Memory, Text};
 use pol_json::{DocError, DocFault};
-use pol_k8s::{NetError, NetFault};
 use pol_labels::{LabelError, SetError};
+use pol_netpol::{NetError, NetFault};
 use pol_rule::RuleFault;
 use pol_sanitize::SanitizeError;
 use std::alloc::AllocFailed;

@@ -6,7 +6,7 @@ use Rattle.std.proofs.lemmas.Bool.{cases_eq, cond-true, cond-false, eq-eqb, ne_e
 use Rattle.pol_data.proofs.Every.{every-weaker}
 use Rattle.pol_model.specs.Ascending.{Ascends}
 use Rattle.pol_model.specs.Selects.{set_at}
-use Rattle.pol_change_log.specs.Log.{newest, recorded}
+use Rattle.pol_set_changes.specs.Log.{newest, recorded}
 use Rattle.pol_selcache.specs.Cache.{Cache, IsPlanFor, IsSound, all_recorded, carried, change_at}
 use Rattle.pol_selcache.specs.Live.{Live, is_live, where_number, with_set}
 use Rattle.pol_selcache.specs.Moving.{each_carried, one_carried}

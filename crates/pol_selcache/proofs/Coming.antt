@@ -11,8 +11,8 @@ use Rattle.pol_model.specs.declared.limits.TheConstants.{CLUSTER_FIRST}
 use Rattle.pol_model.specs.declared.row.IdentityRow.{IdentityRow}
 use Rattle.pol_model.specs.Identities.{free_number, labels_held, number_for, number_of_labels, or_free, released}
 use Rattle.pol_model.proofs.AscendingStates.{RowsAscend, labels_ascend}
-use Rattle.pol_change_log.specs.Ids.{has}
-use Rattle.pol_change_log.specs.Log.{Log, newest, recorded}
+use Rattle.pol_set_changes.specs.Ids.{has}
+use Rattle.pol_set_changes.specs.Log.{Log, newest, recorded}
 use Rattle.pol_selcache.specs.Cache.{Cache, MayPlan, carried, change_at, with_room}
 use Rattle.pol_selcache.specs.Live.{Live, AreExact, is_live, rows_without}
 use Rattle.pol_selcache.specs.Plan.{Plan, Planned, changed, plan_for}

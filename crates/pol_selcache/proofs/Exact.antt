@@ -10,7 +10,7 @@ use Rattle.pol_model.specs.Ascending.{Ascends}
 use Rattle.pol_model.specs.declared.row.IdentityRow.{IdentityRow}
 use Rattle.pol_model.specs.Selects.{set_at}
 use Rattle.pol_model.proofs.AscendingStates.{RowsAscend}
-use Rattle.pol_change_log.specs.Ids.{has, without}
+use Rattle.pol_set_changes.specs.Ids.{has, without}
 use Rattle.pol_selcache.specs.Live.{Live, AreExact}
 use Rattle.pol_selcache.specs.Plan.{Planned, is_empty, change_to, changes_for, changed}
 use Rattle.pol_selcache.proofs.Numbers.{has-without, has_none, same_numbers}

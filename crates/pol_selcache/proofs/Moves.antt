@@ -7,7 +7,7 @@ use Rattle.pol_model.specs.declared.row.IdentityRow.{IdentityRow}
 use Rattle.pol_model.specs.Selects.{set_at}
 use Rattle.pol_rule.specs.declared.policy.Peer.{Peer}
 use Rattle.pol_ident.specs.Look.{selects_held}
-use Rattle.pol_change_log.specs.Ids.{has, without}
+use Rattle.pol_set_changes.specs.Ids.{has, without}
 use Rattle.pol_selcache.specs.Live.{rows_without}
 use Rattle.pol_selcache.specs.Moving.{Moving}
 use Rattle.pol_selcache.proofs.Numbers.{has-filter, has-without, same_numbers}

@@ -13,7 +13,7 @@ use Rattle.pol_data.proofs.Every.{every-weaker}
 use Rattle.pol_data.proofs.Members.{In, Contains-from_In, In-from_Contains}
 use Rattle.pol_model_laws.proofs.Membership.{In-list_any, list_any-In}
 use Rattle.pol_model.specs.Ascending.{Ascends}
-use Rattle.pol_change_log.specs.Ids.{has, without}
+use Rattle.pol_set_changes.specs.Ids.{has, without}
 
 -- ---- order
 above : (x y : ℕ) → x < y → nat_cmp x y ≡ Less

@@ -14,7 +14,7 @@ use Rattle.pol_data.proofs.Members.{every-in}
 use Rattle.pol_model_laws.specs.Keeps.{KeepsRows}
 use Rattle.pol_model.specs.declared.row.IdentityRow.{IdentityRow}
 use Rattle.pol_model.specs.Selects.{set_at}
-use Rattle.pol_change_log.specs.Ids.{has, without}
+use Rattle.pol_set_changes.specs.Ids.{has, without}
 use Rattle.pol_selcache.specs.Cache.{Cache, IsSound, MayPlan}
 use Rattle.pol_selcache.specs.Live.{Live, AreExact, is_label_peer, label_selectors, rows_without}
 use Rattle.pol_selcache.specs.Held.{steps_of}

@@ -10,14 +10,14 @@ use Rattle.pol_data.proofs.Members.{In-from_Contains}
 use Rattle.pol_model.specs.Ascending.{Ascends}
 use Rattle.pol_model.specs.Selects.{set_at}
 use Rattle.pol_sets.specs.declared.sets.Move.{Move}
-use Rattle.pol_change_log.specs.declared.change.SetChange.{SetChange}
-use Rattle.pol_change_log.specs.Ids.{without}
-use Rattle.pol_change_log.specs.Log.{Log, InOrder, is_later_of, newest, newest_of, recorded}
-use Rattle.pol_change_log.specs.Log.{IsSound as IsLog}
-use Rattle.pol_change_log.specs.Net.{after_all, move_of, net}
-use Rattle.pol_change_log.specs.Sets.{AllFit, IsMove}
-use Rattle.pol_change_log.proofs.LogLemmas.{none_later, recorded_sound}
-use Rattle.pol_change_log.proofs.NetLemmas.{after-ascends, differences_lead, net_is_exact}
+use Rattle.pol_set_changes.specs.declared.change.SetChange.{SetChange}
+use Rattle.pol_set_changes.specs.Ids.{without}
+use Rattle.pol_set_changes.specs.Log.{Log, InOrder, is_later_of, newest, newest_of, recorded}
+use Rattle.pol_set_changes.specs.Log.{IsSound as IsLog}
+use Rattle.pol_set_changes.specs.Net.{after_all, move_of, net}
+use Rattle.pol_set_changes.specs.Sets.{AllFit, IsMove}
+use Rattle.pol_set_changes.proofs.LogLemmas.{none_later, recorded_sound}
+use Rattle.pol_set_changes.proofs.NetLemmas.{after-ascends, differences_lead, net_is_exact}
 use Rattle.pol_selcache.specs.Cache.{all_recorded, change_at}
 use Rattle.pol_selcache.specs.Live.{Live}
 use Rattle.pol_selcache.specs.Plan.{Planned, change_to, is_empty}

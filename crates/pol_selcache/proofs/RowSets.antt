@@ -19,7 +19,7 @@ use Rattle.pol_model.proofs.Ascents.{filter_ascends}
 use Rattle.pol_rule.specs.declared.policy.Peer.{Peer}
 use Rattle.pol_rule.specs.declared.policy.Peer.TheVariants as peer
 use Rattle.pol_ident.specs.Look.{selects_held}
-use Rattle.pol_change_log.specs.Ids.{has}
+use Rattle.pol_set_changes.specs.Ids.{has}
 use Rattle.pol_selcache.specs.Held.{judged_under, rows_judged}
 use Rattle.pol_selcache.specs.Live.{rows_without}
 use Rattle.std.proofs.lemmas.List.Kept.{IsStrictlySortedBy-filter}

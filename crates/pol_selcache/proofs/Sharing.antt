@@ -2,7 +2,7 @@
 use Rattle.std.proofs.Common.{◌≡◌, ℕ, ◌&&◌, ◌||◌, not, true, nat_eq, List, ◌∙◌}
 use Rattle.std.specs.Cmp.Lexicographic.{bytes_decides, pointwise}
 use Rattle.std.proofs.lemmas.Bool.{and_parts}
-use Rattle.pol_change_log.specs.Ids.{has}
+use Rattle.pol_set_changes.specs.Ids.{has}
 use Rattle.pol_selcache.specs.Made.{IsMadeOf, Made, is_of}
 
 pub made_of : (was gained lost : List ℕ) (made : Made) → is_of was gained lost made ≡ true → (set : List ℕ) → IsMadeOf made.was made.gained made.lost set → IsMadeOf was gained lost set

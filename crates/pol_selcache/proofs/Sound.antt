@@ -6,8 +6,8 @@ use Rattle.std.proofs.lemmas.Option.{same_Some}
 use Rattle.pol_data.proofs.Every.{every-append, every-kept, every-weaker}
 use Rattle.pol_model.specs.declared.row.IdentityRow.{IdentityRow}
 use Rattle.pol_model.specs.Selects.{set_at}
-use Rattle.pol_change_log.specs.Log.{Log}
-use Rattle.pol_change_log.specs.Log.{IsSound as IsLog}
+use Rattle.pol_set_changes.specs.Log.{Log}
+use Rattle.pol_set_changes.specs.Log.{IsSound as IsLog}
 use Rattle.pol_selcache.specs.Cache.{IsSound}
 use Rattle.pol_selcache.specs.Live.{Live, AreExact, AreLive, is_live, one_less, one_more, with_numbers, where_number, with_reference, with_set, without_reference}
 use Rattle.pol_selectors.proofs.LiveLists.{numbers, numbers_kept, reference_keeps, set_keeps, unreference_keeps}

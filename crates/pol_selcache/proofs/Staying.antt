@@ -13,7 +13,7 @@ use Rattle.pol_model.specs.declared.row.IdentityRow.{IdentityRow}
 use Rattle.pol_model.specs.Selects.{selects_row, set_at}
 use Rattle.pol_model.proofs.AscendingStates.{RowsAscend}
 use Rattle.pol_rule.specs.declared.policy.Peer.{Peer}
-use Rattle.pol_change_log.specs.Ids.{has}
+use Rattle.pol_set_changes.specs.Ids.{has}
 use Rattle.pol_selcache.specs.Live.{Live, AreExact, rows_without}
 use Rattle.pol_selcache.proofs.Numbers.{In-has, has-filter, same_numbers}
 use Rattle.pol_selcache.proofs.RowSets.{has-set_without, rows_without_ascend, set_sorted}

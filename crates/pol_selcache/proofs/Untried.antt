@@ -17,7 +17,7 @@ use Rattle.pol_headings.specs.Tried.{AreKept, is_among}
 use Rattle.pol_model.specs.Ascending.{Ascends}
 use Rattle.pol_model.specs.declared.row.IdentityRow.{IdentityRow}
 use Rattle.pol_model.specs.Selects.{set_at}
-use Rattle.pol_change_log.specs.Ids.{has}
+use Rattle.pol_set_changes.specs.Ids.{has}
 use Rattle.pol_selcache.specs.Tried.{HasAllAt}
 use Rattle.pol_ident.specs.Look.{selects_held}
 use Rattle.pol_selcache.specs.Held.{steps_of}

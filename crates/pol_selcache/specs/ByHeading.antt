@@ -2,7 +2,7 @@
 use Rattle.std.specs.Prelude.{ℕ, ◌≡◌, ◌==◌, ◌<◌, ◌^◌, ◌||◌, true, List, length}
 use Rattle.std.specs.List.Sorted.{IsStrictlySortedBy}
 use Rattle.std.specs.Ordering.{nat_cmp}
-use Rattle.pol_change_log.specs.Ids.{has}
+use Rattle.pol_set_changes.specs.Ids.{has}
 use Rattle.pol_headings.specs.declared.heading.Heading.{Heading}
 use Rattle.pol_headings.specs.Filed.{Drawers, is_filed}
 use Rattle.pol_headings.specs.Heading.{heading_of}

@@ -6,10 +6,10 @@ use Rattle.pol_model.specs.Ascending.{Ascends}
 use Rattle.pol_model.specs.declared.row.IdentityRow.{IdentityRow}
 use Rattle.pol_model.specs.Selects.{set_at}
 use Rattle.pol_model_laws.specs.Holding.{has_row}
-use Rattle.pol_change_log.specs.declared.change.SetChange.{SetChange}
-use Rattle.pol_change_log.specs.Log.{Log, newest, recorded}
-use Rattle.pol_change_log.specs.Log.{IsSound as IsLog}
-use Rattle.pol_change_log.specs.Ids.{has}
+use Rattle.pol_set_changes.specs.declared.change.SetChange.{SetChange}
+use Rattle.pol_set_changes.specs.Log.{Log, newest, recorded}
+use Rattle.pol_set_changes.specs.Log.{IsSound as IsLog}
+use Rattle.pol_set_changes.specs.Ids.{has}
 use Rattle.pol_selcache.specs.Live.{Live, AreExact, AreLive, rows_without, number_of, with_reference, without_reference}
 use Rattle.pol_selcache.specs.Plan.{Plan, Planned, changes_for, changed}
 

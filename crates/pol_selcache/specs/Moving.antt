@@ -6,8 +6,8 @@ use Rattle.pol_model.specs.Ascending.{Ascends}
 use Rattle.pol_model.specs.declared.row.IdentityRow.{IdentityRow}
 use Rattle.pol_model.specs.Selects.{set_at}
 use Rattle.pol_rule.specs.declared.policy.Peer.{Peer}
-use Rattle.pol_change_log.specs.Ids.{has}
-use Rattle.pol_change_log.specs.Log.{recorded}
+use Rattle.pol_set_changes.specs.Ids.{has}
+use Rattle.pol_set_changes.specs.Log.{recorded}
 use Rattle.pol_selcache.specs.Cache.{Cache, change_at}
 use Rattle.pol_selcache.specs.Live.{rows_without, with_set}
 use Rattle.pol_selcache.specs.Plan.{Planned}

@@ -4,7 +4,7 @@ use Rattle.std.specs.List.{filter_map}
 use Rattle.std.specs.Option.{option_map_or}
 use Rattle.pol_model.specs.declared.row.IdentityRow.{IdentityRow}
 use Rattle.pol_model.specs.Selects.{set_at}
-use Rattle.pol_change_log.specs.Ids.{without}
+use Rattle.pol_set_changes.specs.Ids.{without}
 use Rattle.pol_selcache.specs.Live.{Live}
 
 -- the change of one selector's set: the numbers that come and those that go, one at least, and the set afterwards

@@ -4,11 +4,11 @@ use Rattle.std.specs.List.{Contains}
 use Rattle.std.specs.List.Sorted.{IsStrictlySortedBy}
 use Rattle.std.specs.Ordering.{nat_cmp}
 use Rattle.pol_sets.specs.declared.sets.Move.{Move}
-use Rattle.pol_change_log.specs.declared.change.SetChange.{SetChange}
-use Rattle.pol_change_log.specs.Log.{Log, is_later_of, newest, since}
-use Rattle.pol_change_log.specs.Log.{IsSound as IsLog}
-use Rattle.pol_change_log.specs.Net.{after_all}
-use Rattle.pol_change_log.specs.Sets.{AllFit, IsMove}
+use Rattle.pol_set_changes.specs.declared.change.SetChange.{SetChange}
+use Rattle.pol_set_changes.specs.Log.{Log, is_later_of, newest, since}
+use Rattle.pol_set_changes.specs.Log.{IsSound as IsLog}
+use Rattle.pol_set_changes.specs.Net.{after_all}
+use Rattle.pol_set_changes.specs.Sets.{AllFit, IsMove}
 use Rattle.pol_selcache.specs.Cache.{Cache, IsPlanFor, IsSound, carried}
 use Rattle.pol_selcache.specs.Live.{Live}
 use Rattle.pol_selcache.specs.Plan.{Plan, after_changes}

@@ -1,6 +1,6 @@
 -- The selectors that are tried. No public clause cites this module.
 use Rattle.std.specs.Prelude.{ℕ, ◌≡◌, true, List, filter}
-use Rattle.pol_change_log.specs.Ids.{has}
+use Rattle.pol_set_changes.specs.Ids.{has}
 use Rattle.pol_headings.specs.declared.heading.Heading.{Heading}
 use Rattle.pol_headings.specs.Heading.{heading_of}
 use Rattle.pol_headings.specs.Tried.{is_among}

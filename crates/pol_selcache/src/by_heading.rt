@@ -2,7 +2,7 @@
 ghost use Rattle.std.specs.Prelude.{◌≡◌, ℕ, ◌^◌, ◌<◌, ◌≤◌, ◌==◌, ◌&&◌, ◌||◌, All, IfOk, OnOk, List, length};
 ghost use Rattle.std.specs.List.Sorted.{IsStrictlySortedBy};
 ghost use Rattle.std.specs.Ordering.{nat_cmp};
-ghost use Rattle.pol_change_log.specs.Ids.{has};
+ghost use Rattle.pol_set_changes.specs.Ids.{has};
 ghost use Rattle.pol_headings.specs.declared.heading.Heading.{Heading as OneHeading};
 ghost use Rattle.pol_headings.specs.Filed.{is_filed};
 ghost use Rattle.pol_headings.specs.Heading.{heading_of};

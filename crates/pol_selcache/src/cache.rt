@@ -1,13 +1,13 @@
 //! The cache, and what it tells.
 ghost use Rattle.std.specs.Prelude.{◌≡◌, ◌↔◌, ◌<◌, IfOk, IsNone, OnOk, OnErr, [], Some, true, option_map};
 ghost use Rattle.std.specs.Arc.{arc_value};
-ghost use Rattle.pol_change_log.specs.Log.{empty_log, newest, since, unchanged_since};
+ghost use Rattle.pol_set_changes.specs.Log.{empty_log, newest, since, unchanged_since};
 ghost use Rattle.pol_selcache.specs.Live.{is_live, selector_of};
 ghost use Rattle.pol_selcache.specs.Cache.{Cache, IsSound, dropped};
 
-use pol_change_log::ChangeLog;
 use pol_data::Memory;
 use pol_selectors::Selectors;
+use pol_set_changes::ChangeLog;
 use pol_sets::{IdSet, Move};
 use std::alloc::Global;
 use std::marker::Model;

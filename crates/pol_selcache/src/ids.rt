@@ -3,7 +3,7 @@ ghost use Rattle.std.specs.Prelude.{◌≡◌, ℕ, ◌≤◌, ◌&&◌, ◌||�
 ghost use Rattle.std.specs.List.Sorted.{IsStrictlySortedBy};
 ghost use Rattle.std.specs.Ordering.{nat_cmp};
 ghost use Rattle.pol_sets.specs.IdSet.{IsIdSet};
-ghost use Rattle.pol_change_log.specs.Ids.{has};
+ghost use Rattle.pol_set_changes.specs.Ids.{has};
 
 use pol_data::Memory;
 use pol_sets::IdSet;

@@ -6,8 +6,8 @@ ghost use Rattle.pol_model.specs.declared.row.IdentityRow.{IdentityRow as OneRow
 ghost use Rattle.pol_model_laws.specs.Holding.{has_row, IsPartOf};
 ghost use Rattle.pol_labels.specs.declared.label.Label.{Label};
 ghost use Rattle.pol_model.specs.Identities.{labels_held, number_for};
-ghost use Rattle.pol_change_log.specs.Ids.{has};
-ghost use Rattle.pol_change_log.specs.Log.{newest};
+ghost use Rattle.pol_set_changes.specs.Ids.{has};
+ghost use Rattle.pol_set_changes.specs.Log.{newest};
 ghost use Rattle.pol_rule.specs.declared.policy.Peer.{Peer};
 ghost use Rattle.pol_selcache.specs.Cache.{Cache, IsSound, MayPlan, added, dropped, number_added};
 ghost use Rattle.pol_selcache.specs.Live.{Live, AreExact, is_live, rows_without, with_reference, without_reference};

@@ -1,7 +1,7 @@
 //! Which selectors are tried for numbers that come and go.
 ghost use Rattle.std.specs.Prelude.{◌≡◌, ℕ, true, IfOk, OnOk};
 ghost use Rattle.std.specs.List.{AllByRecursion};
-ghost use Rattle.pol_change_log.specs.Ids.{has};
+ghost use Rattle.pol_set_changes.specs.Ids.{has};
 ghost use Rattle.pol_headings.specs.Heading.{heading_of};
 ghost use Rattle.pol_headings.specs.Tried.{AreKept, is_among};
 ghost use Rattle.pol_model.specs.Ascending.{Ascends};

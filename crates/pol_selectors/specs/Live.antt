@@ -8,7 +8,7 @@ use Rattle.pol_rule.specs.declared.policy.Peer.TheVariants as peer
 use Rattle.pol_model.specs.Ascending.{Ascends}
 use Rattle.pol_model.specs.declared.row.IdentityRow.{IdentityRow}
 use Rattle.pol_model.specs.Selects.{set_at}
-use Rattle.pol_change_log.specs.Ids.{has}
+use Rattle.pol_set_changes.specs.Ids.{has}
 
 -- a live selector: its number, its peer, how many references there are to it, and the numbers of its set
 pub record Live : Type 0 where

@@ -12,7 +12,7 @@ use Rattle.pol_history.specs.Calls.{IsAccepted, IsRefused}
 use Rattle.pol_history.specs.Grows.{PassGrows, PassGrowsWhole, PassState}
 use Rattle.pol_history.specs.Look.{Looked, look}
 use Rattle.pol_history.proofs.Meetings.{pass-grows}
-use Rattle.pol_placed.specs.Placed.{answer_found}
+use Rattle.pol_run_laws.specs.Placed.{answer_found}
 use Rattle.pol_sessions.specs.Sessions.{GoesOn}
 
 pub committed : (options : Options) (old new : PassState) (session : ℕ) (request : Request) (done : Committed)

@@ -9,10 +9,10 @@ use Rattle.pol_script.specs.declared.command.Command.{Command}
 use Rattle.pol_history.specs.Grows.{PassGrows, PassState}
 use Rattle.pol_history.specs.Legal.{IsLegal}
 use Rattle.pol_history.proofs.Meetings.{grows-same, passes-grow}
-use Rattle.pol_placed.specs.Placed.{Allows}
-use Rattle.pol_placed.specs.Seats.{HasGoneOn}
-use Rattle.pol_placed.specs.Session.{PlaysOn, request_done, requests_done}
-use Rattle.pol_placed.proofs.PlayingOn.{plays_more}
+use Rattle.pol_run_laws.specs.Placed.{Allows}
+use Rattle.pol_run_laws.specs.Seats.{HasGoneOn}
+use Rattle.pol_run_laws.specs.Session.{PlaysOn, request_done, requests_done}
+use Rattle.pol_run_laws.proofs.PlayingOn.{plays_more}
 use Rattle.pol_sessions.specs.Sessions.{GoesOn, HasStopped}
 
 pub zip-more : {A B : Type 0} (xs : List A) (ys : List B) (x : A) (y : B) → length ys ≡ length xs → zip (xs ++ x ∷ []) (ys ++ y ∷ []) ≡ zip xs ys ++ (x, y) ∷ []

@@ -7,7 +7,7 @@ use Rattle.pol_script.specs.declared.command.Command.{Command}
 use Rattle.pol_history.specs.declared.event.HistoryEvent.{HistoryEvent}
 use Rattle.pol_history.specs.Grows.{PassState, nothing_yet}
 use Rattle.pol_history.specs.Meet.{has}
-use Rattle.pol_placed.specs.Seats.{ArePhases}
+use Rattle.pol_run_laws.specs.Seats.{ArePhases}
 use Rattle.pol_sessions.specs.Sessions.{IsScriptPlayed}
 use Rattle.pol_sessions.proofs.Seats.{IsHandedOut}
 

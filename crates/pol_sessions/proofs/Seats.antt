@@ -7,8 +7,8 @@ use Rattle.pol_script.specs.declared.command.Command.{Command}
 use Rattle.pol_history.specs.declared.event.HistoryEvent.{HistoryEvent}
 use Rattle.pol_history.specs.Grows.{PassState}
 use Rattle.pol_history.specs.Meet.{has}
-use Rattle.pol_placed.specs.Seats.{ArePhases, HavePlayed, IsPhase}
-use Rattle.pol_placed.proofs.OneMore.{phase_more}
+use Rattle.pol_run_laws.specs.Seats.{ArePhases, HavePlayed, IsPhase}
+use Rattle.pol_run_laws.proofs.OneMore.{phase_more}
 
 -- the pass was handed out
 abbrev pub IsHandedOut : List ℕ → PassState → Type 0

@@ -5,9 +5,9 @@ use Rattle.pol_answer.specs.declared.answer.Answer.{Answer}
 use Rattle.pol_script.specs.declared.command.Command.{Command}
 use Rattle.pol_history.specs.declared.event.HistoryEvent.{HistoryEvent}
 use Rattle.pol_history.specs.Grows.{PassGrows, PassState}
-use Rattle.pol_placed.specs.Placed.{Allows}
-use Rattle.pol_placed.specs.Seats.{AreNewSeats, ArePhases, HasGoneOn}
-use Rattle.pol_placed.specs.Session.{requests_done}
+use Rattle.pol_run_laws.specs.Placed.{Allows}
+use Rattle.pol_run_laws.specs.Seats.{AreNewSeats, ArePhases, HasGoneOn}
+use Rattle.pol_run_laws.specs.Session.{requests_done}
 
 -- The command was answered by a call with the pass, which has committed its request where the answer is `ok`.
 pub record GoesOn (options : Options) (old : PassState) (line : Command) (answer : Answer) (new : PassState) : Type 0 where

@@ -2,7 +2,7 @@
 //!
 //! `play_session` plays what one session has in a phase by the calls of the node; `play_phases` plays the sessions of each
 //! phase at once, and lets all passes meet at its end; `play_beside` does so with workers that regenerate what hints name.
-//! What they promise is said over the definitions of `pol_placed` (`specs/Seats`).
+//! What they promise is said over the definitions of `pol_run_laws` (`specs/Seats`).
 #![tactic(auto)]
 
 mod line;

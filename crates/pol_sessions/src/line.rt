@@ -8,9 +8,9 @@ ghost use Rattle.pol_sessions.specs.Sessions.{GoesOn};
 
 use pol_answer::Answer;
 use pol_data::{Memory, Steps};
+use pol_hints::{HintPass, HintRound, Hints};
 use pol_model::{CommitError, Query, Request};
 use pol_node::{LookError, Node, NodeName, Pass, TraceError};
-use pol_pool::{HintPass, HintRound, Hints};
 use pol_script::Command;
 use std::alloc::Global;
 use std::sync::Wait;

@@ -3,14 +3,14 @@ ghost use Rattle.std.specs.Prelude.{◌≡◌, ◌≤◌, ◌++◌, ◌∷◌, [
 ghost use Rattle.std.specs.List.{AllByRecursion};
 ghost use Rattle.pol_history.specs.Grows.{PassState};
 ghost use Rattle.pol_history.specs.Meet.{has};
-ghost use Rattle.pol_placed.specs.Seats.{ArePhases, HasGoneOn, HaveGoneOn, IsPhase};
+ghost use Rattle.pol_run_laws.specs.Seats.{ArePhases, HasGoneOn, HaveGoneOn, IsPhase};
 ghost use Rattle.pol_script.specs.declared.command.Command.{Command};
 
 use crate::session::play_session;
 use pol_data::{Items, Memory};
+use pol_hints::{Gate, HintPass, Hints};
 use pol_node::{Node, NodeName, Pass};
 use pol_phases::{Answers, Commands};
-use pol_pool::{Gate, HintPass, Hints};
 use std::alloc::Global;
 use std::collections::VecDeque;
 use std::sync::Wait;

@@ -1,14 +1,14 @@
 //! What one session has in a phase.
 ghost use Rattle.std.specs.Prelude.{◌≡◌, IfOk, OnErr, true};
 ghost use Rattle.pol_history.specs.Meet.{has};
-ghost use Rattle.pol_placed.specs.Seats.{HasGoneOn};
+ghost use Rattle.pol_run_laws.specs.Seats.{HasGoneOn};
 ghost use Rattle.pol_sessions.specs.Sessions.{HasStopped};
 
 use crate::line::play_line;
 use pol_data::{Memory, Steps};
+use pol_hints::{HintPass, HintRound, Hints};
 use pol_node::{Node, NodeName, Pass};
 use pol_phases::{Answers, Commands};
-use pol_pool::{HintPass, HintRound, Hints};
 use std::alloc::Global;
 use std::marker::Brand;
 use std::sync::Wait;

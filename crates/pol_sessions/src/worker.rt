@@ -2,15 +2,15 @@
 ghost use Rattle.std.specs.Prelude.{◌≡◌, ◌≤◌, IfOk, length, true};
 ghost use Rattle.std.specs.List.{AllByRecursion};
 ghost use Rattle.pol_history.specs.Meet.{has};
-ghost use Rattle.pol_placed.specs.Seats.{ArePhases};
+ghost use Rattle.pol_run_laws.specs.Seats.{ArePhases};
 
 use crate::phase::{PlayedPhases, play_phases};
 use left_right::Absorb;
 use pol_board_view::{Face, FaceOp};
 use pol_data::{Items, Memory};
+use pol_hints::{Calls, Gate, HintPass, Hints, Job, Over, work};
 use pol_node::{Node, NodeName, Pass, Regen};
 use pol_phases::Commands;
-use pol_pool::{Calls, Gate, HintPass, Hints, Job, Over, work};
 use std::alloc::Global;
 use std::sync::Wait;
 use std::sync::atomic::{AtomicU64, Ordering};

@@ -21,19 +21,19 @@ use Rattle.pol_model_laws.proofs.Membership.{In-append}
 use Rattle.pol_sets.specs.declared.sets.Move.{Move}
 use Rattle.pol_sets.specs.declared.sets.SetRow.{SetRow}
 use Rattle.pol_sets.specs.Sets.{has_set, set_given}
-use Rattle.pol_l4.specs.declared.filter.Filter.{Filter}
-use Rattle.pol_l4.specs.declared.filter.Filters.{Filters}
-use Rattle.pol_l4.specs.Resolved.{filters_in}
-use Rattle.pol_l4.proofs.Located.{named}
+use Rattle.pol_filters.specs.declared.filter.Filter.{Filter}
+use Rattle.pol_filters.specs.declared.filter.Filters.{Filters}
+use Rattle.pol_filters.specs.Resolved.{filters_in}
+use Rattle.pol_filters.proofs.Located.{named}
 use Rattle.pol_distill.specs.Distilled.{filters_at}
 use Rattle.pol_distill.specs.Sorted.{HaveSets, PeersHaveSets}
 use Rattle.pol_rule.specs.Listed.{peers_in}
-use Rattle.pol_moves.specs.Changes.{state_at}
-use Rattle.pol_moves.specs.Moves.{AreMovesOf, TellsMoves}
+use Rattle.pol_set_moves.specs.Changes.{state_at}
+use Rattle.pol_set_moves.specs.Moves.{AreMovesOf, TellsMoves}
 use Rattle.pol_taken.specs.declared.taken.Taken.{Taken}
 use Rattle.pol_taken.specs.OfState.{IsTakenOf}
-use Rattle.pol_delta.specs.Applies.{HasMove, MovesTell, NamesFilters, PlacesDiffer, all_filters}
-use Rattle.pol_delta.specs.Work.{AllListed, AllOfPeers, WorkOf}
+use Rattle.pol_kept_map.specs.Applies.{HasMove, MovesTell, NamesFilters, PlacesDiffer, all_filters}
+use Rattle.pol_kept_map.specs.Work.{AllListed, AllOfPeers, WorkOf}
 use Rattle.pol_slot_map.specs.Follow.{MayApply}
 use Rattle.pol_slot_map.proofs.Listing.{filter_listed}
 use Rattle.pol_slot_map.proofs.Places.{places_differ}

@@ -19,12 +19,12 @@ use Rattle.pol_model.specs.State.{State}
 use Rattle.pol_model_laws.proofs.Membership.{find-In, found-some}
 use Rattle.pol_sets.specs.declared.sets.SetRow.{SetRow}
 use Rattle.pol_sets.specs.Sets.{has_set, is_row_of, set_given}
-use Rattle.pol_l4.specs.declared.filter.Filter.{Filter}
-use Rattle.pol_l4.specs.declared.filter.Filters.{Filters}
+use Rattle.pol_filters.specs.declared.filter.Filter.{Filter}
+use Rattle.pol_filters.specs.declared.filter.Filters.{Filters}
 use Rattle.pol_distill.specs.Distilled.{distilled, filters_at}
 use Rattle.pol_distill.specs.Sorted.{HaveSets, ListHasSets, PeersHaveSets}
-use Rattle.pol_change_list.specs.Changes.{changed, table_of, whole}
-use Rattle.pol_change_list.proofs.Differences.{differences_lead, whole_is_difference}
+use Rattle.pol_map_changes.specs.Changes.{changed, table_of, whole}
+use Rattle.pol_map_changes.proofs.Differences.{differences_lead, whole_is_difference}
 use Rattle.pol_trie.specs.PolicyMap.{PolicyMap}
 use Rattle.pol_history.specs.declared.event.EndpointId.{EndpointId}
 use Rattle.pol_history.specs.declared.event.HistoryEvent.{HistoryEvent}
@@ -38,8 +38,8 @@ use Rattle.pol_history.proofs.Own.{map-prefix, revision-prefix, state-prefix}
 use Rattle.pol_history_log.specs.Asked.{or_none, table_at}
 use Rattle.pol_taken.specs.declared.taken.Taken.{Taken}
 use Rattle.pol_taken.specs.OfState.{IsTakenOf}
-use Rattle.pol_delta.specs.Work.{AllListed, AllOfFilters, AllOfPeers, IsWorkOf, WorkOf, map_of}
-use Rattle.pol_delta.proofs.Works.{is_table}
+use Rattle.pol_kept_map.specs.Work.{AllListed, AllOfFilters, AllOfPeers, IsWorkOf, WorkOf, map_of}
+use Rattle.pol_kept_map.proofs.Works.{is_table}
 use Rattle.pol_slot_map.specs.declared.follow.Followed.{Followed}
 use Rattle.pol_slot_map.specs.Follow.{GoesOn, IsShown, IsStartOf, LeadsFrom, Stays, changed_by, led}
 use Rattle.pol_slot_map.specs.Followed.{Follows, id_in, table_then}

@@ -15,10 +15,10 @@ use Rattle.pol_rule.specs.declared.policy.Section.{Section}
 use Rattle.pol_rule.specs.declared.policy.Section.TheVariants as section
 use Rattle.pol_model.specs.declared.row.Stamped.{Stamped}
 use Rattle.pol_model.specs.Enforced.{allow_section, deny_section}
-use Rattle.pol_l4.specs.declared.filter.Filter.{Filter}
-use Rattle.pol_l4.specs.Resolved.{entry_filters, filter_at, filters_in, policy_filters, rule_filters}
+use Rattle.pol_filters.specs.declared.filter.Filter.{Filter}
+use Rattle.pol_filters.specs.Resolved.{entry_filters, filter_at, filters_in, policy_filters, rule_filters}
 use Rattle.pol_rule.specs.Listed.{listed_peers, peers_in, rule_peers}
-use Rattle.pol_moves.proofs.InRules.{In-flat_map, in_rule}
+use Rattle.pol_set_moves.proofs.InRules.{In-flat_map, in_rule}
 
 -- the policy has the filter's stamp, and lists its peers
 pub record Lists (stamped : Stamped) (one : Filter) : Type 0 where

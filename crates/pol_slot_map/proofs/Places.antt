@@ -30,10 +30,10 @@ use Rattle.pol_model.specs.State.{State}
 use Rattle.pol_model_laws.proofs.Distinct.{differ_filtered}
 use Rattle.pol_model_laws.proofs.Membership.{map-In}
 use Rattle.pol_model_laws.proofs.PolicyHolders.{applied_differ, same_key-Decides}
-use Rattle.pol_l4.specs.declared.filter.Filter.{Filter}
-use Rattle.pol_l4.specs.Resolved.{entry_filters, filter_at, filters_in, policy_filters, rule_filters}
+use Rattle.pol_filters.specs.declared.filter.Filter.{Filter}
+use Rattle.pol_filters.specs.Resolved.{entry_filters, filter_at, filters_in, policy_filters, rule_filters}
 use Rattle.pol_distill.specs.Distilled.{filters_at}
-use Rattle.pol_delta.specs.Applies.{PlacesDiffer}
+use Rattle.pol_kept_map.specs.Applies.{PlacesDiffer}
 
 -- ---- by recursion on a list
 abbrev AreApart : Filter → Filter → Type 0

@@ -19,13 +19,13 @@ use Rattle.pol_model_laws.proofs.Membership.{In-append, find-In, found-some, lis
 use Rattle.pol_sets.specs.declared.sets.Move.{Move}
 use Rattle.pol_sets.specs.declared.sets.SetRow.{SetRow}
 use Rattle.pol_sets.specs.Sets.{has_set, is_row_of, set_given}
-use Rattle.pol_change_log.specs.Sets.{IsMove}
+use Rattle.pol_set_changes.specs.Sets.{IsMove}
 use Rattle.pol_rule.specs.Listed.{listed_peers}
 use Rattle.pol_store.specs.Store.{peers_of}
-use Rattle.pol_moves.specs.Changes.{IsListedSince, is_listed, set_in, state_at}
-use Rattle.pol_moves.specs.Moves.{AreMovesOf, IsMoveOf}
-use Rattle.pol_delta.specs.Applies.{HasMove}
-use Rattle.pol_moves.proofs.InRules.{In-flat_map}
+use Rattle.pol_set_moves.specs.Changes.{IsListedSince, is_listed, set_in, state_at}
+use Rattle.pol_set_moves.specs.Moves.{AreMovesOf, IsMoveOf}
+use Rattle.pol_kept_map.specs.Applies.{HasMove}
+use Rattle.pol_set_moves.proofs.InRules.{In-flat_map}
 use Rattle.pol_slot_map.proofs.Stamps.{policy_then}
 
 -- what is in a list made of lists is in one of them

@@ -1,13 +1,13 @@
 -- What is kept of an endpoint that is followed, and how it goes on.
 use Rattle.std.specs.Prelude.{◌≡◌, ℕ, List, [], Option, None, Some, IfSome}
 use Rattle.std.specs.Arc.{arc_value}
-use Rattle.pol_delta.specs.Applies.{MovesTell, NamesFilters, PlacesDiffer}
-use Rattle.pol_delta.specs.Work.{IsWorkOf, WorkOf, map_of}
+use Rattle.pol_kept_map.specs.Applies.{MovesTell, NamesFilters, PlacesDiffer}
+use Rattle.pol_kept_map.specs.Work.{IsWorkOf, WorkOf, map_of}
 use Rattle.pol_distill.specs.Distilled.{distilled}
 use Rattle.pol_distill.specs.Sorted.{HaveSets}
-use Rattle.pol_change_list.specs.Changes.{changed, table_of, whole}
-use Rattle.pol_change_list.specs.declared.change.Change.{Change}
-use Rattle.pol_l4.specs.declared.filter.Filters.{Filters}
+use Rattle.pol_map_changes.specs.Changes.{changed, table_of, whole}
+use Rattle.pol_map_changes.specs.declared.change.Change.{Change}
+use Rattle.pol_filters.specs.declared.filter.Filters.{Filters}
 use Rattle.pol_sets.specs.declared.sets.Move.{Move}
 use Rattle.pol_sets.specs.declared.sets.SetRow.{SetRow}
 use Rattle.pol_taken.specs.declared.taken.Taken.{Taken}

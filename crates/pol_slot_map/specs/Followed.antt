@@ -2,9 +2,9 @@
 use Rattle.std.specs.Prelude.{◌≡◌, ℕ, ◌≤◌, List, Option, None, Some, IfSome}
 use Rattle.std.specs.FinMap as finite
 use Rattle.pol_history_log.specs.Asked.{id_of, table_at}
-use Rattle.pol_delta.specs.Work.{AllListed, map_of}
+use Rattle.pol_kept_map.specs.Work.{AllListed, map_of}
 use Rattle.pol_distill.specs.Distilled.{filters_at}
-use Rattle.pol_change_list.specs.Changes.{table_of}
+use Rattle.pol_map_changes.specs.Changes.{table_of}
 use Rattle.pol_history.specs.declared.event.EndpointId.{EndpointId}
 use Rattle.pol_history.specs.declared.event.HistoryEvent.{HistoryEvent}
 use Rattle.pol_history.specs.Commits.{live_endpoint, revision_of, state_after}

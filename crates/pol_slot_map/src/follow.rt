@@ -1,15 +1,15 @@
 //! What a slot keeps of the endpoint that it follows.
 ghost use Rattle.std.specs.Prelude.{◌≡◌, ◌≢◌, ◌⊎◌, IfOk, IsTrue, None, OnErr, OnOk, Some, map};
 ghost use Rattle.std.specs.Arc.{arc_value};
-ghost use Rattle.pol_delta.specs.Work.{IsWorkOf, map_of};
+ghost use Rattle.pol_kept_map.specs.Work.{IsWorkOf, map_of};
 ghost use Rattle.pol_distill.specs.Distilled.{distilled};
 ghost use Rattle.pol_distill.specs.Sorted.{HaveSets};
 ghost use Rattle.pol_slot_map.specs.Follow.{GoesOn, IsShown, IsStartOf, MayApply, Stays};
 
-use pol_change_list::ChangeList;
 use pol_data::{Memory, Text};
-use pol_delta::{Changes, Work};
-use pol_raw_entries::sets_ascend;
+use pol_entry_changes::sets_ascend;
+use pol_kept_map::{Changes, Work};
+use pol_map_changes::ChangeList;
 use pol_taken::Taken;
 use std::alloc::Global;
 use std::sync::Arc;

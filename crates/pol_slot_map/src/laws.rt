@@ -2,10 +2,10 @@
 ghost use Rattle.std.specs.Prelude.{◌≡◌, ◌≤◌, ℕ, List, length, take};
 ghost use Rattle.std.specs.Arc.{arc_value};
 ghost use Rattle.std.specs.List.{Contains};
-ghost use Rattle.pol_moves.specs.Changes.{state_at};
-ghost use Rattle.pol_moves.specs.Moves.{TellsMoves};
-ghost use Rattle.pol_delta.specs.Applies.{PlacesDiffer};
-ghost use Rattle.pol_delta.specs.Work.{AllListed, WorkOf};
+ghost use Rattle.pol_set_moves.specs.Changes.{state_at};
+ghost use Rattle.pol_set_moves.specs.Moves.{TellsMoves};
+ghost use Rattle.pol_kept_map.specs.Applies.{PlacesDiffer};
+ghost use Rattle.pol_kept_map.specs.Work.{AllListed, WorkOf};
 ghost use Rattle.pol_distill.specs.Distilled.{filters_at};
 ghost use Rattle.pol_model.specs.After.{state_of};
 ghost use Rattle.pol_model.specs.declared.options.Options.{Options};

@@ -9,7 +9,7 @@ use Rattle.pol_rule.specs.declared.policy.Peer.{Peer}
 use Rattle.pol_rule.specs.declared.policy.Policy.{Policy}
 use Rattle.pol_rule.specs.declared.policy.PolicyKey.{PolicyKey}
 use Rattle.pol_data.proofs.Every.{every-kept, every-weaker}
-use Rattle.pol_change_log.specs.Log.{Log}
+use Rattle.pol_set_changes.specs.Log.{Log}
 use Rattle.pol_selcache.specs.Cache.{Cache, IsPlanFor, IsSound, carried, with_room}
 use Rattle.pol_selcache.specs.Live.{AreExact}
 use Rattle.pol_selcache.specs.Plan.{Plan, changed}

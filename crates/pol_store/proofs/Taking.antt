@@ -11,8 +11,8 @@ use Rattle.pol_model.specs.State.{State}
 use Rattle.pol_selcache.specs.Cache.{Cache}
 use Rattle.pol_selcache.specs.Live.{number_of}
 use Rattle.pol_peers.specs.References.{RefsOf}
-use Rattle.pol_l4.specs.declared.filter.Filters.{Filters}
-use Rattle.pol_l4.specs.Resolved.{filters_for}
+use Rattle.pol_filters.specs.declared.filter.Filters.{Filters}
+use Rattle.pol_filters.specs.Resolved.{filters_for}
 use Rattle.pol_tables.specs.Tables.{endpoint_in}
 use Rattle.pol_prefixes.specs.AddressTable.{number_in}
 use Rattle.pol_taken.specs.declared.taken.Taken.{Taken}

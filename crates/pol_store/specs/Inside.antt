@@ -11,7 +11,7 @@ use Rattle.pol_selcache.specs.Cache.{Cache}
 use Rattle.pol_selcache.specs.Live.{AreExact}
 use Rattle.pol_kept_filters.specs.declared.kept.Kept.{Kept}
 use Rattle.pol_kept_filters.specs.Kept.{AreListedIn}
-use Rattle.pol_lpm.specs.Table.{PrefixMap}
+use Rattle.pol_prefix_table.specs.Table.{PrefixMap}
 use Rattle.pol_prefixes.specs.Tables.{IsTableOf}
 use Rattle.pol_prefixes.specs.AddressTable.{AddressTable, number_in}
 

@@ -7,7 +7,7 @@ use Rattle.pol_model.specs.declared.request.Request.TheVariants.{Apply}
 use Rattle.pol_model.specs.declared.row.Stamped.{Stamped}
 use Rattle.pol_model.specs.State.{State}
 use Rattle.pol_tables.specs.Tables.{SameNumbers}
-use Rattle.pol_change_log.specs.Log.{newest}
+use Rattle.pol_set_changes.specs.Log.{newest}
 use Rattle.pol_selcache.specs.Cache.{Cache}
 use Rattle.pol_selcache.specs.Live.{AreExact}
 use Rattle.pol_rule.specs.Listed.{listed_peers}

@@ -2,7 +2,7 @@
 use Rattle.std.specs.Prelude.{◌≡◌, Bool, List}
 use Rattle.std.specs.Arc.{arc_value}
 use Rattle.pol_labels.specs.declared.label.Label.{Label}
-use Rattle.pol_l4.specs.Resolved.{filters_for}
+use Rattle.pol_filters.specs.Resolved.{filters_for}
 use Rattle.pol_taken.specs.PeerRows.{AreSetsFor}
 use Rattle.pol_store.specs.declared.take.Parts.{Parts}
 use Rattle.pol_store.specs.Store.{Stored}

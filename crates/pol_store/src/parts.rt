@@ -8,7 +8,7 @@ ghost use Rattle.pol_model.specs.Identities.{is_local, released};
 ghost use Rattle.pol_model.specs.Numbers.{placed_by};
 ghost use Rattle.pol_model.specs.Remote.{endpoint_at};
 ghost use Rattle.pol_model_laws.specs.Holding.{has_row};
-ghost use Rattle.pol_change_log.specs.Log.{newest};
+ghost use Rattle.pol_set_changes.specs.Log.{newest};
 ghost use Rattle.pol_selcache.specs.Cache.{IsPlanFor};
 ghost use Rattle.pol_selcache.specs.Live.{label_selectors};
 ghost use Rattle.pol_tables.specs.Tables.{SameNumbers, number_named};

@@ -16,8 +16,8 @@ ghost use Rattle.pol_store.specs.Store.{StandsFor, peers_of};
 
 use crate::store::Store;
 use pol_data::Memory;
+use pol_filters::{Filters, resolve};
 use pol_kept_filters::Kept;
-use pol_l4::{Filters, resolve};
 use pol_labels::LabelSet;
 use pol_model::Endpoint;
 use pol_selcache::SelectorCache;

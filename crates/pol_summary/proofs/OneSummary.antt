@@ -11,7 +11,7 @@ use Rattle.pol_generated.specs.Maps.{HasRoom, most_entries}
 use Rattle.pol_generated.specs.OneRun.{IsRunOfRounds}
 use Rattle.pol_history.specs.declared.event.HistoryEvent.{HistoryEvent}
 use Rattle.pol_model.specs.declared.options.Options.{Options}
-use Rattle.pol_placed.specs.HistoryOfRun.{IsHistoryOf}
+use Rattle.pol_run_laws.specs.HistoryOfRun.{IsHistoryOf}
 use Rattle.pol_run.specs.Run.{IsRun, readings_of}
 use Rattle.pol_run.specs.Spots.{Reading, spots_of}
 use Rattle.pol_script.specs.Lines.{lines_of}

@@ -19,8 +19,8 @@ use Rattle.pol_model_laws.proofs.Keyed.{found_by_number, one_of_number}
 use Rattle.pol_model_laws.proofs.Membership.{In-left, In-list_any, In-right, find-In, list_any-In}
 use Rattle.pol_sets.specs.declared.sets.SetRow.{SetRow}
 use Rattle.pol_sets.specs.Sets.{has_set, is_row_of}
-use Rattle.pol_l4.specs.declared.filter.Filter.{Filter}
-use Rattle.pol_l4.specs.declared.filter.Filters.{Filters}
+use Rattle.pol_filters.specs.declared.filter.Filter.{Filter}
+use Rattle.pol_filters.specs.declared.filter.Filters.{Filters}
 use Rattle.pol_distill.specs.Sorted.{ListHasSets, PeersHaveSets}
 use Rattle.pol_selcache.specs.Live.{AreExact, AreLive, Live, number_of, selector_of}
 use Rattle.pol_rule.specs.Listed.{peers_in}

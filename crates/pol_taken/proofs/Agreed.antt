@@ -25,9 +25,9 @@ use Rattle.pol_model_laws.proofs.Membership.{find-In, found-some}
 use Rattle.pol_model_laws.proofs.StateLaws.{found-init}
 use Rattle.pol_sets.specs.declared.sets.SetRow.{SetRow}
 use Rattle.pol_sets.specs.Sets.{has_set, is_row_of, set_given}
-use Rattle.pol_l4.specs.declared.filter.Filter.{Filter}
-use Rattle.pol_l4.specs.declared.filter.Filters.{Filters}
-use Rattle.pol_l4.specs.FilterParts.{entry_of, filter_parts, filters_of}
+use Rattle.pol_filters.specs.declared.filter.Filter.{Filter}
+use Rattle.pol_filters.specs.declared.filter.Filters.{Filters}
+use Rattle.pol_filters.specs.FilterParts.{entry_of, filter_parts, filters_of}
 use Rattle.pol_distill.specs.Distilled.{distilled, filters_at}
 use Rattle.pol_distill.specs.Sorted.{HaveSets, ListHasSets, PeersHaveSets}
 use Rattle.pol_distill.proofs.FilterLaw.{distilled_is}

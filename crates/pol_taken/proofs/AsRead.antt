@@ -13,11 +13,11 @@ use Rattle.pol_model.specs.declared.row.IdentityRow.{IdentityRow}
 use Rattle.pol_model.specs.Selects.{set_at}
 use Rattle.pol_model_laws.proofs.Membership.{find-In}
 use Rattle.pol_sets.specs.declared.sets.SetRow.{SetRow}
-use Rattle.pol_l4.specs.declared.filter.Filters.{Filters}
-use Rattle.pol_change_log.specs.Log.{Log, newest, newest_of, recorded, shares_chain, unchanged_since}
-use Rattle.pol_change_log.specs.Log.{IsSound as IsLog}
-use Rattle.pol_change_log.proofs.Chained.{unchanged_before, unchanged_within}
-use Rattle.pol_change_log.proofs.LogLemmas.{recorded_sound}
+use Rattle.pol_filters.specs.declared.filter.Filters.{Filters}
+use Rattle.pol_set_changes.specs.Log.{Log, newest, newest_of, recorded, shares_chain, unchanged_since}
+use Rattle.pol_set_changes.specs.Log.{IsSound as IsLog}
+use Rattle.pol_set_changes.proofs.Chained.{unchanged_before, unchanged_within}
+use Rattle.pol_set_changes.proofs.LogLemmas.{recorded_sound}
 use Rattle.pol_selcache.specs.Cache.{Cache, IsPlanFor, IsSound, all_recorded, carried, change_at}
 use Rattle.pol_selcache.specs.Live.{AreExact, Live, number_of}
 use Rattle.pol_selcache.specs.Plan.{Plan, Planned, after_changes, changed, set_in}

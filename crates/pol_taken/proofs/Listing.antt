@@ -20,8 +20,8 @@ use Rattle.pol_model.specs.declared.options.Mode.{Mode}
 use Rattle.pol_model.specs.declared.row.Stamped.{Stamped}
 use Rattle.pol_model.specs.Enforced.{allow_section, deny_section}
 use Rattle.pol_model_laws.proofs.Membership.{list_any-In}
-use Rattle.pol_l4.specs.declared.filter.Filter.{Filter}
-use Rattle.pol_l4.specs.Resolved.{entry_filters, filter_at, filters_for, filters_in, policy_filters, rule_filters}
+use Rattle.pol_filters.specs.declared.filter.Filter.{Filter}
+use Rattle.pol_filters.specs.Resolved.{entry_filters, filter_at, filters_for, filters_in, policy_filters, rule_filters}
 use Rattle.pol_selcache.specs.Live.{Live, number_of}
 use Rattle.pol_rule.specs.Listed.{listed_peers, peers_in, rule_peers, section_peers}
 use Rattle.pol_peers.specs.References.{RefsOf, times_in}

@@ -7,7 +7,7 @@ use Rattle.pol_model.specs.declared.row.IdentityRow.{IdentityRow}
 use Rattle.pol_model.specs.Selects.{set_at}
 use Rattle.pol_sets.specs.declared.sets.SetRow.{SetRow}
 use Rattle.pol_sets.specs.Sets.{has_set}
-use Rattle.pol_change_log.specs.Log.{newest, unchanged_since}
+use Rattle.pol_set_changes.specs.Log.{newest, unchanged_since}
 use Rattle.pol_selcache.specs.Cache.{Cache}
 use Rattle.pol_selcache.specs.Live.{AreExact, number_of}
 

@@ -1,7 +1,7 @@
 //! The rows of the peers that filters list, as they are kept from one take to the next.
 ghost use Rattle.std.specs.Prelude.{◌≡◌, ◌↔◌, ◌==◌, Some, IfOk, IfSome, IsNone, IsSome, IsTrue, false, map};
 ghost use Rattle.std.specs.List.{AllByRecursion};
-ghost use Rattle.pol_l4.specs.declared.filter.Filters.{Filters as AnyFilters};
+ghost use Rattle.pol_filters.specs.declared.filter.Filters.{Filters as AnyFilters};
 ghost use Rattle.pol_selcache.specs.Cache.{IsSound};
 ghost use Rattle.pol_selcache.specs.Live.{number_of};
 ghost use Rattle.pol_taken.specs.Known.{AreUnchanged, IsKnownIn, IsListingOf, Serves, key_of};

@@ -15,7 +15,7 @@ ghost use Rattle.pol_model_laws.specs.WorkedMaps.{app_peer, namespace_label, ord
 ghost use Rattle.pol_selcache.specs.Live.{Live as OneSelector, number_of};
 ghost use Rattle.pol_rule.specs.Listed.{listed_peers};
 ghost use Rattle.pol_peers.specs.References.{RefsOf};
-ghost use Rattle.pol_l4.specs.Resolved.{filters_for};
+ghost use Rattle.pol_filters.specs.Resolved.{filters_for};
 ghost use Rattle.pol_distill.specs.Distilled.{distilled};
 ghost use Rattle.pol_taken.specs.declared.taken.Taken.{Taken as OneTaken};
 ghost use Rattle.pol_taken.specs.OfState.{IsTakenOf};

@@ -3,7 +3,7 @@ ghost use Rattle.std.specs.Prelude.{◌≡◌, ◌++◌, IfOk, OnOk, map};
 ghost use Rattle.pol_taken.specs.PeerRows.{filter_peers, list_peers};
 
 use pol_data::Memory;
-use pol_l4::{Filter, Filters};
+use pol_filters::{Filter, Filters};
 use pol_rule::{Peer, push_listed};
 use std::alloc::Global;
 

@@ -8,7 +8,7 @@ ghost use Rattle.pol_taken.specs.PeerRows.{AreRowsFor, AreSetsFor, IsLiveRow, fi
 use crate::listed::listed_peers;
 use crate::rows::Rows;
 use pol_data::Memory;
-use pol_l4::Filters;
+use pol_filters::Filters;
 use pol_rule::Peer;
 use pol_selcache::SelectorCache;
 use pol_sets::{SetRow, Sets, SharedPeer};

@@ -1,5 +1,5 @@
 //! What an endpoint's policy map is made of, at one revision.
-use pol_l4::Filters;
+use pol_filters::Filters;
 use pol_model::Endpoint;
 use pol_prefixes::Addresses;
 use pol_sets::{Moves, Sets};

@@ -4,13 +4,13 @@ use Rattle.std.specs.Prelude.{if◌then◌else◌}
 use Rattle.std.specs.List.{list_any, zip}
 use Rattle.std.specs.Io.KnownBytes.{Appends}
 use Rattle.std.proofs.lemmas.List.{length-map}
-use Rattle.pol_base.specs.Bytes.{AppendsPart}
+use Rattle.pol_streams.specs.Bytes.{AppendsPart}
 use Rattle.pol_answer.specs.Text.{texts_of}
 use Rattle.pol_answer.specs.declared.answer.Answer.{Answer}
 use Rattle.pol_history.specs.declared.event.HistoryEvent.{HistoryEvent}
 use Rattle.pol_history.specs.Legal.{IsLegal}
 use Rattle.pol_model.specs.declared.options.Options.{Options}
-use Rattle.pol_placed.specs.HistoryOfRun.{IsHistoryOf}
+use Rattle.pol_run_laws.specs.HistoryOfRun.{IsHistoryOf}
 use Rattle.pol_script.specs.Lines.{lines_of}
 use Rattle.pol_script.specs.Reading.{reading_of}
 use Rattle.pol_run.specs.Run.{IsRun, IsRunOf, is_marked, readings_of}

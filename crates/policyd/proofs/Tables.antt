@@ -2,7 +2,7 @@
 use Rattle.std.proofs.Common.{◌≡◌, ℕ, ◌+◌, ◌==◌, ◌≤◌, Bool, true, false, not, ◌||◌, nat_lt, cond, List, [], ◌∷◌, ◌++◌, count_by, length, Option, IsTrue, refl, ap, sym, ◌∙◌, subst, arith, ltb-false}
 use Rattle.std.specs.Prelude.{if◌then◌else◌}
 use Rattle.std.specs.Io.KnownBytes.{Appends}
-use Rattle.pol_base.specs.Bytes.{AppendsPart}
+use Rattle.pol_streams.specs.Bytes.{AppendsPart}
 use Rattle.pol_data.proofs.Counts.{count_by-cons}
 use Rattle.pol_compare.specs.Finding.{is_same}
 use Rattle.pol_compare.specs.Parts.{IsFew}

@@ -2,7 +2,7 @@
 use Rattle.std.specs.Prelude.{◌≡◌, ℕ, Bool, not, if◌then◌else◌, List, length, Option, Some}
 use Rattle.std.specs.Io.KnownBytes.{Appends}
 use Rattle.std.specs.List.{zip}
-use Rattle.pol_base.specs.Bytes.{AppendsPart}
+use Rattle.pol_streams.specs.Bytes.{AppendsPart}
 use Rattle.pol_answer.specs.Text.{texts_of}
 use Rattle.pol_answer.specs.declared.answer.Answer.{Answer}
 use Rattle.pol_compare.specs.declared.finding.Finding.{Finding}
@@ -13,7 +13,7 @@ use Rattle.pol_generated.specs.HistoryOfRounds.{IsHistoryOfRounds}
 use Rattle.pol_history.specs.Legal.{IsLegal}
 use Rattle.pol_map_dump.specs.AtEnd.{is_live, map_text}
 use Rattle.pol_model.specs.declared.options.Options.{Options}
-use Rattle.pol_placed.specs.HistoryOfRun.{IsHistoryOf}
+use Rattle.pol_run_laws.specs.HistoryOfRun.{IsHistoryOf}
 use Rattle.pol_script.specs.Lines.{lines_of}
 use Rattle.pol_run.specs.History.{history_of}
 use Rattle.pol_run.specs.Run.{IsRunOf, readings_of}

@@ -1,8 +1,8 @@
 //! How two tables differ is written to a sink.
 ghost use Rattle.std.specs.Prelude.{◌≡◌, ◌⊎◌, IfOk, IfSome, IsSomeAnd, IsTrue};
 ghost use Rattle.std.specs.Io.KnownBytes.{IsAtEnd, Keeps};
-ghost use Rattle.pol_base.specs.Faults.{Rose, DidNotRise};
-ghost use Rattle.pol_base.specs.Bytes.{ConsumesSome};
+ghost use Rattle.pol_streams.specs.Faults.{Rose, DidNotRise};
+ghost use Rattle.pol_streams.specs.Bytes.{ConsumesSome};
 ghost use Rattle.policyd.specs.Script.{is_too_long, fits_limits};
 ghost use Rattle.policyd.specs.Headline.{TellsFinding, WritesFinding, WritesPartOfFinding};
 ghost use Rattle.policyd.specs.Ends.{is_answered, has_read_all, is_silent, status_number};
@@ -10,9 +10,9 @@ ghost use Rattle.policyd.specs.Ends.{is_answered, has_read_all, is_silent, statu
 use crate::source::script_of;
 use crate::status::Status;
 use crate::text::write_text;
-use pol_base::{Sink, Source};
 use pol_compare::{compare, finding_text};
 use pol_data::Memory;
+use pol_streams::{Sink, Source};
 use std::alloc::Global;
 
 /// Reads the whole text of two tables, and writes what is found of them.

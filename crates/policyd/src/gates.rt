@@ -3,8 +3,8 @@
 use super::play::play_gated;
 use super::status::Status;
 use super::tests::{ANSWERS, SCRIPT};
-use pol_base::{MemSink, MemSource};
-use pol_pool::Gate;
+use pol_hints::Gate;
+use pol_streams::{MemSink, MemSource};
 use std::alloc::{AllocError as Memory, Global};
 use std::sync::Wait;
 use std::sync::atomic::{AtomicBool, AtomicU32, Ordering};

@@ -1,8 +1,8 @@
 //! A generated script is played, and its summary is written to a sink.
 ghost use Rattle.std.specs.Prelude.{◌≡◌, ◌≤◌, ◌⊎◌, None, IsSomeAnd, IsTrue, false};
 ghost use Rattle.std.specs.Io.KnownBytes.{Appends, Keeps};
-ghost use Rattle.pol_base.specs.Faults.{Rose};
-ghost use Rattle.pol_base.specs.Bytes.{AppendsPart};
+ghost use Rattle.pol_streams.specs.Faults.{Rose};
+ghost use Rattle.pol_streams.specs.Bytes.{AppendsPart};
 ghost use Rattle.pol_generated.specs.Maps.{HasRoom, most_entries};
 ghost use Rattle.pol_summary.specs.Summary.{summary};
 ghost use Rattle.policyd.specs.Ends.{is_answered};
@@ -10,10 +10,10 @@ ghost use Rattle.policyd.specs.Headline.{LeavesRounds};
 
 use crate::played::Played;
 use crate::status::Status;
-use pol_base::{Failed, Sink, write_all};
 use pol_data::Memory;
+use pol_hints::Gate;
 use pol_model::Options;
-use pol_pool::Gate;
+use pol_streams::{Failed, Sink, write_all};
 use pol_summary::summary_of;
 use std::alloc::Global;
 use std::sync::Wait;

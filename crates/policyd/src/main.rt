@@ -24,7 +24,7 @@ mod tests;
 mod text;
 
 use play::play;
-use pol_base::{IoSink, IoSource};
+use pol_streams::{IoSink, IoSource};
 use status::Status;
 use std::process::ExitCode;
 use std::{env, io};

@@ -1,8 +1,8 @@
 //! The map that a script leaves an endpoint with is written to a sink.
 ghost use Rattle.std.specs.Prelude.{◌≡◌, ◌⊎◌, None, IfSome, IsSomeAnd, IsTrue};
 ghost use Rattle.std.specs.Io.KnownBytes.{IsAtEnd, Keeps};
-ghost use Rattle.pol_base.specs.Faults.{Rose, DidNotRise};
-ghost use Rattle.pol_base.specs.Bytes.{AppendsPart, ConsumesSome};
+ghost use Rattle.pol_streams.specs.Faults.{Rose, DidNotRise};
+ghost use Rattle.pol_streams.specs.Bytes.{AppendsPart, ConsumesSome};
 ghost use Rattle.pol_map_dump.specs.AtEnd.{map_text};
 ghost use Rattle.policyd.specs.Script.{is_too_long, fits_limits};
 ghost use Rattle.policyd.specs.Headline.{WritesMap};
@@ -11,10 +11,10 @@ ghost use Rattle.policyd.specs.Ends.{is_answered, has_read_all, is_silent, statu
 use crate::source::script_of;
 use crate::status::Status;
 use crate::text::write_text;
-use pol_base::{Sink, Source};
 use pol_data::Memory;
 use pol_map_dump::map_at_end;
 use pol_model::Options;
+use pol_streams::{Sink, Source};
 use std::alloc::Global;
 
 /// Reads the whole script, commits its requests in their order, and writes the map of the endpoint of that name.

@@ -1,8 +1,8 @@
 //! All that the program does, over any source and sink.
 ghost use Rattle.std.specs.Prelude.{◌≡◌, ◌⊎◌, map, string_bytes, None, IfSome, IsSomeAnd, IsTrue, true, false, is_some};
 ghost use Rattle.std.specs.Io.KnownBytes.{Appends, IsAtEnd, Keeps};
-ghost use Rattle.pol_base.specs.Faults.{Rose, DidNotRise};
-ghost use Rattle.pol_base.specs.Bytes.{AppendsPart, ConsumesSome};
+ghost use Rattle.pol_streams.specs.Faults.{Rose, DidNotRise};
+ghost use Rattle.pol_streams.specs.Bytes.{AppendsPart, ConsumesSome};
 ghost use Rattle.pol_command_line.specs.Given.{words_given};
 ghost use Rattle.pol_map_dump.specs.AtEnd.{map_text};
 ghost use Rattle.pol_summary.specs.Summary.{summary};
@@ -17,10 +17,10 @@ use crate::map::play_map;
 use crate::played::Played;
 use crate::source::play_source;
 use crate::status::Status;
-use pol_base::{Sink, Source};
 use pol_command_line::{Task, Words, WordsError, read_words};
+use pol_hints::{Gate, OpenGate};
 use pol_model::Options;
-use pol_pool::{Gate, OpenGate};
+use pol_streams::{Sink, Source};
 use std::alloc::Global;
 use std::sync::Wait;
 use std::thread::Threads;

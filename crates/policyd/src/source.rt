@@ -2,8 +2,8 @@
 ghost use Rattle.std.specs.Prelude.{◌≡◌, ◌≤◌, ◌⊎◌, None, IfOk, IfErr, IfSome, IsErrOf, IsSomeAnd, OnOk, IsTrue, false, if◌then◌else◌};
 ghost use Rattle.std.specs.Io.KnownBytes.{IsAtEnd, Keeps};
 ghost use Rattle.std.specs.List.{list_any};
-ghost use Rattle.pol_base.specs.Faults.{Rose, DidNotRise};
-ghost use Rattle.pol_base.specs.Bytes.{ConsumesSome};
+ghost use Rattle.pol_streams.specs.Faults.{Rose, DidNotRise};
+ghost use Rattle.pol_streams.specs.Bytes.{ConsumesSome};
 ghost use Rattle.pol_run.specs.Run.{IsRunOf, is_marked};
 ghost use Rattle.policyd.specs.Script.{is_too_long, fits_limits};
 ghost use Rattle.policyd.specs.Headline.{HoldsText, LeavesHistory, WritesRun, WritesPartOfRun};
@@ -12,14 +12,14 @@ ghost use Rattle.policyd.specs.Ends.{is_answered, has_read_all, is_silent, statu
 use crate::played::Played;
 use crate::status::Status;
 use pol_answer::Answer;
-use pol_base::{Failed, ReadAllError, Sink, Source, read_all, write_all};
 use pol_data::Memory;
+use pol_hints::Gate;
 use pol_history_log::SeenHistory;
 use pol_model::Options;
 use pol_parallel_lines::print_answers;
 use pol_play_lines::play_lines;
-use pol_pool::Gate;
 use pol_script::count_lines;
+use pol_streams::{Failed, ReadAllError, Sink, Source, read_all, write_all};
 use std::alloc::Global;
 use std::sync::Wait;
 use std::thread::Threads;

@@ -2,7 +2,7 @@
 //! program's stored one.
 use super::play::play;
 use super::status::Status;
-use pol_base::{MemSink, MemSource};
+use pol_streams::{MemSink, MemSource};
 use std::alloc::Global;
 use std::test::Fail;
 

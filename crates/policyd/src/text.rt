@@ -1,13 +1,13 @@
 //! A text is written to a sink.
 ghost use Rattle.std.specs.Prelude.{◌≡◌, IsTrue, if◌then◌else◌};
 ghost use Rattle.std.specs.Io.KnownBytes.{Appends};
-ghost use Rattle.pol_base.specs.Faults.{Rose};
-ghost use Rattle.pol_base.specs.Bytes.{AppendsPart};
+ghost use Rattle.pol_streams.specs.Faults.{Rose};
+ghost use Rattle.pol_streams.specs.Bytes.{AppendsPart};
 ghost use Rattle.policyd.specs.Ends.{has_read_all, is_answered, status_number};
 
 use crate::source::end_of;
 use crate::status::Status;
-use pol_base::{Failed, Sink, write_all};
+use pol_streams::{Failed, Sink, write_all};
 
 /// Writes the whole text; the end is marked or clean.
 pub(crate) fn write_text<K: Sink>(text: &[u8], marked: bool, sink: &mut K) -> Status

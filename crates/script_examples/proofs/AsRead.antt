@@ -14,9 +14,9 @@ use Rattle.pol_json.specs.Members.{text_at}
 use Rattle.pol_json.specs.Network.{is_network_policy}
 use Rattle.pol_json.specs.Texts.{is_name}
 use Rattle.pol_json.specs.declared.fault.DocFault.{DocFault}
-use Rattle.pol_k8s.specs.Document as net
-use Rattle.pol_k8s.specs.Translated.{translated_of}
-use Rattle.pol_k8s.specs.declared.raw.RawNetworkPolicy.{RawNetworkPolicy}
+use Rattle.pol_netpol.specs.Document as net
+use Rattle.pol_netpol.specs.Translated.{translated_of}
+use Rattle.pol_netpol.specs.declared.raw.RawNetworkPolicy.{RawNetworkPolicy}
 use Rattle.pol_labels.proofs.GrammarLemmas.{IsTextOf-from_read_label}
 use Rattle.pol_labels.specs.declared.label.Label.{Label}
 use Rattle.pol_labels.specs.LabelText.{read_label}

@@ -11,7 +11,7 @@ use Rattle.pol_addr.specs.Grammar.{WritesAddr}
 use Rattle.pol_json.specs.Members.{is_null, items_list}
 use Rattle.pol_json.specs.Network.{is_network_policy}
 use Rattle.pol_json.specs.Texts.{is_name}
-use Rattle.pol_k8s.specs.Document.{of_document, of_object}
+use Rattle.pol_netpol.specs.Document.{of_document, of_object}
 use Rattle.pol_labels.proofs.GrammarLemmas.{read_label-from_IsTextOf}
 use Rattle.pol_labels.specs.declared.label.Label.{Label}
 use Rattle.pol_labels.specs.LabelText.{read_label}

@@ -8,8 +8,8 @@ use Rattle.document_laws.specs.Written.{document_of}
 use Rattle.pol_addr.specs.declared.address.Addr.{Addr}
 use Rattle.pol_addr.specs.Grammar.{WritesAddr}
 use Rattle.pol_json.specs.Texts.{is_name}
-use Rattle.pol_k8s.specs.Translated.{translated_of}
-use Rattle.pol_k8s.specs.declared.raw.RawNetworkPolicy.{RawNetworkPolicy}
+use Rattle.pol_netpol.specs.Translated.{translated_of}
+use Rattle.pol_netpol.specs.declared.raw.RawNetworkPolicy.{RawNetworkPolicy}
 use Rattle.pol_labels.specs.declared.label.Label.{Label}
 use Rattle.pol_labels.specs.Grammar.{IsTextOf}
 use Rattle.pol_labels.specs.Order.{label_set_of}

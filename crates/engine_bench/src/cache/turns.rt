@@ -1,6 +1,6 @@
 //! An identity that comes and goes.
 ghost use Rattle.std.specs.Prelude.{◌≡◌, ◌+◌, ◌<◌, ◌≤◌, ◌^◌, ◌∷◌, [], List, true, false, None, IfSome, IsTrue};
-ghost use Rattle.pol_change_log.specs.Log.{newest};
+ghost use Rattle.pol_set_changes.specs.Log.{newest};
 ghost use Rattle.pol_model_laws.specs.Holding.{has_row};
 ghost use Rattle.pol_model.specs.Fault.{has_reserved};
 ghost use Rattle.pol_model.specs.Identities.{number_of_labels};

@@ -5,7 +5,7 @@ ghost use Rattle.engine_bench.specs.Turns.{AllAt, AreNumbered, Extends, FilterAt
 
 use crate::filter::{enforced, filter, peer, port};
 use pol_data::Memory;
-use pol_l4::{Filter, FilterList, Filters};
+use pol_filters::{Filter, FilterList, Filters};
 use pol_rule::PortSpecs;
 use pol_sets::{IdSet, Move, Moves, SetRow, Sets, SharedPeer};
 use std::alloc::Global;

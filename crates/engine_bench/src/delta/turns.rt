@@ -6,8 +6,8 @@ ghost use Rattle.engine_bench.specs.Turns.{AreNumbered, Extends, IsAt, Turns, el
 
 use crate::delta::inputs::{eleven, moves, rows, ten};
 use pol_data::Memory;
-use pol_delta::{Changes, Work};
-use pol_l4::Filters;
+use pol_filters::Filters;
+use pol_kept_map::{Changes, Work};
 use pol_sets::IdSet;
 use std::alloc::Global;
 use std::sync::Arc;

@@ -1,9 +1,9 @@
 use Rattle.std.proofs.Common.{IfOk, sym, subst, ◌∙◌}
 use Rattle.std.proofs.lemmas.Result.{IfOk-weaker}
 use Rattle.std.specs.Arc.{arc_value}
-use Rattle.pol_l4.specs.declared.filter.Filters.{Filters}
+use Rattle.pol_filters.specs.declared.filter.Filters.{Filters}
 use Rattle.pol_distill.specs.Sorted.{HaveSets}
-use Rattle.pol_delta.specs.Work.{IsWorkOf}
+use Rattle.pol_kept_map.specs.Work.{IsWorkOf}
 use Rattle.engine_bench.specs.Turns.{IsAt, ten}
 use Rattle.engine_bench.proofs.Turning.{arrives}
 use Rattle.engine_bench.proofs.delta.first_work.Goals as goal

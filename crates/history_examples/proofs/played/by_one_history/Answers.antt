@@ -2,7 +2,7 @@ use Rattle.std.proofs.Common.{◌≡◌, [], ◌∷◌, refl, arith}
 use Rattle.pol_answer.specs.declared.answer.Answer.TheVariants as answer
 use Rattle.pol_run.specs.ExampleLines.{unlimited}
 use Rattle.pol_script.specs.declared.line_fault.LineFault.TheVariants.{Json, NoOp}
-use Rattle.pol_placed.proofs.Placing.{placed_so}
+use Rattle.pol_run_laws.proofs.Placing.{placed_so}
 use Rattle.history_examples.specs.Sessions as sessions
 use Rattle.history_examples.proofs.played.by_one_history.Goals as goal
 

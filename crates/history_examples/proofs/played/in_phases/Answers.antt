@@ -6,9 +6,9 @@ use Rattle.pol_history.proofs.Lists.{no_element}
 use Rattle.pol_history.proofs.Small.{some_same}
 use Rattle.pol_run.specs.ExampleLines.{add_web, unlimited}
 use Rattle.pol_history.specs.Grows.{nothing_yet}
-use Rattle.pol_placed.specs.Cut.{AreSeated, script_of}
-use Rattle.pol_placed.specs.Seats.{AreNewSeats, ArePhases}
-use Rattle.pol_placed.proofs.SeatedLines.{phases_played}
+use Rattle.pol_run_laws.specs.Cut.{AreSeated, script_of}
+use Rattle.pol_run_laws.specs.Seats.{AreNewSeats, ArePhases}
+use Rattle.pol_run_laws.proofs.SeatedLines.{phases_played}
 use Rattle.history_examples.specs.Sessions as sessions
 use Rattle.history_examples.proofs.played.in_phases.Goals as goal
 

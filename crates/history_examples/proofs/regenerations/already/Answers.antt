@@ -7,7 +7,7 @@ use Rattle.pol_history.specs.ExampleEvents.{at_most, web_since}
 use Rattle.pol_history.specs.Reports.{last_report}
 use Rattle.pol_history.proofs.Lists.{no_element}
 use Rattle.pol_history.proofs.Small.{some_same, web_row}
-use Rattle.pol_placed.proofs.Sole.{only_live}
+use Rattle.pol_run_laws.proofs.Sole.{only_live}
 use Rattle.history_examples.specs.Histories as history
 use Rattle.history_examples.proofs.OneEndpoint.{not_first, only_slot}
 use Rattle.history_examples.proofs.regenerations.already.Goals as goal

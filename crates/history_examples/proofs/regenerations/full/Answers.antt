@@ -5,7 +5,7 @@ use Rattle.pol_history.specs.Commits.{state_after}
 use Rattle.pol_history.specs.ExampleEvents.{at_most, web_since}
 use Rattle.pol_history.proofs.Lists.{no_element}
 use Rattle.pol_history.proofs.Small.{web_row}
-use Rattle.pol_placed.proofs.Places.{element_at}
+use Rattle.pol_run_laws.proofs.Places.{element_at}
 use Rattle.history_examples.specs.Histories as history
 use Rattle.history_examples.proofs.OneEndpoint.{HasTwo, not_first, only_slot}
 use Rattle.history_examples.proofs.regenerations.full.Goals as goal

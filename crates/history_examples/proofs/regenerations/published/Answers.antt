@@ -6,7 +6,7 @@ use Rattle.pol_history.specs.Commits.{state_after}
 use Rattle.pol_history.specs.ExampleEvents.{all_in, all_out, at_most, open_map, web_since}
 use Rattle.pol_history.specs.Reports.{map_at}
 use Rattle.pol_history.proofs.Small.{web_row}
-use Rattle.pol_placed.proofs.Places.{element_at}
+use Rattle.pol_run_laws.proofs.Places.{element_at}
 use Rattle.std.specs.Prelude.{Some}
 use Rattle.history_examples.specs.Histories as history
 use Rattle.history_examples.proofs.OneEndpoint.{IsEmptyOfWeb, IsNoReport, not_first, only_slot, two_are_none}

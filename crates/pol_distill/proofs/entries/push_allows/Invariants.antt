@@ -3,7 +3,7 @@ use Rattle.std.specs.List.{flat_map}
 use Rattle.pol_mapkey.specs.declared.Kind.TheVariants.{Allow}
 use Rattle.pol_model.specs.PolicyMap.{entry_entries}
 use Rattle.pol_sets.specs.Sets.{set_given}
-use Rattle.pol_l4.specs.FilterParts.{allowing}
+use Rattle.pol_filters.specs.FilterParts.{allowing}
 use Rattle.pol_distill.proofs.entries.push_allows.Given as goal
 
 -- what is appended so far and what is left are the entries of all

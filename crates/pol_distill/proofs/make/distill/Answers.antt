@@ -2,7 +2,7 @@ use Rattle.std.proofs.Common.{◌≡◌, sym, subst}
 use Rattle.std.specs.List.{AllByRecursion}
 use Rattle.pol_model.specs.PolicyMap.{canonical, raw_entries}
 use Rattle.pol_sets.specs.Sets.{set_given}
-use Rattle.pol_l4.specs.FilterParts.{filter_parts}
+use Rattle.pol_filters.specs.FilterParts.{filter_parts}
 use Rattle.pol_distill.specs.Sorted.{IsSmall, IsTable}
 use Rattle.pol_distill.proofs.OnePass.{canonical_is_table}
 use Rattle.pol_distill.proofs.Small.{raw_small}

@@ -1,5 +1,5 @@
 use Rattle.std.proofs.Common.{sym, ◌∙◌, ◌++◌}
-use Rattle.pol_change_list.specs.Changes.{difference_at}
+use Rattle.pol_map_changes.specs.Changes.{difference_at}
 use Rattle.pol_entry_tally.specs.declared.cells.Side.TheVariants.{Before, After}
 use Rattle.pol_entry_tally.specs.Affected.{change_at, says}
 use Rattle.pol_entry_tally.specs.Counted.{cells_of, times_on}

@@ -1,6 +1,6 @@
 use Rattle.std.proofs.Common.{◌-◌, ◌<◌, ◌≤◌, ◌∷◌, [], ◌++◌, List, length, drop, refl, sym, ap, ◌∙◌, arith}
 use Rattle.pol_answer.specs.declared.answer.Answer.{Answer}
-use Rattle.pol_placed.specs.Cut.{first_answer}
+use Rattle.pol_run_laws.specs.Cut.{first_answer}
 use Rattle.pol_phases.proofs.CutLines.{on_ok, session-changed, session-none, session-past, session-there}
 use Rattle.pol_phases.proofs.back.push_next.Goals as goal
 

@@ -1,5 +1,5 @@
 use Rattle.std.proofs.Common.{◌∙◌, drop, ap}
-use Rattle.pol_placed.specs.Cut.{first_phase}
+use Rattle.pol_run_laws.specs.Cut.{first_phase}
 use Rattle.pol_phases.specs.Marks.{beside}
 use Rattle.pol_phases.proofs.TwoParts.{joined_so}
 use Rattle.pol_phases.proofs.joining.joined.Goals as goal

@@ -1,5 +1,5 @@
 use Rattle.std.proofs.Common.{ap, ◌∙◌}
-use Rattle.pol_change_log.specs.Ids.{has}
+use Rattle.pol_set_changes.specs.Ids.{has}
 use Rattle.pol_prefixes.proofs.Goes.{gone_beyond}
 use Rattle.pol_prefixes.proofs.Results.{if_ok}
 use Rattle.pol_prefixes.proofs.gone.gone_numbers.Goals as goal

@@ -1,7 +1,7 @@
 use Rattle.std.proofs.Common.{◌<◌, ◌^◌, ap, sym, subst, ◌∙◌}
 use Rattle.std.specs.List.Sorted.{IsStrictlySortedBy}
 use Rattle.std.specs.Ordering.{nat_cmp}
-use Rattle.pol_change_log.specs.Ids.{has}
+use Rattle.pol_set_changes.specs.Ids.{has}
 use Rattle.pol_data.proofs.Members.{All-from_Contains, In-from_Contains}
 use Rattle.pol_headings.specs.Filed.{is_filed}
 use Rattle.pol_selcache.proofs.Numbers.{has-In, strict_from_ascends}

@@ -1,7 +1,7 @@
 use Rattle.std.proofs.Common.{◌≡◌, ◌&&◌, ◌||◌, not, filter, ap, sym, ◌∙◌}
 use Rattle.std.specs.Arc.{arc_value}
 use Rattle.pol_model.specs.Selects.{set_at}
-use Rattle.pol_change_log.specs.Ids.{has}
+use Rattle.pol_set_changes.specs.Ids.{has}
 use Rattle.pol_selectors.specs.Inside.{live_of}
 use Rattle.pol_selcache.specs.Live.{rows_without}
 use Rattle.pol_selcache.proofs.Moves.{gained_is, lost_is, moved_is}

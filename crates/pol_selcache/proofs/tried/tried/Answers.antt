@@ -1,5 +1,5 @@
 use Rattle.std.proofs.Common.{◌≡◌, true, sym, ◌∙◌}
-use Rattle.pol_change_log.specs.Ids.{has}
+use Rattle.pol_set_changes.specs.Ids.{has}
 use Rattle.pol_data.proofs.Members.{every-from_in}
 use Rattle.pol_headings.specs.Heading.{heading_of}
 use Rattle.pol_headings.specs.Tried.{is_among}

@@ -1,5 +1,5 @@
 use Rattle.std.proofs.Common.{rules}
-use Rattle.pol_placed.specs.Seats.{HasGoneOn, HaveGoneOn}
+use Rattle.pol_run_laws.specs.Seats.{HasGoneOn, HaveGoneOn}
 use Rattle.pol_sessions.proofs.phase.+sessions.Goals as goal
 
 pub play_at_once-returns : goal.play_at_once-returns

@@ -1,4 +1,4 @@
-use Rattle.pol_placed.proofs.OneMore.{session_more}
+use Rattle.pol_run_laws.proofs.OneMore.{session_more}
 use Rattle.pol_sessions.proofs.phase.more.Goals as goal
 
 pub returns : goal.returns

@@ -2,7 +2,7 @@ use Rattle.std.proofs.Common.{◌≡◌, ℕ, List, length, map, sym, ap, subst,
 use Rattle.std.proofs.lemmas.List.{length-map}
 use Rattle.pol_history.specs.Grows.{PassState}
 use Rattle.pol_history.specs.Meet.{HaveMet, meetings_of}
-use Rattle.pol_placed.proofs.OneMore.{phase_of}
+use Rattle.pol_run_laws.proofs.OneMore.{phase_of}
 use Rattle.pol_sessions.proofs.Seats.{written-whole}
 use Rattle.pol_sessions.proofs.phase.play_phase.Goals as goal
 

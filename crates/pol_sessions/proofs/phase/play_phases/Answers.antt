@@ -1,7 +1,7 @@
 use Rattle.std.proofs.Common.{List, sym, subst}
 use Rattle.pol_answer.specs.declared.answer.Answer.{Answer}
 use Rattle.pol_script.specs.declared.command.Command.{Command}
-use Rattle.pol_placed.specs.Seats.{IsPhase}
+use Rattle.pol_run_laws.specs.Seats.{IsPhase}
 use Rattle.pol_sessions.proofs.Seats.{played-first, played-more}
 use Rattle.pol_sessions.proofs.phase.play_phases.Goals as goal
 

@@ -1,7 +1,7 @@
 use Rattle.std.proofs.Common.{◌≡◌, IfOk, IfSome, IsSome, sym, ◌∙◌, subst}
 use Rattle.std.specs.Arc.{arc_value}
 use Rattle.std.specs.List.{AllByRecursion}
-use Rattle.pol_l4.specs.declared.filter.Filters.{Filters}
+use Rattle.pol_filters.specs.declared.filter.Filters.{Filters}
 use Rattle.pol_sets.specs.declared.sets.SetRow.{SetRow}
 use Rattle.pol_selcache.specs.Live.{number_of}
 use Rattle.pol_taken.specs.Known.{IsKnownIn, IsListingOf, KnownRows}

@@ -1,6 +1,6 @@
 use Rattle.std.proofs.Common.{IsSome, sym, subst}
 use Rattle.std.specs.List.{AllByRecursion}
-use Rattle.pol_l4.specs.declared.filter.Filters.{Filters}
+use Rattle.pol_filters.specs.declared.filter.Filters.{Filters}
 use Rattle.pol_selcache.specs.Live.{number_of}
 use Rattle.pol_taken.specs.PeerRows.{AreSetsFor, filter_peers}
 use Rattle.pol_store.proofs.take.parts_with.Goals as goal

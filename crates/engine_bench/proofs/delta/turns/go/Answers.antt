@@ -1,7 +1,7 @@
 use Rattle.std.proofs.Common.{sym, subst}
 use Rattle.std.specs.Arc.{arc_value}
-use Rattle.pol_l4.specs.declared.filter.Filters.{Filters}
-use Rattle.pol_delta.specs.Applies.{NamesFilters, PlacesDiffer}
+use Rattle.pol_filters.specs.declared.filter.Filters.{Filters}
+use Rattle.pol_kept_map.specs.Applies.{NamesFilters, PlacesDiffer}
 use Rattle.engine_bench.specs.Turns.{eleven, ten}
 use Rattle.engine_bench.proofs.Numbered.{names, places}
 use Rattle.engine_bench.proofs.Turning.{arrives, tells}

@@ -1,7 +1,7 @@
 use Rattle.std.proofs.Common.{◌<◌, List, IfSome, if◌then◌else◌, ◌∷◌, [], is_some, ap, sym, subst, ◌∙◌}
 use Rattle.std.proofs.lemmas.Bool.{false_from_ne_true}
 use Rattle.std.specs.Arc.{arc_value}
-use Rattle.pol_change_log.specs.Log.{newest}
+use Rattle.pol_set_changes.specs.Log.{newest}
 use Rattle.pol_model.specs.declared.row.IdentityRow.{IdentityRow}
 use Rattle.pol_model.specs.Fault.{is_exhausted}
 use Rattle.pol_model.specs.Identities.{is_local, released}
@@ -10,7 +10,7 @@ use Rattle.pol_model_laws.proofs.HoldingLaws.{held_has}
 use Rattle.pol_model_laws.proofs.RowLaws.{labels_undone}
 use Rattle.pol_selcache.specs.Cache.{Cache, MayPlan}
 use Rattle.pol_selcache.specs.Live.{AreExact}
-use Rattle.pol_lpm.specs.Table.{PrefixMap}
+use Rattle.pol_prefix_table.specs.Table.{PrefixMap}
 use Rattle.pol_prefixes.specs.Tables.{IsTableOf}
 use Rattle.pol_prefixes.proofs.Numbers.{number_of_labelled}
 use Rattle.pol_allocator.specs.Held.{Held}

@@ -1,5 +1,5 @@
 use Rattle.std.proofs.Common.{ap, sym, subst}
-use Rattle.pol_change_log.specs.Log.{newest}
+use Rattle.pol_set_changes.specs.Log.{newest}
 use Rattle.pol_selcache.specs.Live.{AreExact}
 use Rattle.pol_rule.specs.Listed.{listed_peers}
 use Rattle.pol_allocator.specs.Held.{Held, RefersTo}

@@ -1,6 +1,6 @@
 use Rattle.std.proofs.Common.{sym, subst, ◌∙◌}
 use Rattle.std.specs.Arc.{arc_value}
-use Rattle.pol_lpm.specs.Table.{PrefixMap}
+use Rattle.pol_prefix_table.specs.Table.{PrefixMap}
 use Rattle.pol_prefixes.specs.Tables.{IsTableOf}
 use Rattle.pol_prefixes.proofs.Numbers.{number_of_left}
 use Rattle.pol_allocator.proofs.Sharing.{each_some}

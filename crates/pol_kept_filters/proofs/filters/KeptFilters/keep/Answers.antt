@@ -1,7 +1,7 @@
 use Rattle.std.proofs.Common.{sym, subst, ◌∙◌}
 use Rattle.std.specs.Arc.{arc_value}
-use Rattle.pol_l4.specs.declared.filter.Filters.{Filters}
-use Rattle.pol_l4.specs.Resolved.{filters_for}
+use Rattle.pol_filters.specs.declared.filter.Filters.{Filters}
+use Rattle.pol_filters.specs.Resolved.{filters_for}
 use Rattle.pol_taken.specs.Known.{IsKnownIn, IsListingOf, KnownRows}
 use Rattle.pol_taken.specs.PeerRows.{filter_peers}
 use Rattle.pol_kept_filters.proofs.filters.KeptFilters.keep.Goals as goal

@@ -3,7 +3,7 @@ use Rattle.std.proofs.Common.{◌≡◌, ◌↔◌, ◌∙◌, ℕ, None, IsErrO
 use Rattle.std.specs.Arc.{arc_value}
 use Rattle.std.proofs.lemmas.Option.{IfSome_then}
 use Rattle.std.proofs.lemmas.Result.{IfOk-weaker}
-use Rattle.pol_moves.specs.Moves.{TellsMovesSince}
+use Rattle.pol_set_moves.specs.Moves.{TellsMovesSince}
 use Rattle.pol_distill.specs.Distilled.{distilled}
 use Rattle.pol_history.specs.Commits.{commits_in, revision_of, state_now}
 use Rattle.pol_history.specs.Machine.{endpoint_in}

@@ -2,8 +2,8 @@ use Rattle.std.proofs.Common.{◌∷◌, [], List, None, ℕ, ap, refl, subst, s
 use Rattle.std.specs.Vec.{vec_capacity}
 use Rattle.pol_model.specs.declared.options.Options.{Options}
 use Rattle.pol_model.specs.declared.request.Request.{Request}
-use Rattle.pol_moves.specs.Chained.{IsChained}
-use Rattle.pol_moves.proofs.Chains.{chain_starts}
+use Rattle.pol_set_moves.specs.Chained.{IsChained}
+use Rattle.pol_set_moves.proofs.Chains.{chain_starts}
 use Rattle.pol_repo.specs.Inside.{IsSound}
 use Rattle.pol_repo.proofs.repo.Repo.new.Goals as goal
 

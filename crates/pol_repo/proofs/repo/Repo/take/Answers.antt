@@ -2,7 +2,7 @@ use Rattle.std.proofs.Common.{◌<◌, ℕ, List, IfSome, length, ap, subst, sym
 use Rattle.std.specs.Vec.{vec_capacity}
 use Rattle.pol_model_laws.specs.WithoutFaults.{WithoutFaults}
 use Rattle.pol_taken.proofs.Agreed.{taken_map}
-use Rattle.pol_moves.specs.Moves.{moves_by}
+use Rattle.pol_set_moves.specs.Moves.{moves_by}
 use Rattle.pol_repo.specs.Repository.{Repository, state_in}
 use Rattle.pol_repo.proofs.Standing.{stands}
 use Rattle.pol_repo.proofs.Taking.{refs_of, rows_live, with_moves}

@@ -1,6 +1,6 @@
 use Rattle.std.proofs.Common.{List, ap, sym, subst, ◌∙◌}
 use Rattle.std.specs.Arc.{arc_value}
-use Rattle.pol_change_log.specs.Log.{Log}
+use Rattle.pol_set_changes.specs.Log.{Log}
 use Rattle.pol_selcache.specs.Cache.{Cache, IsSound}
 use Rattle.pol_selcache.specs.Live.{Live}
 use Rattle.pol_selcache.specs.Moving.{one_carried}

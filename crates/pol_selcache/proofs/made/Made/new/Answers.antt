@@ -1,7 +1,7 @@
 use Rattle.std.proofs.Common.{◌&&◌, ◌||◌, not, sym, subst, ap, ◌∙◌}
 use Rattle.pol_sets.specs.IdSet.{IsIdSet}
 use Rattle.pol_sets.proofs.Parted.{has-moved}
-use Rattle.pol_change_log.specs.Ids.{has}
+use Rattle.pol_set_changes.specs.Ids.{has}
 use Rattle.pol_selcache.proofs.Numbers.{and_swap}
 use Rattle.pol_selcache.proofs.made.Made.new.Goals as goal
 

@@ -1,8 +1,8 @@
 -- No change is in key order.
 use Rattle.std.proofs.Common.{List, [], sym, subst}
 use Rattle.std.specs.List.Sorted.{IsStrictlySortedBy}
-use Rattle.pol_change_list.specs.Changes.{IsAscending}
-use Rattle.pol_change_list.specs.declared.change.Change.{Change}
+use Rattle.pol_map_changes.specs.Changes.{IsAscending}
+use Rattle.pol_map_changes.specs.declared.change.Change.{Change}
 use Rattle.pol_slot_map.proofs.follow.Followed.published.Goals as goal
 
 none_ascend : IsAscending []

@@ -1,8 +1,8 @@
 -- What is kept leads to the map before, and the difference of the two maps to the one after.
 use Rattle.std.proofs.Common.{refl, sym, ap, ◌∙◌}
-use Rattle.pol_delta.specs.Work.{map_of}
-use Rattle.pol_change_list.specs.Changes.{changed, table_of}
-use Rattle.pol_change_list.proofs.Differences.{differences_lead}
+use Rattle.pol_kept_map.specs.Work.{map_of}
+use Rattle.pol_map_changes.specs.Changes.{changed, table_of}
+use Rattle.pol_map_changes.proofs.Differences.{differences_lead}
 use Rattle.pol_slot_map.specs.Follow.{changed_by}
 use Rattle.pol_slot_map.proofs.follow.Followed.take_on.Goals as goal
 

@@ -1,6 +1,6 @@
 use Rattle.std.proofs.Common.{◌≡◌, sym, ap, ◌∙◌, subst}
 use Rattle.std.specs.Arc.{arc_value}
-use Rattle.pol_l4.specs.Resolved.{filters_for}
+use Rattle.pol_filters.specs.Resolved.{filters_for}
 use Rattle.pol_selcache.specs.Cache.{Cache}
 use Rattle.pol_taken.specs.Known.{IsKnownIn}
 use Rattle.pol_taken.specs.PeerRows.{AreSetsFor}

@@ -1,7 +1,7 @@
 use Rattle.std.proofs.Common.{IsSome, sym, ap, ◌∙◌, subst}
 use Rattle.std.specs.Arc.{arc_value}
 use Rattle.std.specs.List.{AllByRecursion}
-use Rattle.pol_l4.specs.Resolved.{filters_for}
+use Rattle.pol_filters.specs.Resolved.{filters_for}
 use Rattle.pol_selcache.specs.Cache.{Cache}
 use Rattle.pol_selcache.specs.Live.{number_of}
 use Rattle.pol_taken.specs.PeerRows.{filter_peers}

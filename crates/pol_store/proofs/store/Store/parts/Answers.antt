@@ -1,7 +1,7 @@
 use Rattle.std.proofs.Common.{◌≡◌, IsSome, sym, ap, ◌∙◌, subst}
 use Rattle.std.specs.Arc.{arc_value}
 use Rattle.std.specs.List.{AllByRecursion}
-use Rattle.pol_l4.specs.Resolved.{filters_for}
+use Rattle.pol_filters.specs.Resolved.{filters_for}
 use Rattle.pol_kept_filters.specs.Kept.{IsListedIn}
 use Rattle.pol_kept_filters.proofs.Rows.{every-among, served}
 use Rattle.pol_selcache.specs.Cache.{Cache}

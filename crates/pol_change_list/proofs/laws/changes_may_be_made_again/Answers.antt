@@ -1,5 +1,0 @@
-use Rattle.pol_change_list.proofs.Differences.{made_again}
-use Rattle.pol_change_list.proofs.laws.changes_may_be_made_again.Goals as goal
-
-pub returns : goal.returns
-returns c = made_again

@@ -1,5 +1,0 @@
-use Rattle.pol_change_log.proofs.NetLemmas.{differences_lead}
-use Rattle.pol_change_log.proofs.laws.a_difference_leads_from_set_to_set.Goals as goal
-
-pub returns : goal.returns
-returns c = differences_lead

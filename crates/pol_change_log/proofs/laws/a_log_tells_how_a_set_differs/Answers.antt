@@ -1,5 +1,0 @@
-use Rattle.pol_change_log.proofs.Differences.{since_tells_difference}
-use Rattle.pol_change_log.proofs.laws.a_log_tells_how_a_set_differs.Goals as goal
-
-pub returns : goal.returns
-returns c = since_tells_difference

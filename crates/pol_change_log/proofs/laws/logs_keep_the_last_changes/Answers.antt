@@ -1,5 +1,0 @@
-use Rattle.pol_change_log.proofs.LogLemmas.{logs_keep_last}
-use Rattle.pol_change_log.proofs.laws.logs_keep_the_last_changes.Goals as goal
-
-pub returns : goal.returns
-returns c = logs_keep_last

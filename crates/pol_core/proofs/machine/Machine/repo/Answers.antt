@@ -1,4 +1,0 @@
-use Rattle.pol_core.proofs.machine.Machine.repo.Goals as goal
-
-pub returns-clause-idle : goal.returns-clause-idle
-returns-clause-idle c = c.self.invariant.stands.at.idle

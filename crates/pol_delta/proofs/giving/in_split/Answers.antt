@@ -1,6 +1,0 @@
-use Rattle.std.proofs.Common.{sym, ◌∙◌, arith}
-use Rattle.pol_delta.proofs.Given.{in_split}
-use Rattle.pol_delta.proofs.giving.in_split.Goals as goal
-
-pub returns : goal.returns
-returns c = c.is_part.ensures ∙ sym (in_split c.args.range c.args.prefix (omega arith))

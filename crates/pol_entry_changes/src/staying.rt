@@ -1,0 +1,160 @@
+//! What comes and goes of a filter that stays.
+ghost use Rattle.std.specs.Prelude.{◌≡◌, ◌++◌, OnOk, find};
+ghost use Rattle.std.specs.List.{AllByRecursion, flat_map};
+ghost use Rattle.pol_model.specs.PolicyMap.{peer_numbers};
+ghost use Rattle.pol_sets.specs.Sets.{is_row_of, set_given};
+ghost use Rattle.pol_entry_changes.specs.Balance.{GoesOn};
+ghost use Rattle.pol_entry_changes.specs.Given.{given_by, of_numbers};
+ghost use Rattle.pol_entry_changes.specs.PeerRow.{Ascend, IsMoveOfRow};
+ghost use Rattle.pol_entry_changes.specs.Told.{IsTold, PeersTold};
+
+use crate::entries::kind_of;
+use crate::moves::PeerMoves;
+use crate::one_id::push_id;
+use crate::rows::PeerRows;
+use pol_data::Memory;
+use pol_distill::{ports_keys, push_identities};
+use pol_filters::Filter;
+use pol_mapkey::{Kind, MapKey};
+use pol_model::selects_every_number;
+use pol_ports::Direction;
+use pol_rule::{Peer, Peers};
+use pol_sets::{IdSet, Move};
+use std::alloc::Global;
+
+/// Entries that come into a map, and entries that go, each as often as it does.
+#[derive(Drop)]
+pub struct Moved {
+    /// What comes.
+    pub come: Vec<(MapKey, Kind)>,
+    /// What goes.
+    pub gone: Vec<(MapKey, Kind)>,
+}
+
+/// Appends the entries that a filter gives several numbers.
+fn push_several(
+    alloc: Global,
+    out: &mut Vec<(MapKey, Kind)>,
+    dir: Direction,
+    one: &Filter,
+    ids: &IdSet,
+) -> Result<(), Memory>
+    ensures { OnOk result (out.new.items ≡ out.old.items ++ of_numbers dir one.now ids.now) }
+{
+    if ids.is_empty() {
+        return Ok(());
+    }
+    let keys = ports_keys(alloc, dir, one.ports.as_slice())?;
+    push_identities(out, &keys, kind_of(one), ids)
+}
+
+/// Appends the entries that a filter gives these numbers. One number, which is what moves most often, takes no list of keys.
+fn push_numbers(
+    alloc: Global,
+    out: &mut Vec<(MapKey, Kind)>,
+    dir: Direction,
+    one: &Filter,
+    ids: &IdSet,
+) -> Result<(), Memory>
+    ensures { OnOk result (out.new.items ≡ out.old.items ++ of_numbers dir one.now ids.now) }
+{
+    match ids.only() {
+        Some(id) => push_id(alloc, out, dir, kind_of(one), id, one.ports.as_slice()),
+        None => push_several(alloc, out, dir, one, ids),
+    }
+}
+
+/// Appends the entries of the numbers that a peer of a filter gained and lost.
+fn push_move(
+    alloc: Global,
+    out: &mut Moved,
+    dir: Direction,
+    one: &Filter,
+    change: &Move,
+) -> Result<(), Memory>
+    ensures come { OnOk result (out.new.come.items ≡ out.old.come.items ++ of_numbers dir one.now change.now.gained) }
+    ensures gone { OnOk result (out.new.gone.items ≡ out.old.gone.items ++ of_numbers dir one.now change.now.lost) }
+{
+    push_numbers(alloc, &mut out.come, dir, one, &change.gained)?;
+    push_numbers(alloc, &mut out.gone, dir, one, &change.lost)
+}
+
+/// A move of a peer's first row.
+fn move_at<'a>(rows: &PeerRows<'_>, moves: &PeerMoves<'a>, peer: &Peer) -> Option<&'a Move>
+    ensures { IsMoveOfRow moves.now (find (is_row_of peer.now) rows.now) result }
+{
+    match rows.row_of(peer) {
+        Some(found) => moves.of(found.row.selector, found.place),
+        None => None,
+    }
+}
+
+/// Appends what comes and goes by a peer of a filter that stays.
+fn peer_stays(
+    alloc: Global,
+    out: &mut Moved,
+    dir: Direction,
+    one: &Filter,
+    peer: &Peer,
+    was: &PeerRows<'_>,
+    is: &PeerRows<'_>,
+    moves: &PeerMoves<'_>,
+) -> Result<(), Memory>
+    requires told { IsTold was.now is.now moves.now peer.now }
+    requires before { AllByRecursion Ascend was.now }
+    requires after { AllByRecursion Ascend is.now }
+    ensures { OnOk result (GoesOn (of_numbers dir one.now (peer_numbers (set_given was.now) peer.now)) (of_numbers dir one.now (peer_numbers (set_given is.now) peer.now)) out.old out.new) }
+{
+    if selects_every_number(peer) {
+        return Ok(());
+    }
+    if moves.are_still() {
+        return Ok(());
+    }
+    match move_at(is, moves, peer) {
+        Some(change) => push_move(alloc, out, dir, one, change),
+        None => unreachable!(),
+    }
+}
+
+fn peers_stay(
+    alloc: Global,
+    out: &mut Moved,
+    dir: Direction,
+    one: &Filter,
+    peers: &[Peer],
+    was: &PeerRows<'_>,
+    is: &PeerRows<'_>,
+    moves: &PeerMoves<'_>,
+) -> Result<(), Memory>
+    requires told { AllByRecursion (IsTold was.now is.now moves.now) peers.now }
+    requires before { AllByRecursion Ascend was.now }
+    requires after { AllByRecursion Ascend is.now }
+    ensures { OnOk result (GoesOn (of_numbers dir one.now (flat_map (peer_numbers (set_given was.now)) peers.now)) (of_numbers dir one.now (flat_map (peer_numbers (set_given is.now)) peers.now)) out.old out.new) }
+{
+    for peer in peers {
+        peer_stays(alloc, out, dir, one, peer, was, is, moves)?;
+    }
+    Ok(())
+}
+
+/// Appends what comes and goes of a filter that stays.
+pub(crate) fn stays(
+    alloc: Global,
+    out: &mut Moved,
+    dir: Direction,
+    one: &Filter,
+    was: &PeerRows<'_>,
+    is: &PeerRows<'_>,
+    moves: &PeerMoves<'_>,
+) -> Result<(), Memory>
+    requires told { PeersTold was.now is.now moves.now one.now.peers }
+    requires before { AllByRecursion Ascend was.now }
+    requires after { AllByRecursion Ascend is.now }
+    ensures { OnOk result (GoesOn (given_by (set_given was.now) dir one.now) (given_by (set_given is.now) dir one.now) out.old out.new) }
+{
+    match &one.peers {
+        Peers::Every => Ok(()),
+        Peers::Listed(peers) => peers_stay(alloc, out, dir, one, peers.as_slice(), was, is, moves),
+    }
+}

@@ -1,6 +1,0 @@
--- The law is a lemma.
-use Rattle.pol_k8s.proofs.Kept.{keeps}
-use Rattle.pol_k8s.proofs.laws.keeps_its_meaning.Goals as goal
-
-pub returns : goal.returns
-returns c = keeps

@@ -1,6 +1,0 @@
-use Rattle.std.proofs.Common.{◌≡◌, ◌++◌, drop, filter_map}
-use Rattle.pol_k8s.specs.Translated.{spec_of}
-use Rattle.pol_k8s.proofs.ports.specs_of.Given as goal
-
-abbrev pub invariant-loop-port : goal.invariant-loop-port
-invariant-loop-port l = l.specs.items ++ filter_map spec_of (drop l.port-index l.ports) ≡ filter_map spec_of l.ports

@@ -1,0 +1,15 @@
+-- What a work keeps of its map.
+use Rattle.std.specs.Prelude.{◌≡◌, ℕ, List, length}
+use Rattle.pol_sets.specs.declared.sets.SetRow.{SetRow}
+use Rattle.pol_filters.specs.declared.filter.Filters.{Filters}
+use Rattle.pol_distill.specs.Distilled.{distilled}
+use Rattle.pol_distill.specs.Sorted.{HaveSets}
+use Rattle.pol_entry_tally.specs.declared.tally.Tally.{Tally}
+use Rattle.pol_entry_tally.specs.Counted.{IsTallyOf}
+use Rattle.pol_entry_changes.specs.Given.{raw_of}
+
+-- The tally counts what the filters put into the map, and the number is the map's size.
+pub record IsKept (filters : Filters) (rows : List SetRow) (size : ℕ) (tally : Tally) : Type 0 where
+  pub have : HaveSets rows filters
+  pub counts : IsTallyOf (raw_of filters rows) tally
+  pub sized : size ≡ length (distilled filters rows)

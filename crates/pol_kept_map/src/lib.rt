@@ -1,0 +1,18 @@
+//! Policy maps that follow what changes.
+//!
+//! A `Work` keeps what an endpoint's policy map is made of, and how often each key of it is given. `Work::apply` takes it to
+//! other filters and sets, and lists exactly the keys of the map that changed.
+#![tactic(auto)]
+
+mod changes;
+mod entries;
+mod givers;
+mod giving;
+pub mod laws;
+mod still;
+mod turned;
+mod work;
+
+pub use changes::{Changes, Givers};
+pub use pol_map_changes::{Change, ChangeList};
+pub use work::Work;

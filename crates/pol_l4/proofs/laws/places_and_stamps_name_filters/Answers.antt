@@ -1,5 +1,0 @@
-use Rattle.pol_l4.proofs.Located.{named}
-use Rattle.pol_l4.proofs.laws.places_and_stamps_name_filters.Goals as goal
-
-pub returns : goal.returns
-returns c = named

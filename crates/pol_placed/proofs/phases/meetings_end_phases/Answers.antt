@@ -1,5 +1,0 @@
-use Rattle.pol_placed.proofs.OneMore.{phase_of}
-use Rattle.pol_placed.proofs.phases.meetings_end_phases.Goals as goal
-
-pub returns : goal.returns
-returns c = phase_of

@@ -1,5 +1,0 @@
-use Rattle.pol_placed.proofs.Phased.{are_placed}
-use Rattle.pol_placed.proofs.sessions.played_lines_are_placed.Goals as goal
-
-pub returns : goal.returns
-returns c = are_placed

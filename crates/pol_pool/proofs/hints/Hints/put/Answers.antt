@@ -1,5 +1,0 @@
-use Rattle.pol_pool.proofs.Steps.{puts, tells}
-use Rattle.pol_pool.proofs.hints.Hints.put.Goals as goal
-
-pub push_as-requires-clause-rule : goal.push_as-requires-clause-rule
-push_as-requires-clause-rule g c = (puts _ _ _ _ c.pass.invariant.part, tells _ _)

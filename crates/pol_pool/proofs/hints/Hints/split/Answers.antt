@@ -1,5 +1,0 @@
-use Rattle.pol_pool.proofs.Steps.{forks}
-use Rattle.pol_pool.proofs.hints.Hints.split.Goals as goal
-
-pub another-other-requires-clause-rule : goal.another-other-requires-clause-rule
-another-other-requires-clause-rule g c = forks _ _ c.pass.invariant.part

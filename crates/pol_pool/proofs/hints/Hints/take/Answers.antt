@@ -1,5 +1,0 @@
-use Rattle.pol_pool.proofs.Steps.{takes, tells}
-use Rattle.pol_pool.proofs.hints.Hints.take.Goals as goal
-
-pub pop_as-requires-clause-rule : goal.pop_as-requires-clause-rule
-pop_as-requires-clause-rule g c = (takes _ _ c.pass.invariant.part, tells _ _)

@@ -1,7 +1,0 @@
-use Rattle.std.proofs.Common.{take}
-use Rattle.std.specs.List.{AllByRecursion}
-use Rattle.pol_raw_entries.specs.PeerRow.{IsStill}
-use Rattle.pol_raw_entries.proofs.moves.all_still.Given as goal
-
-abbrev pub invariant-loop-one : goal.invariant-loop-one
-invariant-loop-one l = AllByRecursion IsStill (take l.one-index l.moves)

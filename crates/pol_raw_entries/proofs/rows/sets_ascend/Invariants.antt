@@ -1,7 +1,0 @@
-use Rattle.std.proofs.Common.{take}
-use Rattle.std.specs.List.{AllByRecursion}
-use Rattle.pol_raw_entries.specs.PeerRow.{Ascend}
-use Rattle.pol_raw_entries.proofs.rows.sets_ascend.Given as goal
-
-abbrev pub invariant-loop-row : goal.invariant-loop-row
-invariant-loop-row l = AllByRecursion Ascend (take l.row-index l.rows)

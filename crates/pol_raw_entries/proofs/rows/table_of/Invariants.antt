@@ -1,7 +1,0 @@
-use Rattle.std.proofs.Common.{drop}
-use Rattle.pol_raw_entries.specs.PeerRow.{IsIndexOf}
-use Rattle.pol_raw_entries.proofs.rows.table_of.Given as goal
-
--- the table of the rows gone through, from the last one on
-abbrev pub invariant-loop-i : goal.invariant-loop-i
-invariant-loop-i l = IsIndexOf l.table (drop l.i l.rows)
