@@ -18,7 +18,7 @@ import rooms
 TOP = compare.TOP
 PLAY, WHAT_IF = "./play ", "recipes/what-if "
 # What a crate's README has.
-SECTIONS = ("What it is for", "Its calls", "What it gives to the layer above", "Where to begin reading")
+SECTIONS = ("What it is for", "Its calls", "What it gives to the layer above", "Where to begin reading", "What is proved", "What no clause says")
 
 
 def pages():
@@ -208,21 +208,6 @@ def lost_names(text, names):
     return lost
 
 
-def sections(page):
-    """The sections of docs/PROVED.md: the crates of a heading, and the text below it."""
-    parts = re.split(r"(?m)^## (.*)$", page.read_text())
-    return [(re.findall(r"`(\w+)`", head), text) for head, text in zip(parts[1::2], parts[2::2])]
-
-
-def proved():
-    """Each crate has its place in docs/PROVED.md, and what is named there is in its code."""
-    found = sections(TOP / "docs" / "PROVED.md")
-    named, listed = [it for names, _ in found for it in names], [*program.crates()]
-    wrong = [f"{it} has no section" for it in listed if it not in named]
-    wrong += [f"{it} is no crate, or has two sections" for it in {*named} if it not in listed or named.count(it) > 1]
-    return [*wrong, *(it for names, text in found if not wrong for it in lost_names(text, names))]
-
-
 def diagram():
     """The diagram of docs/LAYERS.md is what crates.txt says, and says something of each crate."""
     wanted = layers.drawn()
@@ -250,7 +235,6 @@ def checks():
         yield f"readme crates/{name}", lambda name=name: introduced(name)
     yield "example examples/README.md", example
     yield "count CONTRIBUTING.md", counted
-    yield "proved docs/PROVED.md", proved
     for page in pages():
         yield f"links {name_of(page)}", lambda page=page: lost_links(page) + lost_paths(page)
     for page in pages():
