@@ -222,7 +222,9 @@ def introduced(name):
     if not page.is_file():
         return [f"crates/{name}/README.md isn't there"]
     text = page.read_text()
-    return [*(f"it has no section {it}" for it in SECTIONS if f"\n## {it}\n" not in text), *lost_names(text, [name])]
+    # Why a crate is so may be said of what others have.
+    own = re.sub(r"(?ms)^## Why so$.*?(?=^## )", "", text)
+    return [*(f"it has no section {it}" for it in SECTIONS if f"\n## {it}\n" not in text), *lost_names(own, [name])]
 
 
 def checks():
