@@ -152,13 +152,9 @@ fn entry(alloc: Global, count: u32) -> Result<Entry, Memory> {
 }
 
 fn rule(alloc: Global, count: u32) -> Result<Rule, Memory> {
-    Ok(Rule {
-        subject: selector(alloc, Vec::new(alloc))?,
-        ingress: Entries::one(alloc, entry(alloc, count)?)?,
-        ingress_deny: Entries::empty(alloc),
-        egress: Entries::empty(alloc),
-        egress_deny: Entries::empty(alloc),
-    })
+    let mut rule = Rule::new(alloc, selector(alloc, Vec::new(alloc))?);
+    rule.ingress = Entries::one(alloc, entry(alloc, count)?)?;
+    Ok(rule)
 }
 
 /// A policy for every endpoint, which lets in what has the key, on so many TCP ports. So each identity gives each map so many

@@ -31,13 +31,9 @@ fn rule(alloc: Global, peer: Peer) -> Result<Rule, Memory>
         peers: Peers::Listed(PeerList::one(alloc, peer)?),
         ports: PortSpecs::empty(alloc),
     };
-    Ok(Rule {
-        ingress: Entries::one(alloc, entry)?,
-        subject: every_endpoint(alloc)?,
-        ingress_deny: Entries::empty(alloc),
-        egress: Entries::empty(alloc),
-        egress_deny: Entries::empty(alloc),
-    })
+    let mut rule = Rule::new(alloc, every_endpoint(alloc)?);
+    rule.ingress = Entries::one(alloc, entry)?;
+    Ok(rule)
 }
 
 /// The policy of that rule, of revision 7.

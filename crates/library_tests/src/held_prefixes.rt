@@ -31,13 +31,11 @@ fn entries(alloc: Global, within: &str, without: &str) -> Result<Entries, Fail> 
 }
 
 fn policy(alloc: Global) -> Result<Policy, Fail> {
-    let rule = Rule {
-        subject: Selector::from_requirements(alloc, Vec::new(alloc))?,
-        ingress: entries(alloc, "10.0.0.0/8", "10.1.0.0/16")?,
-        ingress_deny: Items::from_vec(Vec::new(alloc)),
-        egress: entries(alloc, "0.0.0.0/0", "10.0.0.0/8")?,
-        egress_deny: entries(alloc, "10.1.0.0/16", "10.1.2.0/24")?,
-    };
+    let everyone = Selector::from_requirements(alloc, Vec::new(alloc))?;
+    let mut rule = Rule::new(alloc, everyone);
+    rule.ingress = entries(alloc, "10.0.0.0/8", "10.1.0.0/16")?;
+    rule.egress = entries(alloc, "0.0.0.0/0", "10.0.0.0/8")?;
+    rule.egress_deny = entries(alloc, "10.1.0.0/16", "10.1.2.0/24")?;
     Ok(Policy {
         key: PolicyKey {
             cluster_wide: true,

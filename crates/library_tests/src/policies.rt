@@ -5,9 +5,9 @@ use pol_data::{Items, Memory, Text};
 use pol_labels::Selector;
 use pol_ports::{PortRange, Proto};
 use pol_rule::{
-    Entity, Entry, Peer, Peers, Place, Policy, PolicyKey, PortSpec, RawCidrSet, RawEntry,
-    RawExpression, RawPair, RawPolicy, RawPort, RawPortItem, RawRule, RawSelector, Rule, RuleFault,
-    Section,
+    DefaultDeny, Entity, Entry, Peer, Peers, Place, Policy, PolicyKey, PortSpec, RawCidrSet,
+    RawEntry, RawExpression, RawPair, RawPolicy, RawPort, RawPortItem, RawRule, RawSelector, Rule,
+    RuleFault, Section,
 };
 use std::alloc::Global;
 use std::test::Fail;
@@ -96,13 +96,8 @@ fn an_entry_is_copied(rt: HostRuntime) -> Result<(), Fail> {
 #[test]
 fn a_policy_is_copied(rt: HostRuntime) -> Result<(), Fail> {
     let alloc = rt.alloc();
-    let rule = Rule {
-        subject: everything(alloc)?,
-        ingress: Items::one(alloc, entry(alloc)?)?,
-        ingress_deny: Items::empty(alloc),
-        egress: Items::empty(alloc),
-        egress_deny: Items::empty(alloc),
-    };
+    let mut rule = Rule::new(alloc, everything(alloc)?);
+    rule.ingress = Items::one(alloc, entry(alloc)?)?;
     let policy = Policy {
         key: key(alloc)?,
         rules: Items::one(alloc, rule)?,
@@ -164,6 +159,7 @@ fn raw_rule(alloc: Global) -> Result<RawRule, Memory> {
         ingress_deny: Items::empty(alloc),
         egress: Items::empty(alloc),
         egress_deny: Items::empty(alloc),
+        default_deny: DefaultDeny::nothing_said(),
     })
 }
 

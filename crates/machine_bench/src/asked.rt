@@ -136,13 +136,9 @@ fn nobody(alloc: Global) -> Result<Selector> {
 }
 
 fn rule(alloc: Global, subject: Selector, count: u32) -> Result<Rule> {
-    Ok(Rule {
-        subject,
-        ingress: entries(alloc, count)?,
-        ingress_deny: Entries::empty(alloc),
-        egress: Entries::empty(alloc),
-        egress_deny: Entries::empty(alloc),
-    })
+    let mut rule = Rule::new(alloc, subject);
+    rule.ingress = entries(alloc, count)?;
+    Ok(rule)
 }
 
 fn apply(alloc: Global, name: Text, rule: Rule) -> Result<Request> {

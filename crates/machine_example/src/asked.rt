@@ -88,6 +88,12 @@ pub(crate) fn on_80(alloc: Global) -> Option<PortSpecs> {
     PortSpecs::one(alloc, spec).ok()
 }
 
+/// A rule for every endpoint.
+fn rule(alloc: Global) -> Option<Rule> {
+    let everyone = Selector::from_requirements(alloc, Vec::new(alloc)).ok()?;
+    Some(Rule::new(alloc, everyone))
+}
+
 /// The policy of that name and of one rule for every endpoint: it lets the peer in on these ports.
 pub(crate) fn allow(
     alloc: Global,
@@ -99,13 +105,8 @@ pub(crate) fn allow(
         peers: Peers::Listed(PeerList::one(alloc, peer?).ok()?),
         ports,
     };
-    let rule = Rule {
-        subject: Selector::from_requirements(alloc, Vec::new(alloc)).ok()?,
-        ingress: Entries::one(alloc, entry).ok()?,
-        ingress_deny: Entries::empty(alloc),
-        egress: Entries::empty(alloc),
-        egress_deny: Entries::empty(alloc),
-    };
+    let mut rule = rule(alloc)?;
+    rule.ingress = Entries::one(alloc, entry).ok()?;
     Some(Request::Apply(Policy {
         key: key(alloc, name)?,
         rules: Rules::one(alloc, rule).ok()?,
@@ -118,13 +119,8 @@ pub(crate) fn deny(alloc: Global, name: &str, peer: Option<Peer>) -> Option<Requ
         peers: Peers::Listed(PeerList::one(alloc, peer?).ok()?),
         ports: PortSpecs::empty(alloc),
     };
-    let rule = Rule {
-        subject: Selector::from_requirements(alloc, Vec::new(alloc)).ok()?,
-        ingress: Entries::empty(alloc),
-        ingress_deny: Entries::one(alloc, entry).ok()?,
-        egress: Entries::empty(alloc),
-        egress_deny: Entries::empty(alloc),
-    };
+    let mut rule = rule(alloc)?;
+    rule.ingress_deny = Entries::one(alloc, entry).ok()?;
     Some(Request::Apply(Policy {
         key: key(alloc, name)?,
         rules: Rules::one(alloc, rule).ok()?,

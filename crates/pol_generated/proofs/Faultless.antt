@@ -8,6 +8,7 @@ use Rattle.pol_model.specs.After.{after, start}
 use Rattle.pol_model.specs.State.{State}
 use Rattle.pol_model.specs.declared.options.Options.{Options}
 use Rattle.pol_model.specs.declared.request.Request.TheVariants as request
+use Rattle.pol_rule.specs.Plain.{rule_of}
 use Rattle.pol_rule.specs.Prefixes.{policy_prefixes}
 use Rattle.pol_run.specs.Run.{readings_of, status_of}
 use Rattle.pol_run.specs.Serial.{serial_answers}
@@ -76,8 +77,8 @@ rule_prefixes : (denies : Bool) (app from first last : ℕ) → let entry = aske
     policy_prefixes (record {
       key = asked.policy_key 0;
       rules = cond denies
-          (record { subject = asked.pods_of app; ingress = []; ingress_deny = entry ∷ []; egress = []; egress_deny = [] })
-          (record { subject = asked.pods_of app; ingress = entry ∷ []; ingress_deny = []; egress = []; egress_deny = [] }) ∷ [];
+          (record (rule_of (asked.pods_of app)) { ingress_deny = entry ∷ [] })
+          (record (rule_of (asked.pods_of app)) { ingress = entry ∷ [] }) ∷ [];
     }) ≡ []
 rule_prefixes true app from first last = refl
 rule_prefixes false app from first last = refl

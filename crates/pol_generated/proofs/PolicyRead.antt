@@ -18,6 +18,7 @@ use Rattle.pol_labels.specs.declared.requirement.Requirement.{Requirement}
 use Rattle.pol_ports.specs.PortRange.{range_from}
 use Rattle.pol_ports.specs.declared.PortRange.{PortRange}
 use Rattle.pol_ports.specs.declared.Proto.TheVariants.{Tcp}
+use Rattle.pol_rule.specs.Plain.{rule_of}
 use Rattle.pol_rule.specs.declared.cause.RuleCause.TheVariants as rule
 use Rattle.pol_rule.specs.declared.policy.Entry.{Entry}
 use Rattle.pol_rule.specs.declared.policy.Peer.TheVariants.{Labels}
@@ -157,8 +158,8 @@ abbrev entry_with : List ℕ → List PortSpec → Entry
 entry_with from ports = record { peers = Listed (Labels (pods_named from) ∷ []); ports = ports }
 
 abbrev pub rule_with : Bool → List ℕ → Entry → Rule
-rule_with true app entry = record { subject = pods_named app; ingress = []; ingress_deny = entry ∷ []; egress = []; egress_deny = [] }
-rule_with false app entry = record { subject = pods_named app; ingress = entry ∷ []; ingress_deny = []; egress = []; egress_deny = [] }
+rule_with true app entry = record (rule_of (pods_named app)) { ingress_deny = entry ∷ [] }
+rule_with false app entry = record (rule_of (pods_named app)) { ingress = entry ∷ [] }
 
 abbrev pub policy_with : Bool → Numbers → List PortSpec → Policy
 policy_with denies n ports = record { key = key_named n.name; rules = rule_with denies n.app (entry_with n.from ports) ∷ [] }

@@ -16,6 +16,7 @@ use Rattle.pol_model.specs.declared.request.Request.{Request}
 use Rattle.pol_model.specs.declared.request.Request.TheVariants.{AddEndpoint, Apply}
 use Rattle.pol_model.specs.declared.row.IdentityRow.{IdentityRow}
 use Rattle.pol_model.specs.declared.row.Stamped.{Stamped}
+use Rattle.pol_rule.specs.Plain.{rule_of}
 use Rattle.pol_rule.specs.Prefixes.{policy_prefixes}
 use Rattle.pol_rule.specs.declared.policy.Policy.{Policy}
 use Rattle.pol_rule.specs.declared.policy.Rule.{Rule}
@@ -27,8 +28,8 @@ use Rattle.pol_generated.specs.Asked.{entry_of, labels_of, pods_of, policy_key}
 abbrev pub ruling : Bool → ℕ → ℕ → ℕ → ℕ → Rule
 ruling denies app from first last =
     cond denies
-    (record { subject = pods_of app; ingress = []; ingress_deny = entry_of from first last ∷ []; egress = []; egress_deny = [] })
-    (record { subject = pods_of app; ingress = entry_of from first last ∷ []; ingress_deny = []; egress = []; egress_deny = [] })
+    (record (rule_of (pods_of app)) { ingress_deny = entry_of from first last ∷ [] })
+    (record (rule_of (pods_of app)) { ingress = entry_of from first last ∷ [] })
 
 -- one of 64 policies, with such a rule
 pub record IsScriptPolicy (policy : Policy) : Type 0 where

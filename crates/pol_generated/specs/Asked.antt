@@ -15,6 +15,7 @@ use Rattle.pol_model.specs.declared.request.Request.TheVariants as request
 use Rattle.pol_ports.specs.PortRange.{range_from}
 use Rattle.pol_ports.specs.declared.Direction.TheVariants.{Ingress}
 use Rattle.pol_ports.specs.declared.Proto.TheVariants.{Tcp}
+use Rattle.pol_rule.specs.Plain as plain
 use Rattle.pol_rule.specs.declared.policy.Entry.{Entry}
 use Rattle.pol_rule.specs.declared.policy.Peer.TheVariants.{Labels}
 use Rattle.pol_rule.specs.declared.policy.Peers.TheVariants.{Listed}
@@ -66,8 +67,8 @@ entry_of from first last =
 abbrev pub rule_of : ℕ → ℕ → Entry → Rule
 rule_of app section entry =
     if section == 0
-    then record { subject = pods_of app; ingress = []; ingress_deny = entry ∷ []; egress = []; egress_deny = [] }
-    else record { subject = pods_of app; ingress = entry ∷ []; ingress_deny = []; egress = []; egress_deny = [] }
+    then record (plain.rule_of (pods_of app)) { ingress_deny = entry ∷ [] }
+    else record (plain.rule_of (pods_of app)) { ingress = entry ∷ [] }
 
 abbrev pub policy_key : ℕ → PolicyKey
 policy_key name = record { cluster_wide = false; namespace = codes "default"; name = codes "p" ++ decimal name }

@@ -6,6 +6,7 @@ use Rattle.pol_labels.specs.declared.label.Label.{Label}
 use Rattle.pol_mapkey.specs.declared.Word.{Word}
 use Rattle.pol_ports.specs.declared.Direction.{Direction}
 use Rattle.pol_ports.specs.declared.Proto.TheVariants.{Tcp}
+use Rattle.pol_rule.specs.Plain.{rule_of}
 use Rattle.pol_rule.specs.declared.policy.Peer.{Peer}
 use Rattle.pol_rule.specs.declared.policy.Peer.TheVariants.{Cidr}
 use Rattle.pol_rule.specs.declared.policy.Peers.TheVariants.{Listed}
@@ -56,13 +57,7 @@ cidrs prefixes = map (λ prefix. Cidr prefix []) prefixes
 abbrev pub lets_in : List ℕ → List Prefix → Policy
 lets_in name prefixes = record {
   key = key_of name;
-  rules = record {
-    subject = [];
-    ingress = record { peers = Listed (cidrs prefixes); ports = [] } ∷ [];
-    ingress_deny = [];
-    egress = [];
-    egress_deny = [];
-  } ∷ [];
+  rules = record (rule_of []) { ingress = record { peers = Listed (cidrs prefixes); ports = [] } ∷ [] } ∷ [];
 }
 
 -- the numbers of rows, and how many hold each
@@ -85,12 +80,9 @@ address_number s n = number_at (host_in n) s.endpoints s.identities
 abbrev pub guards : List ℕ → List Prefix → List Prefix → Policy
 guards name allowed denied = record {
   key = key_of name;
-  rules = record {
-    subject = [];
+  rules = record (rule_of []) {
     ingress = record { peers = Listed (cidrs allowed); ports = [] } ∷ [];
     ingress_deny = record { peers = Listed (cidrs denied); ports = [] } ∷ [];
-    egress = [];
-    egress_deny = [];
   } ∷ [];
 }
 

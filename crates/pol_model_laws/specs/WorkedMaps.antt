@@ -11,6 +11,7 @@ use Rattle.pol_ports.specs.declared.Direction.{Direction}
 use Rattle.pol_ports.specs.declared.Proto.TheVariants.{Tcp, Udp, Sctp}
 use Rattle.pol_mapkey.specs.Entries.{Entry as MapEntry}
 use Rattle.pol_mapkey.specs.declared.Word.{Word}
+use Rattle.pol_rule.specs.Plain.{rule_of}
 use Rattle.pol_rule.specs.declared.policy.Entity.{Entity}
 use Rattle.pol_rule.specs.declared.policy.Entity.TheVariants as entity
 use Rattle.pol_rule.specs.declared.policy.Entry.{Entry}
@@ -83,25 +84,13 @@ key_of name = record { cluster_wide = false; namespace = codes "default"; name =
 abbrev pub ingress_policy : List ℕ → List Entry → List Entry → Policy
 ingress_policy name allows denies = record {
   key = key_of name;
-  rules = record {
-    subject = namespace_is_default ∷ [];
-    ingress = allows;
-    ingress_deny = denies;
-    egress = [];
-    egress_deny = [];
-  } ∷ [];
+  rules = record (rule_of (namespace_is_default ∷ [])) { ingress = allows; ingress_deny = denies } ∷ [];
 }
 
 abbrev pub egress_policy : List ℕ → List Entry → Policy
 egress_policy name allows = record {
   key = key_of name;
-  rules = record {
-    subject = namespace_is_default ∷ [];
-    ingress = [];
-    ingress_deny = [];
-    egress = allows;
-    egress_deny = [];
-  } ∷ [];
+  rules = record (rule_of (namespace_is_default ∷ [])) { egress = allows } ∷ [];
 }
 
 abbrev pub tcp_80 : PortSpec

@@ -8,6 +8,7 @@ use Rattle.pol_data.proofs.Equality.{option_eq-Decides}
 use Rattle.pol_labels.specs.SameLaws.{same_requirements-Decides}
 use Rattle.pol_addr.proofs.Equality.{prefix_eq-Decides}
 use Rattle.pol_ports.proofs.Equality.{proto_eq-Decides, port_range_eq-Decides}
+use Rattle.pol_rule.specs.declared.policy.DefaultDeny.{DefaultDeny}
 use Rattle.pol_rule.specs.declared.policy.Entity.{Entity}
 use Rattle.pol_rule.specs.declared.policy.Section.{Section}
 use Rattle.pol_rule.specs.declared.policy.Peer.{Peer}
@@ -18,6 +19,7 @@ use Rattle.pol_rule.specs.declared.policy.PortSpec.{PortSpec}
 use Rattle.pol_rule.specs.declared.policy.Entry.{Entry}
 use Rattle.pol_rule.specs.declared.policy.PolicyKey.{PolicyKey}
 use Rattle.pol_rule.specs.declared.policy.Place.{Place}
+use Rattle.pol_rule.specs.contracts.policy.DefaultDenyPartialEq.TheImpl as default_deny
 use Rattle.pol_rule.specs.contracts.policy.EntityPartialEq.TheImpl as entity
 use Rattle.pol_rule.specs.contracts.policy.SectionPartialEq.TheImpl as section
 use Rattle.pol_rule.specs.contracts.policy.PeerPartialEq.TheImpl as peer
@@ -68,6 +70,11 @@ policy_key_eq-Decides a b =
     (λ e. (ap (λ k. k.cluster_wide) e, (ap (λ k. k.namespace) e, ap (λ k. k.name) e)))
     (Decides-and _ _ (booleans_Decides a.cluster_wide b.cluster_wide)
     (Decides-and _ _ (bytes_decides a.namespace b.namespace) (bytes_decides a.name b.name)))
+
+pub default_deny_eq-Decides : (a b : DefaultDeny) → Decides (default_deny.ghosts.eq a b) (a ≡ b)
+default_deny_eq-Decides a b =
+    Decides-like _ (λ same i. record { ingress = same.0 i; egress = same.1 i }) (λ e. (ap (λ d. d.ingress) e, ap (λ d. d.egress) e))
+    (Decides-and _ _ (option_eq-Decides booleans_Decides a.ingress b.ingress) (option_eq-Decides booleans_Decides a.egress b.egress))
 
 pub place_eq-Decides : (a b : Place) → Decides (place.ghosts.eq a b) (a ≡ b)
 place_eq-Decides a b =

@@ -21,8 +21,8 @@ pub use cause::RuleCause;
 pub use fault::RuleFault;
 pub use listed::{listed_peers, push_listed};
 pub use policy::{
-    Entity, Entries, Entry, Peer, PeerList, Peers, Place, Policy, PolicyKey, PortSpec, PortSpecs,
-    Prefixes, Rule, Rules, Section,
+    DefaultDeny, Entity, Entries, Entry, Peer, PeerList, Peers, Place, Policy, PolicyKey, PortSpec,
+    PortSpecs, Prefixes, Rule, Rules, Section,
 };
 pub use raw::{
     RawCidrSet, RawCidrSets, RawEntries, RawEntry, RawExpression, RawExpressions, RawPair,

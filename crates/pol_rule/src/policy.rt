@@ -1,11 +1,14 @@
 //! A sanitised policy.
 ghost use Rattle.std.specs.Prelude.{◌≡◌};
+ghost use Rattle.pol_rule.specs.DefaultDeny.{nothing_said, said_of};
 ghost use Rattle.pol_rule.specs.Keys.{same_key};
+ghost use Rattle.pol_rule.specs.Plain.{rule_of};
 
 use pol_addr::Prefix;
 use pol_data::{Items, Text};
 use pol_labels::Selector;
-use pol_ports::{PortRange, Proto};
+use pol_ports::{Direction, PortRange, Proto};
+use std::alloc::Global;
 
 /// A group of identities with a name of its own (Cilium, Network Policy, "Entities based").
 #[derive(Clone, Copy, Debug, PartialEq, Eq, Hash)]
@@ -82,6 +85,38 @@ pub struct Entry {
 /// A list of entries.
 pub type Entries = Items<Entry>;
 
+/// What a rule says of default deny: for each direction, whether it puts the endpoints that it selects under default deny
+/// there (Cilium, Network Policy, "Policy Enforcement Modes", `enableDefaultDeny`). Whatever it says, its denies deny.
+#[derive(Clone, Copy, Debug, PartialEq, Eq)]
+pub struct DefaultDeny {
+    /// Into the endpoint; `None` where the rule has no such member.
+    pub ingress: Option<bool>,
+    /// Out of the endpoint; `None` where the rule has no such member.
+    pub egress: Option<bool>,
+}
+
+impl DefaultDeny {
+    /// Nothing is said of either direction.
+    pub fn nothing_said() -> DefaultDeny
+        ensures { result ≡ nothing_said }
+    {
+        DefaultDeny {
+            ingress: None,
+            egress: None,
+        }
+    }
+
+    /// What is said of the direction; `None` where nothing is.
+    pub fn of(&self, dir: Direction) -> Option<bool>
+        ensures answer { result ≡ said_of dir self.now }
+    {
+        match dir {
+            Direction::Ingress => self.ingress,
+            Direction::Egress => self.egress,
+        }
+    }
+}
+
 /// One rule: whom it selects, and what it allows and denies them.
 #[derive(Debug, Drop)]
 pub struct Rule {
@@ -95,6 +130,24 @@ pub struct Rule {
     pub egress: Entries,
     /// Denied out of the endpoint.
     pub egress_deny: Entries,
+    /// What it says of default deny.
+    pub default_deny: DefaultDeny,
+}
+
+impl Rule {
+    /// The rule that selects these endpoints, with no entries and nothing said of default deny. It takes no memory.
+    pub fn new(alloc: Global, subject: Selector) -> Rule
+        ensures { result ≡ rule_of subject }
+    {
+        Rule {
+            subject,
+            ingress: Entries::empty(alloc),
+            ingress_deny: Entries::empty(alloc),
+            egress: Entries::empty(alloc),
+            egress_deny: Entries::empty(alloc),
+            default_deny: DefaultDeny::nothing_said(),
+        }
+    }
 }
 
 /// A list of rules.

@@ -2,7 +2,7 @@
 ghost use Rattle.std.specs.Prelude.{◌≡◌, IfOk, Ok};
 
 use crate::policy::{
-    Entity, Entry, Peer, Peers, Place, Policy, PolicyKey, PortSpec, Rule, Section,
+    DefaultDeny, Entity, Entry, Peer, Peers, Place, Policy, PolicyKey, PortSpec, Rule, Section,
 };
 use pol_data::{Items, Memory, TryCopy};
 use std::alloc::Global;
@@ -95,6 +95,21 @@ impl TryCopy for Entry {
     }
 }
 
+impl DefaultDeny {
+    /// What is said, again. It takes no memory, and so has no error.
+    pub fn copy(&self, _alloc: Global) -> Result<DefaultDeny, Memory>
+        ensures { result ≡ Ok self.now }
+    {
+        Ok(*self)
+    }
+}
+
+impl TryCopy for DefaultDeny {
+    fn try_copy(&self, alloc: Global) -> Result<DefaultDeny, Memory> {
+        self.copy(alloc)
+    }
+}
+
 impl Rule {
     /// A rule equal to this one. The one error is want of memory.
     pub fn copy(&self, alloc: Global) -> Result<Rule, Memory>
@@ -106,6 +121,7 @@ impl Rule {
             ingress_deny: self.ingress_deny.try_copy(alloc)?,
             egress: self.egress.try_copy(alloc)?,
             egress_deny: self.egress_deny.try_copy(alloc)?,
+            default_deny: self.default_deny,
         })
     }
 }

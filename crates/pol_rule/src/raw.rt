@@ -3,7 +3,7 @@
 //! An absent list of values is an empty list, an absent protocol the empty text, and an absent section
 //! an empty list.
 
-use crate::policy::PolicyKey;
+use crate::policy::{DefaultDeny, PolicyKey};
 use pol_data::{Items, Text, Texts};
 
 /// A member of `matchLabels`.
@@ -111,6 +111,8 @@ pub struct RawRule {
     pub egress: RawEntries,
     /// `egressDeny`.
     pub egress_deny: RawEntries,
+    /// `enableDefaultDeny`.
+    pub default_deny: DefaultDeny,
 }
 
 /// A list of rules.

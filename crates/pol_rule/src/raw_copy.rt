@@ -149,6 +149,7 @@ impl RawRule {
             ingress_deny: self.ingress_deny.try_copy(alloc)?,
             egress: self.egress.try_copy(alloc)?,
             egress_deny: self.egress_deny.try_copy(alloc)?,
+            default_deny: self.default_deny,
         })
     }
 }

@@ -56,13 +56,10 @@ fn key(alloc: Global, family: &str, number: u32) -> Result<PolicyKey, Memory> {
 
 /// One rule for the pods of an application.
 fn rule(alloc: Global, subject: u32, named: PeersOf, first: u32) -> Result<Rule> {
-    Ok(Rule {
-        subject: pods(alloc, subject)?,
-        ingress: entries(alloc, named, first)?,
-        ingress_deny: Entries::empty(alloc),
-        egress: entries(alloc, named, first.wrapping_add(HALF))?,
-        egress_deny: Entries::empty(alloc),
-    })
+    let mut rule = Rule::new(alloc, pods(alloc, subject)?);
+    rule.ingress = entries(alloc, named, first)?;
+    rule.egress = entries(alloc, named, first.wrapping_add(HALF))?;
+    Ok(rule)
 }
 
 /// The policy of that name, with ten entries of the other sides from ten times a number on.

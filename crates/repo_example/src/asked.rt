@@ -45,13 +45,9 @@ fn entries(alloc: Global) -> Option<Entries> {
 }
 
 fn rules(alloc: Global) -> Option<Rules> {
-    let rule = Rule {
-        subject: Selector::from_requirements(alloc, Vec::new(alloc)).ok()?,
-        ingress: Entries::empty(alloc),
-        ingress_deny: Entries::empty(alloc),
-        egress: entries(alloc)?,
-        egress_deny: Entries::empty(alloc),
-    };
+    let everyone = Selector::from_requirements(alloc, Vec::new(alloc)).ok()?;
+    let mut rule = Rule::new(alloc, everyone);
+    rule.egress = entries(alloc)?;
     Rules::one(alloc, rule).ok()
 }
 
