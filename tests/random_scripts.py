@@ -60,6 +60,8 @@ def policy(pick):
     for section, word in (("ingress", "from"), ("ingressDeny", "from"), ("egress", "to"), ("egressDeny", "to")):
         if pick.random() < 0.4:
             spec[section] = [entry(pick, word) for _ in range(pick.randrange(3))]
+    if pick.random() < 0.3:
+        spec["enableDefaultDeny"] = {direction: pick.choice([True, False, None]) for direction in pick.choice([["ingress"], ["egress"], ["ingress", "egress"]])}
     return {"apiVersion": "cilium.io/v2", "kind": kind, "metadata": {"name": f"p{pick.randrange(16)}"}, "spec": spec}
 
 

@@ -8,7 +8,7 @@ NETWORK_API, NETWORK_KIND, NETWORK_FRONT = "networking.k8s.io/v1", "NetworkPolic
 SECTIONS = ["ingress", "ingressDeny", "egress", "egressDeny"]
 PEERS = ["Endpoints", "CIDR", "CIDRSet", "Entities"]
 TEXT, NAME, CIDR, PORT, PROTOCOL, NUMBER, IGNORED = "text", "name", "cidr text", "port text", "protocol text", "number", "ignored"
-PORT_NUMBER = "port number"
+PORT_NUMBER, BOOLEAN = "port number", "boolean"
 COMMON_LEFT_OUT = ["icmps", "authentication"]
 
 
@@ -22,8 +22,9 @@ TABLE = {
     "policy": ({"apiVersion": TEXT, "kind": TEXT, "metadata": "metadata", "spec": "rule", "specs": ["rule"], "status": IGNORED}, []),
     "metadata": ({"name": NAME, "namespace": NAME}, []),
     "rule": ({"endpointSelector": "selector", "ingress": ["ingress entry"], "ingressDeny": ["ingress entry"],
-              "egress": ["egress entry"], "egressDeny": ["egress entry"], "description": TEXT, "labels": [IGNORED]},
-             ["nodeSelector", "enableDefaultDeny"]),
+              "egress": ["egress entry"], "egressDeny": ["egress entry"], "description": TEXT, "labels": [IGNORED],
+              "enableDefaultDeny": "default deny"}, ["nodeSelector"]),
+    "default deny": ({"ingress": BOOLEAN, "egress": BOOLEAN}, []),
     "selector": ({"matchLabels": "match labels", "matchExpressions": ["expression"]}, []),
     "match labels": ({}, []),
     "expression": ({"key": TEXT, "operator": TEXT, "values": [TEXT]}, []),
@@ -90,6 +91,9 @@ def walk(shape, value, path):
         if shape == PORT_NUMBER and isinstance(value, str):
             raise left_out("named-port")
         if not is_number(value):
+            raise wrong_shape(path)
+    elif shape == BOOLEAN:
+        if not isinstance(value, bool):
             raise wrong_shape(path)
     elif shape in TABLE:
         walk_object(shape, value, path)
@@ -283,7 +287,7 @@ def rule_of(key, number, value):
     place.close()
     sections = {section: tuple(entry_of(key, number, section, at, it) for at, it in enumerate(items(value, section)))
                 for section in SECTIONS}
-    return Rule(selector, sections)
+    return Rule(selector, sections, value.get("enableDefaultDeny") or {})
 
 
 def policy_key(kind, namespace, name):

@@ -95,8 +95,10 @@ class Entry:
 
 @dataclass(frozen=True)
 class Rule:
+    """What its member says of default deny is by direction, None or nothing where it says nothing."""
     subject: tuple
     sections: dict = field(hash=False)
+    default_deny: dict = field(default_factory=dict, hash=False)
 
 
 @dataclass(frozen=True)
@@ -327,11 +329,16 @@ def selecting(state, labels):
             if matches(rule.subject, labels)]
 
 
+def says(rule, direction):
+    """Whether the rule puts a direction under default deny."""
+    said = rule.default_deny.get(direction)
+    return bool(rule.sections[direction] or rule.sections[direction + "Deny"]) if said is None else said
+
+
 def enforced(state, endpoint, direction):
     if state.mode != "default":
         return state.mode == "always"
-    says = any(rule.sections[direction] or rule.sections[direction + "Deny"] for _, _, rule in selecting(state, endpoint.labels))
-    return says or endpoint.identity == 5
+    return endpoint.identity == 5 or any(says(rule, direction) for _, _, rule in selecting(state, endpoint.labels))
 
 
 def places(state, endpoint, section, packet):

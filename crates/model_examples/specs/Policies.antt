@@ -1,18 +1,23 @@
 -- Small policies, and what they say, for laws that compute what definitions give (`policies`).
-use Rattle.std.specs.Prelude.{ℕ, ◌+◌, ◌*◌, ◌^◌, List, [], ◌∷◌, codes, drop, map, Option, option_map}
+use Rattle.std.specs.Prelude.{ℕ, Bool, ◌+◌, ◌*◌, ◌^◌, List, [], ◌∷◌, codes, drop, map, Option, Some, option_map}
 use Rattle.pol_addr.specs.declared.network.Prefix.{Prefix}
 use Rattle.pol_mapkey.specs.declared.Word.{Word}
 use Rattle.pol_ports.specs.declared.Direction.{Direction}
+use Rattle.pol_ports.specs.declared.Direction.TheVariants.{Ingress, Egress}
 use Rattle.pol_ports.specs.declared.Proto.TheVariants.{Tcp}
+use Rattle.pol_rule.specs.DefaultDeny.{nothing_said}
+use Rattle.pol_rule.specs.Plain.{rule_of}
+use Rattle.pol_rule.specs.declared.policy.DefaultDeny.{DefaultDeny}
 use Rattle.pol_rule.specs.declared.policy.Entry.{Entry}
 use Rattle.pol_rule.specs.declared.policy.Peer.{Peer}
 use Rattle.pol_rule.specs.declared.policy.Peer.TheVariants.{Cidr}
-use Rattle.pol_rule.specs.declared.policy.Peers.TheVariants.{Listed}
+use Rattle.pol_rule.specs.declared.policy.Peers.TheVariants.{Every, Listed}
 use Rattle.pol_rule.specs.declared.policy.Place.{Place}
 use Rattle.pol_rule.specs.declared.policy.Policy.{Policy}
 use Rattle.pol_rule.specs.declared.policy.Rule.{Rule}
 use Rattle.pol_rule.specs.declared.policy.Section.{Section}
 use Rattle.pol_model.specs.declared.limits.TheConstants.{RESERVED_LAST}
+use Rattle.pol_model.specs.declared.options.Mode.{Mode}
 use Rattle.pol_model.specs.declared.options.Mode.TheVariants.{Default}
 use Rattle.pol_model.specs.declared.options.Options.{Options}
 use Rattle.pol_model.specs.declared.request.Query.{Query}
@@ -36,9 +41,9 @@ abbrev pub section_for : List Prefix → List Entry
 section_for [] = []
 section_for (prefix ∷ others) = entry_for (cidrs (prefix ∷ others)) ∷ []
 
-abbrev pub rule_of : List Entry → List Entry → List Entry → List Entry → Rule
-rule_of ingress ingress_deny egress egress_deny =
-    record { subject = []; ingress = ingress; ingress_deny = ingress_deny; egress = egress; egress_deny = egress_deny }
+abbrev pub in_sections : List Entry → List Entry → List Entry → List Entry → Rule
+in_sections ingress ingress_deny egress egress_deny =
+    record (rule_of []) { ingress = ingress; ingress_deny = ingress_deny; egress = egress; egress_deny = egress_deny }
 
 abbrev pub policy_of : List ℕ → List Rule → Policy
 policy_of name rules = record { key = key_of name; rules = rules }
@@ -46,11 +51,41 @@ policy_of name rules = record { key = key_of name; rules = rules }
 -- one rule for every endpoint, with these prefixes in its four sections
 abbrev pub sections : List Prefix → List Prefix → List Prefix → List Prefix → Policy
 sections ingress ingress_deny egress egress_deny =
-    policy_of (codes "p") (rule_of (section_for ingress) (section_for ingress_deny) (section_for egress) (section_for egress_deny) ∷ [])
+    policy_of (codes "p") (in_sections (section_for ingress) (section_for ingress_deny) (section_for egress) (section_for egress_deny) ∷ [])
 
--- under that policy alone, the verdicts in a direction on the first two prefixes that hold a number, and on the world
+-- under that policy alone and in that mode, the verdicts in a direction on the first two prefixes that hold a number, and
+-- on the world
+abbrev pub words_in : Mode → Options → Direction → Policy → List Word
+words_in mode options dir policy = map (word_at options (SetMode mode ∷ Apply policy ∷ []) dir) (16777217 ∷ 16777218 ∷ 2 ∷ [])
+
 abbrev pub words_under : Options → Direction → Policy → List Word
-words_under options dir policy = map (word_at options (SetMode Default ∷ Apply policy ∷ []) dir) (16777217 ∷ 16777218 ∷ 2 ∷ [])
+words_under = words_in Default
+
+-- what a member says that says this of one direction, and nothing of the other
+abbrev pub says : Direction → Bool → DefaultDeny
+says Ingress said = record nothing_said { ingress = Some said }
+says Egress said = record nothing_said { egress = Some said }
+
+abbrev pub other_side : Direction → Direction
+other_side Ingress = Egress
+other_side Egress = Ingress
+
+-- a rule for every endpoint with that member, and with these sections of one direction: the one that allows, and the one
+-- that denies
+abbrev pub saying : DefaultDeny → Direction → List Entry → List Entry → Rule
+saying said Ingress allows denies = record (rule_of []) { ingress = allows; ingress_deny = denies; default_deny = said }
+saying said Egress allows denies = record (rule_of []) { egress = allows; egress_deny = denies; default_deny = said }
+
+-- the verdicts in that direction under such rules
+abbrev pub words_said : Options → Direction → List Rule → List Word
+words_said options dir rules = words_under options dir (policy_of (codes "p") rules)
+
+-- the section `[{}]`, whose one entry covers nothing
+abbrev pub covers_nothing : List Entry
+covers_nothing = record { peers = Every; ports = [] } ∷ []
+
+abbrev pub first_net : List Entry
+first_net = section_for (net 1 ∷ [])
 
 -- the verdict on TCP port 80 of a number at a live endpoint
 abbrev pub word_for : List ℕ → Options → List Request → Direction → ℕ → Option Word
@@ -71,12 +106,12 @@ numbers_told options policy = numbered_prefixes (drop RESERVED_LAST (state_of op
 abbrev pub many_prefixes : Policy
 many_prefixes =
     policy_of (codes "p")
-    (rule_of
+    (in_sections
     (entry_for (Cidr (net 9) (part 9 2 ∷ part 9 1 ∷ []) ∷ Cidr (net 3) (part 3 1 ∷ []) ∷ []) ∷ entry_for (Cidr (net 7) [] ∷ []) ∷ [])
     (section_for (net 2 ∷ []))
     (section_for (net 8 ∷ net 9 ∷ []))
     (section_for (net 1 ∷ []))
-    ∷ rule_of (section_for (net 6 ∷ net 3 ∷ [])) [] [] (section_for (wide ∷ []))
+    ∷ in_sections (section_for (net 6 ∷ net 3 ∷ [])) [] [] (section_for (wide ∷ []))
     ∷ [])
 
 -- Two policies of which the second comes first by name. In each rule the second of three entries is for others, and the
@@ -85,7 +120,7 @@ abbrev pub three_entries : List Entry
 three_entries = entry_for (cidrs (net 1 ∷ [])) ∷ entry_for (cidrs (net 2 ∷ [])) ∷ entry_for (cidrs (net 1 ∷ [])) ∷ []
 
 abbrev pub covering_rule : Rule
-covering_rule = rule_of three_entries (section_for (net 1 ∷ [])) (section_for (net 1 ∷ [])) three_entries
+covering_rule = in_sections three_entries (section_for (net 1 ∷ [])) (section_for (net 1 ∷ [])) three_entries
 
 abbrev pub two_policies : List Request
 two_policies =

@@ -1,14 +1,34 @@
 //! What sections, modes and the order of prefixes mean, on small policies.
 ghost use Rattle.std.specs.Prelude.{◌≡◌, ◌∷◌, [], None, Some, codes, true, false};
+ghost use Rattle.pol_rule.specs.DefaultDeny.{nothing_said};
 ghost use Rattle.pol_rule.specs.Prefixes.{policy_prefixes};
 ghost use Rattle.pol_rule.specs.declared.policy.Section.TheVariants as section;
 ghost use Rattle.pol_mapkey.specs.declared.Word.TheVariants.{Allowed, DeniedByDefault, DeniedByRule};
+ghost use Rattle.pol_ports.specs.declared.Direction.{Direction as AnyDirection};
 ghost use Rattle.pol_ports.specs.declared.Direction.TheVariants.{Egress, Ingress};
 ghost use Rattle.pol_model.specs.declared.options.Mode.TheVariants.{Always as AlwaysMode, Default as DefaultMode, Never as NeverMode};
 ghost use Rattle.pol_model.specs.declared.options.Options.{Options as AllOptions};
 ghost use Rattle.pol_model.specs.declared.request.Request.TheVariants.{AddEndpoint, Apply, SetMode};
 ghost use Rattle.pol_model_laws.specs.Examples.{adds, host_in, net, reserved, wide};
-ghost use Rattle.model_examples.specs.Policies.{allows_told, denies_told, many_prefixes, numbers_told, part, sections, word_for, words_under};
+ghost use Rattle.pol_model_laws.specs.WorkedMaps.{app_is};
+ghost use Rattle.model_examples.specs.Policies.{
+  allows_told,
+  covers_nothing,
+  denies_told,
+  first_net,
+  many_prefixes,
+  numbers_told,
+  other_side,
+  part,
+  policy_of,
+  saying,
+  says,
+  sections,
+  word_for,
+  words_in,
+  words_said,
+  words_under,
+};
 
 /// Each section alone: what it allows or denies, in which direction, and that it enforces that direction. A deny
 /// section does so as an allow section does. A deny of a part beats an allow of all, in both directions.
@@ -24,6 +44,36 @@ pub fn sections_decide()
     ensures egress_deny_alone { (options : AllOptions) → words_under options Ingress (sections [] [] [] (net 1 ∷ [])) ≡ Allowed ∷ Allowed ∷ Allowed ∷ [] }
     ensures ingress_part { (options : AllOptions) → words_under options Ingress (sections (wide ∷ []) (net 1 ∷ []) [] []) ≡ Allowed ∷ DeniedByRule ∷ DeniedByDefault ∷ [] }
     ensures egress_part { (options : AllOptions) → words_under options Egress (sections [] [] (wide ∷ []) (net 1 ∷ [])) ≡ Allowed ∷ DeniedByRule ∷ DeniedByDefault ∷ [] }
+{}
+
+/// What a rule's `enableDefaultDeny` says of a direction, there alone: true enforces it without a section, and false leaves
+/// it open with any, where its denies still deny. Where it says nothing the sections say it, one that covers nothing too.
+pub fn default_deny_is_said()
+    ensures absent { (options : AllOptions) (dir : AnyDirection) → words_said options dir (saying nothing_said dir [] [] ∷ []) ≡ Allowed ∷ Allowed ∷ Allowed ∷ [] }
+    ensures absent_allows { (options : AllOptions) (dir : AnyDirection) → words_said options dir (saying nothing_said dir first_net [] ∷ []) ≡ Allowed ∷ DeniedByDefault ∷ DeniedByDefault ∷ [] }
+    ensures absent_denies { (options : AllOptions) (dir : AnyDirection) → words_said options dir (saying nothing_said dir [] first_net ∷ []) ≡ DeniedByRule ∷ DeniedByDefault ∷ DeniedByDefault ∷ [] }
+    ensures absent_covers_nothing { (options : AllOptions) (dir : AnyDirection) → words_said options dir (saying nothing_said dir covers_nothing [] ∷ []) ≡ DeniedByDefault ∷ DeniedByDefault ∷ DeniedByDefault ∷ [] }
+    ensures yes { (options : AllOptions) (dir : AnyDirection) → words_said options dir (saying (says dir true) dir [] [] ∷ []) ≡ DeniedByDefault ∷ DeniedByDefault ∷ DeniedByDefault ∷ [] }
+    ensures yes_allows { (options : AllOptions) (dir : AnyDirection) → words_said options dir (saying (says dir true) dir first_net [] ∷ []) ≡ Allowed ∷ DeniedByDefault ∷ DeniedByDefault ∷ [] }
+    ensures yes_denies { (options : AllOptions) (dir : AnyDirection) → words_said options dir (saying (says dir true) dir [] first_net ∷ []) ≡ DeniedByRule ∷ DeniedByDefault ∷ DeniedByDefault ∷ [] }
+    ensures no { (options : AllOptions) (dir : AnyDirection) → words_said options dir (saying (says dir false) dir [] [] ∷ []) ≡ Allowed ∷ Allowed ∷ Allowed ∷ [] }
+    ensures no_allows { (options : AllOptions) (dir : AnyDirection) → words_said options dir (saying (says dir false) dir first_net [] ∷ []) ≡ Allowed ∷ Allowed ∷ Allowed ∷ [] }
+    ensures no_denies { (options : AllOptions) (dir : AnyDirection) → words_said options dir (saying (says dir false) dir [] first_net ∷ []) ≡ DeniedByRule ∷ Allowed ∷ Allowed ∷ [] }
+    ensures no_covers_nothing { (options : AllOptions) (dir : AnyDirection) → words_said options dir (saying (says dir false) dir covers_nothing [] ∷ []) ≡ Allowed ∷ Allowed ∷ Allowed ∷ [] }
+    ensures yes_of_the_other { (options : AllOptions) (dir : AnyDirection) → words_said options dir (saying (says (other_side dir) true) dir [] [] ∷ []) ≡ Allowed ∷ Allowed ∷ Allowed ∷ [] }
+    ensures no_of_the_other { (options : AllOptions) (dir : AnyDirection) → words_said options dir (saying (says (other_side dir) false) dir first_net [] ∷ []) ≡ Allowed ∷ DeniedByDefault ∷ DeniedByDefault ∷ [] }
+{}
+
+/// One rule that puts a direction under default deny is enough, whatever other rules say, where it selects the endpoint. The
+/// modes `always` and `never`, and identity 5, stand over all of them.
+pub fn one_rule_that_says_so_is_enough()
+    ensures no_and_yes { (options : AllOptions) (dir : AnyDirection) → words_said options dir (saying (says dir false) dir first_net [] ∷ saying (says dir true) dir [] [] ∷ []) ≡ Allowed ∷ DeniedByDefault ∷ DeniedByDefault ∷ [] }
+    ensures no_and_a_section { (options : AllOptions) (dir : AnyDirection) → words_said options dir (saying (says dir false) dir first_net [] ∷ saying nothing_said dir covers_nothing [] ∷ []) ≡ Allowed ∷ DeniedByDefault ∷ DeniedByDefault ∷ [] }
+    ensures yes_to_others { (options : AllOptions) (dir : AnyDirection) → words_said options dir (record (saying (says dir true) dir [] []) { subject = app_is (codes "b") ∷ [] } ∷ []) ≡ Allowed ∷ Allowed ∷ Allowed ∷ [] }
+    ensures always { (options : AllOptions) (dir : AnyDirection) → words_in AlwaysMode options dir (policy_of (codes "p") (saying (says dir false) dir first_net [] ∷ [])) ≡ Allowed ∷ DeniedByDefault ∷ DeniedByDefault ∷ [] }
+    ensures never { (options : AllOptions) (dir : AnyDirection) → words_in NeverMode options dir (policy_of (codes "p") (saying (says dir true) dir [] first_net ∷ [])) ≡ Allowed ∷ Allowed ∷ Allowed ∷ [] }
+    ensures init { (options : AllOptions) (dir : AnyDirection) → word_for (codes "a") options
+        (SetMode DefaultMode ∷ AddEndpoint (codes "a") (reserved (codes "init")) (host_in 1) ∷ Apply (policy_of (codes "p") (saying (says dir false) dir [] [] ∷ [])) ∷ []) dir 2 ≡ Some DeniedByDefault }
 {}
 
 /// An endpoint of identity 5 is enforced in both directions by mode `default`, without any policy. Another one isn't.

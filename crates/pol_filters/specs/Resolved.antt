@@ -60,7 +60,7 @@ policy_filters stamped labels dir n (rule ∷ others) =
 abbrev pub filters_in : List Stamped → List Label → Direction → List Filter
 filters_in policies labels dir = flat_map (λ stamped. policy_filters stamped labels dir 0 stamped.policy.rules) policies
 
--- some rule of the policy selects the labels and says something of the direction
+-- some rule of the policy selects the labels and puts the direction under default deny
 unfoldable pub policy_says : List Label → Direction → Stamped → Bool
 policy_says labels dir stamped = list_any (λ rule. matches rule.subject labels && rule_says dir rule) stamped.policy.rules
 

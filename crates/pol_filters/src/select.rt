@@ -18,7 +18,7 @@ use pol_ports::Direction;
 use pol_rule::{Entry, Place, Rule, Section};
 use std::alloc::Global;
 
-/// What rules say of a direction: their filters, and whether any of them says something.
+/// What rules say of a direction: their filters, and whether any of them puts it under default deny.
 #[derive(Drop)]
 struct Said {
     filters: Vec<Filter>,
@@ -26,7 +26,7 @@ struct Said {
 }
 
 impl Said {
-    /// No filters, and no rule says anything.
+    /// No filters, and no rule that puts anything under default deny.
     fn nothing(alloc: Global) -> Said
         ensures filters { result.filters.items ≡ [] }
         ensures some { result.some ≡ false }

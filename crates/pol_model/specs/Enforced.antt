@@ -1,10 +1,11 @@
--- When a direction of an endpoint is enforced (Cilium, Policy Enforcement Modes).
-use Rattle.std.specs.Prelude.{◌==◌, ◌&&◌, ◌||◌, Bool, true, false, List, length, nat_lt}
+-- When a direction of an endpoint is enforced (Cilium, Policy Enforcement Modes, with `enableDefaultDeny`).
+use Rattle.std.specs.Prelude.{◌==◌, ◌&&◌, ◌||◌, Bool, true, false, List, length, nat_lt, unwrap_or}
 use Rattle.std.specs.List.{list_any}
 use Rattle.pol_labels.specs.Match.{matches}
 use Rattle.pol_ports.specs.declared.Direction.{Direction}
 use Rattle.pol_ports.specs.declared.Direction.TheVariants.{Ingress, Egress}
 use Rattle.pol_rule.specs.Covers.{section_of}
+use Rattle.pol_rule.specs.DefaultDeny.{said_of}
 use Rattle.pol_rule.specs.declared.policy.Entry.{Entry}
 use Rattle.pol_rule.specs.declared.policy.Rule.{Rule}
 use Rattle.pol_rule.specs.declared.policy.Section.{Section}
@@ -27,9 +28,13 @@ deny_section Egress = section.EgressDeny
 abbrev pub is_there : List Entry → Bool
 is_there entries = nat_lt 0 (length entries)
 
--- What a rule says of a direction: it has an allow or a deny section there. An empty section is none.
+-- the rule has an allow or a deny section in that direction; an empty section is none
+abbrev pub has_section : Direction → Rule → Bool
+has_section dir rule = is_there (section_of (allow_section dir) rule) || is_there (section_of (deny_section dir) rule)
+
+-- Whether a rule puts a direction under default deny: what its member says, and without one whether it has a section there.
 abbrev pub rule_says : Direction → Rule → Bool
-rule_says dir rule = is_there (section_of (allow_section dir) rule) || is_there (section_of (deny_section dir) rule)
+rule_says dir rule = unwrap_or (said_of dir rule.default_deny) (has_section dir rule)
 
 -- a rule selects the endpoint where its subject matches the endpoint's labels
 abbrev pub rule_selects : Endpoint → Rule → Bool

@@ -1,7 +1,7 @@
 //! Which sections a direction has, which rules select an endpoint, and when a direction is enforced.
 ghost use Rattle.std.specs.Prelude.{◌≡◌};
 ghost use Rattle.std.specs.List.{list_any};
-ghost use Rattle.pol_model.specs.Enforced.{allow_section, deny_section, enforced, has_rule, rule_says, rule_selects};
+ghost use Rattle.pol_model.specs.Enforced.{allow_section, deny_section, enforced, has_rule, has_section, rule_says, rule_selects};
 
 use crate::limits::INIT_IDENTITY;
 use crate::options::Mode;
@@ -29,16 +29,26 @@ pub fn deny_section(dir: Direction) -> Section
     }
 }
 
-/// Whether the rule says something of the direction: it has an allow or a deny section there that isn't empty
-/// (Cilium, Policy Enforcement Modes).
-pub fn rule_says(rule: &Rule, dir: Direction) -> bool
-    ensures { result ≡ rule_says dir rule.now }
+/// Whether the rule has an allow or a deny section in the direction that isn't empty.
+fn has_section(rule: &Rule, dir: Direction) -> bool
+    ensures { result ≡ has_section dir rule.now }
 {
     !rule.entries_of(allow_section(dir)).is_empty()
         || !rule.entries_of(deny_section(dir)).is_empty()
 }
 
-/// Whether some rule of the policy selects the endpoint and says something of the direction.
+/// Whether the rule puts the endpoints that it selects under default deny in the direction: what its
+/// `enableDefaultDeny` says, and without that whether it has a section there (Cilium, Policy Enforcement Modes).
+pub fn rule_says(rule: &Rule, dir: Direction) -> bool
+    ensures { result ≡ rule_says dir rule.now }
+{
+    match rule.default_deny.of(dir) {
+        Some(says) => says,
+        None => has_section(rule, dir),
+    }
+}
+
+/// Whether some rule of the policy selects the endpoint and puts the direction under default deny.
 #[tactic(auto, unfolding(crate::specs::Enforced::has_rule))]
 fn policy_says(stamped: &Stamped, endpoint: &Endpoint, dir: Direction) -> bool
     ensures { result ≡ has_rule (rule_says dir) endpoint.now stamped.now }
@@ -47,7 +57,7 @@ fn policy_says(stamped: &Stamped, endpoint: &Endpoint, dir: Direction) -> bool
     rules.iter().any(|rule| endpoint.is_selected_by(rule) && rule_says(rule, dir))
 }
 
-/// Whether some rule that selects the endpoint says something of the direction.
+/// Whether some rule that selects the endpoint puts the direction under default deny.
 fn some_rule_says(policies: &[Stamped], endpoint: &Endpoint, dir: Direction) -> bool
     ensures { result ≡ list_any (has_rule (rule_says dir) endpoint.now) policies.now }
 {
