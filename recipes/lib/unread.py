@@ -7,7 +7,7 @@ it with the answers of every case.
 import ipaddress
 import re
 
-ANY, TEXT, NAME, NUMBER = "any", "text", "name", "number"
+ANY, TEXT, NAME, NUMBER, BOOL = "any", "text", "name", "number", "bool"
 SHAPES = {
     "policy": {"apiVersion": TEXT, "kind": TEXT, "metadata": "metadata", "spec": "rule", "specs": ["rule"], "status": ANY},
     "metadata": {"name": NAME, "namespace": NAME},
@@ -17,9 +17,11 @@ SHAPES = {
         "ingressDeny": ["from"],
         "egress": ["to"],
         "egressDeny": ["to"],
+        "enableDefaultDeny": "default deny",
         "description": TEXT,
         "labels": [ANY],
     },
+    "default deny": {"ingress": BOOL, "egress": BOOL},
     "selector": {"matchLabels": "texts", "matchExpressions": ["expression"]},
     "expression": {"key": TEXT, "operator": TEXT, "values": [TEXT]},
     "from": {"fromEndpoints": ["selector"], "fromCIDR": ["cidr"], "fromEntities": [TEXT], "fromCIDRSet": ["set"], "toPorts": ["item"]},
@@ -37,7 +39,7 @@ SHAPES = {
 }
 NEEDED = {"expression": ("key", "operator"), "set": ("cidr",), "port": ("port",), "block": ("cidr",)}
 LEFT_OUT = {
-    "rule": "nodeSelector enableDefaultDeny",
+    "rule": "nodeSelector",
     "from": "fromRequires fromNodes fromGroups icmps authentication",
     "to": "toRequires toNodes toGroups toFQDNs toServices icmps authentication",
     "set": "cidrGroupRef cidrGroupSelector",
@@ -127,6 +129,8 @@ def leaf(value, shape, path):
         raise Unread("named-port", path)
     if shape in (NUMBER, "port number"):
         fits = isinstance(value, int) and not isinstance(value, bool) and 0 <= value < 1 << 64
+    elif shape == BOOL:
+        fits = isinstance(value, bool)
     else:
         fits = isinstance(value, str) and (shape != NAME or re.fullmatch(r"[a-z0-9.-]{1,253}", value))
     if not fits:

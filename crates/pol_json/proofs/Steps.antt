@@ -12,7 +12,7 @@ use Rattle.pol_json.specs.Places.{Step, Place, Cause, unknown_name, left_out, wr
 use Rattle.pol_json.specs.Members.{is_null}
 use Rattle.pol_json.specs.Table.{Shape, one}
 use Rattle.pol_json.specs.declared.table.Content.{Content}
-use Rattle.pol_json.specs.declared.table.Content.TheVariants.{Ignored, Text, Number, PortNumber, Object}
+use Rattle.pol_json.specs.declared.table.Content.TheVariants.{Ignored, Text, Boolean, Number, PortNumber, Object}
 
 -- a path of one step
 pub one_step : (text : List ℕ) → text ++ [] ≡ text
@@ -99,6 +99,7 @@ leaf_under step content d none empty = rw (first_under step (places (one content
 pub sound_leaf : (step : Step) (content : Content) (d : Data) → is_sound_leaf content d ≡ true → first_found (map (under step) (places (one content) d)) ≡ None
 sound_leaf step Ignored d sound = leaf_under step Ignored d refl refl
 sound_leaf step (Text form) d sound = leaf_under step (Text form) d (no_cause (content_cause (Text form) d) sound) refl
+sound_leaf step Boolean d sound = leaf_under step Boolean d (no_cause (content_cause Boolean d) sound) refl
 sound_leaf step Number d sound = leaf_under step Number d (no_cause (content_cause Number d) sound) refl
 sound_leaf step PortNumber d sound = leaf_under step PortNumber d (no_cause (content_cause PortNumber d) sound) refl
 sound_leaf step (Object kind) d sound = cc

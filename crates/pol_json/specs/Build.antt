@@ -1,10 +1,12 @@
 -- The policy of a document, member by member. Where a member is absent, what stands for it is empty.
 use Rattle.std.specs.Prelude.{ℕ, Bool, if◌then◌else◌, List, [], ◌∷◌, ◌++◌, codes, map, Option, option_map, option_and_then, unwrap_or}
 use Rattle.serde_json.specs.Data.{Data, Members, no_members, member}
-use Rattle.serde_json.specs.Find.{as_str, as_object, as_number, as_u64}
+use Rattle.serde_json.specs.Find.{as_bool, as_str, as_object, as_number, as_u64}
 use Rattle.pol_json.specs.Members.{is_null, is_text, present, text_at, list_at}
 use Rattle.pol_ports.specs.declared.Direction.{Direction}
 use Rattle.pol_ports.specs.declared.Direction.TheVariants.{Ingress, Egress}
+use Rattle.pol_rule.specs.DefaultDeny.{nothing_said}
+use Rattle.pol_rule.specs.declared.policy.DefaultDeny.{DefaultDeny}
 use Rattle.pol_rule.specs.declared.policy.PolicyKey.{PolicyKey}
 use Rattle.pol_rule.specs.declared.raw.RawCidrSet.{RawCidrSet}
 use Rattle.pol_rule.specs.declared.raw.RawEntry.{RawEntry}
@@ -86,6 +88,17 @@ entry_of dir d =
 
 -- ---- rules and the policy
 
+-- whether a member is true or false; none where it is absent
+abbrev pub member_bool : List ℕ → Data → Option Bool
+member_bool name d = option_and_then as_bool (present name d)
+
+abbrev pub default_deny_of : Data → DefaultDeny
+default_deny_of d = record { ingress = member_bool (codes "ingress") d; egress = member_bool (codes "egress") d }
+
+-- what a rule says of default deny
+abbrev pub default_deny_at : Data → DefaultDeny
+default_deny_at d = unwrap_or (member_of default_deny_of (codes "enableDefaultDeny") d) nothing_said
+
 abbrev pub rule_of : Data → RawRule
 rule_of d =
     record {
@@ -94,6 +107,7 @@ rule_of d =
       ingress_deny = member_items (entry_of Ingress) (codes "ingressDeny") d;
       egress = member_items (entry_of Egress) (codes "egress") d;
       egress_deny = member_items (entry_of Egress) (codes "egressDeny") d;
+      default_deny = default_deny_at d;
     }
 
 -- a rule, then those of `specs`

@@ -4,12 +4,12 @@ use Rattle.std.specs.Option.{option_or}
 use Rattle.std.specs.List.{find, list_any}
 use Rattle.std.specs.Str.{str_eq_ignore_ascii_case}
 use Rattle.serde_json.specs.Data.{Data, Items, no_items, item, Members, no_members, member, array, object}
-use Rattle.serde_json.specs.Find.{as_str, as_array, as_object, as_number, as_u64}
+use Rattle.serde_json.specs.Find.{as_bool, as_str, as_array, as_object, as_number, as_u64}
 use Rattle.pol_json.specs.declared.table.ObjectKind.{ObjectKind}
 use Rattle.pol_json.specs.declared.table.TextForm.{TextForm}
 use Rattle.pol_json.specs.declared.table.TextForm.TheVariants as form
 use Rattle.pol_json.specs.declared.table.Content.{Content}
-use Rattle.pol_json.specs.declared.table.Content.TheVariants.{Ignored, Text, Number, PortNumber, Object}
+use Rattle.pol_json.specs.declared.table.Content.TheVariants.{Ignored, Text, Boolean, Number, PortNumber, Object}
 use Rattle.pol_json.specs.Members.{is_null, present}
 use Rattle.pol_json.specs.Table.{Shape, unknown, unsupported, one, list_of, shape_of, found_first, needed}
 use Rattle.pol_json.specs.Texts.{is_dns_name, is_letter}
@@ -69,6 +69,7 @@ unless_named (Some name) otherwise = Some (left_out (codes "named-port"))
 abbrev pub content_cause : Content → Data → Option Cause
 content_cause Ignored d = None
 content_cause (Text form) d = or_wrong (text_cause form) (as_str d)
+content_cause Boolean d = or_wrong (λ _. None) (as_bool d)
 content_cause Number d = number_cause d
 content_cause PortNumber d = unless_named (as_str d) (number_cause d)
 content_cause (Object kind) d = or_wrong (λ _. object_cause kind d) (as_object d)

@@ -3,10 +3,10 @@
 use Rattle.std.specs.Prelude.{ℕ, Bool, if◌then◌else◌, List, [], ◌∷◌, codes, bytes_eq}
 use Rattle.std.specs.List.{list_any}
 use Rattle.pol_json.specs.declared.table.ObjectKind.{ObjectKind}
-use Rattle.pol_json.specs.declared.table.ObjectKind.TheVariants.{Policy, Metadata, Rule, Selector, MatchLabels, Expression, IngressEntry, EgressEntry, CidrSet, PortItem, Port, NetworkPolicy, NetworkSpec, NetworkIngress, NetworkEgress, NetworkPeer, IpBlock, NetworkPort}
+use Rattle.pol_json.specs.declared.table.ObjectKind.TheVariants.{Policy, Metadata, Rule, DefaultDeny, Selector, MatchLabels, Expression, IngressEntry, EgressEntry, CidrSet, PortItem, Port, NetworkPolicy, NetworkSpec, NetworkIngress, NetworkEgress, NetworkPeer, IpBlock, NetworkPort}
 use Rattle.pol_json.specs.declared.table.TextForm.TheVariants as form
 use Rattle.pol_json.specs.declared.table.Content.{Content}
-use Rattle.pol_json.specs.declared.table.Content.TheVariants.{Ignored, Text, Number, PortNumber, Object}
+use Rattle.pol_json.specs.declared.table.Content.TheVariants.{Ignored, Text, Boolean, Number, PortNumber, Object}
 use Rattle.pol_json.specs.declared.table.Shape.{Shape as CodeShape}
 use Rattle.pol_json.specs.declared.table.Shape.TheVariants as code
 
@@ -50,7 +50,9 @@ members Rule =
     (rows (codes "ingress" ∷ codes "ingressDeny" ∷ []) (list_of (Object IngressEntry))
     (rows (codes "egress" ∷ codes "egressDeny" ∷ []) (list_of (Object EgressEntry))
     (rows (codes "description" ∷ []) (one text)
-    (rows (codes "labels" ∷ []) (list_of Ignored) []))))
+    (rows (codes "labels" ∷ []) (list_of Ignored)
+    (rows (codes "enableDefaultDeny" ∷ []) (one (Object DefaultDeny)) [])))))
+members DefaultDeny = rows (codes "ingress" ∷ codes "egress" ∷ []) (one Boolean) []
 members Selector =
     rows (codes "matchLabels" ∷ []) (one (Object MatchLabels))
     (rows (codes "matchExpressions" ∷ []) (list_of (Object Expression)) [])
@@ -101,7 +103,7 @@ members NetworkPort =
 
 -- the names that Cilium knows and this profile leaves out
 abbrev pub left_out : ObjectKind → List (List ℕ)
-left_out Rule = codes "nodeSelector" ∷ codes "enableDefaultDeny" ∷ []
+left_out Rule = codes "nodeSelector" ∷ []
 left_out IngressEntry =
     codes "fromRequires" ∷ codes "fromNodes" ∷ codes "fromGroups" ∷ codes "icmps" ∷ codes "authentication" ∷ []
 left_out EgressEntry =

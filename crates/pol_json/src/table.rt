@@ -12,6 +12,8 @@ pub(crate) enum ObjectKind {
     Metadata,
     /// `spec`, or an item of `specs`.
     Rule,
+    /// `enableDefaultDeny` of a rule.
+    DefaultDeny,
     /// A selector of a rule's subject or of a peer.
     Selector,
     /// `matchLabels`.
@@ -66,6 +68,8 @@ pub(crate) enum Content {
     Ignored,
     /// A text.
     Text(TextForm),
+    /// True or false.
+    Boolean,
     /// A whole number that is not negative.
     Number,
     /// A port by its number, a whole number that is not negative; by its name it is left out.
@@ -146,7 +150,17 @@ fn rule_member(name: &str) -> Shape
         "egress" | "egressDeny" => EGRESS,
         "description" => TEXT,
         "labels" => Shape::List(Content::Ignored),
-        "nodeSelector" | "enableDefaultDeny" => Shape::Unsupported,
+        "enableDefaultDeny" => Shape::One(Content::Object(ObjectKind::DefaultDeny)),
+        "nodeSelector" => Shape::Unsupported,
+        _ => Shape::Unknown,
+    }
+}
+
+fn default_deny_member(name: &str) -> Shape
+    ensures { seen name.now result ≡ shape_of ObjectKind.DefaultDeny name.now }
+{
+    match name {
+        "ingress" | "egress" => Shape::One(Content::Boolean),
         _ => Shape::Unknown,
     }
 }
@@ -326,6 +340,7 @@ pub(crate) fn shape_of(kind: ObjectKind, name: &str) -> Shape
         ObjectKind::Policy => policy_member(name),
         ObjectKind::Metadata => metadata_member(name),
         ObjectKind::Rule => rule_member(name),
+        ObjectKind::DefaultDeny => default_deny_member(name),
         ObjectKind::Selector => selector_member(name),
         ObjectKind::MatchLabels => TEXT,
         ObjectKind::Expression => expression_member(name),

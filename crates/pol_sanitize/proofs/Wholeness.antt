@@ -22,9 +22,9 @@ use Rattle.pol_rule.specs.declared.raw.RawSelector.{RawSelector}
 use Rattle.pol_sanitize.specs.Faults.{entry_causes, entry_fault, first_fault, first_from, first_cause, located, rule_fault, section_fault, subject_causes, subject_fault}
 use Rattle.pol_sanitize.specs.Peers.{cidr_peer, combines_kinds, endpoint_peer, entity_of, entity_peer, has_outside_exception, is_bad_cidr, is_bad_set, is_unknown_entity, listed, set_peer}
 use Rattle.pol_sanitize.specs.Ports.{all_items, is_bad_port, is_bad_protocol, protocol_of, range_of, spec_of}
-use Rattle.pol_sanitize.specs.Sanitized.{judged, policy_of, rule_of, sanitized_of}
-use Rattle.pol_sanitize.specs.Selectors.{has_bad_member, is_bad_expression, is_bad_label, is_bad_selector, peer_selector, requirements_of}
-use Rattle.pol_sanitize.specs.Whole.{AllExceptionsRead, AllRead, IsWhole, IsWholeEntry, IsWholeRule, IsWholeSelector}
+use Rattle.pol_sanitize.specs.Sanitized.{judged, policy_of, rule_of, rule_with, sanitized_of}
+use Rattle.pol_sanitize.specs.Selectors.{has_bad_member, is_bad_expression, is_bad_label, is_bad_selector, peer_selector, requirements_of, subject_selector}
+use Rattle.pol_sanitize.specs.Whole.{AllExceptionsRead, AllRead, IsWhole, IsWholeEntry, IsWholeRule, IsWholeSelector, meant_denies, written_denies}
 use Rattle.pol_sanitize.specs.declared.fault.Location.{Location}
 
 -- ---- lists
@@ -197,6 +197,21 @@ rule_read : (key : PolicyKey) (rule : ℕ) (raw : RawRule) → rule_fault rule r
 rule_read key rule raw none =
     some_mapped _ raw.subject (subject_where (λ _. Unit {0}) (λ _ _. tt) raw.subject (parts_faultless rule raw none).subject)
 
+-- each rule that is read says what it was written to say of default deny
+one_denies : (key : PolicyKey) (raw : RawRule) (subject : Option RawSelector) (rules : List RawRule) → raw.subject ≡ subject → is_none (rule_of key raw) ≡ false
+    → meant_denies (filter_map (rule_of key) rules) ≡ written_denies rules
+    → meant_denies (cons_option (option_map (λ selector. rule_with key raw (subject_selector key selector)) subject) (filter_map (rule_of key) rules))
+    ≡ written_denies (raw ∷ rules)
+one_denies key raw None rules is some rest = absurd (true≢false (ap (λ o. is_none (option_map (λ selector. rule_with key raw (subject_selector key selector)) o)) (sym is) ∙ some))
+one_denies key raw (Some selector) rules is some rest = ap (λ said. raw.default_deny ∷ said) rest
+
+denies_kept : (key : PolicyKey) (rules : List RawRule) → All (λ rule. is_none (rule_of key rule) ≡ false) rules
+    → meant_denies (filter_map (rule_of key) rules) ≡ written_denies rules
+denies_kept key [] each = refl
+denies_kept key (raw ∷ rules) each =
+    one_denies key raw raw.subject rules refl (All-head (λ rule. is_none (rule_of key rule) ≡ false) raw rules each)
+    (denies_kept key rules (All-tail (λ rule. is_none (rule_of key rule) ≡ false) raw rules each))
+
 pub accepted_faultless : (raw : RawPolicy) (policy : Policy) (fault : Option RuleFault) → judged fault (policy_of raw) ≡ Ok policy → (fault ≡ None) × (policy_of raw ≡ policy)
 accepted_faultless raw policy None is = (refl, cc)
 accepted_faultless raw policy (Some fault) is = cc
@@ -204,9 +219,11 @@ accepted_faultless raw policy (Some fault) is = cc
 pub accepted_whole : (raw : RawPolicy) (policy : Policy) → sanitized_of raw ≡ Ok policy → IsWhole raw policy
 accepted_whole raw policy is =
     let (none, same) = accepted_faultless raw policy (first_fault raw) is in
-    let rules = read_all (rule_of raw.key) raw.rules (all_faultless (λ rule. is_none (rule_of raw.key rule) ≡ false) rule_fault (rule_read raw.key) 0 raw.rules none) in
+    let each = all_faultless (λ rule. is_none (rule_of raw.key rule) ≡ false) rule_fault (rule_read raw.key) 0 raw.rules none in
+    let rules = read_all (rule_of raw.key) raw.rules each in
     record {
       key = ap (λ (p : Policy). p.key) (sym same);
       rules = ap (λ (p : Policy). map Some p.rules) (sym same) ∙ rules;
       parts = all_faultless (IsWholeRule raw.key) rule_fault (rule_whole raw.key) 0 raw.rules none;
+      default_deny = ap (λ (p : Policy). meant_denies p.rules) (sym same) ∙ denies_kept raw.key raw.rules each;
     }

@@ -31,6 +31,7 @@ rule_with key rule subject = record {
   ingress_deny = section_of key rule.ingress_deny;
   egress = section_of key rule.egress;
   egress_deny = section_of key rule.egress_deny;
+  default_deny = rule.default_deny;
 }
 
 -- a rule without a subject says nothing of any endpoint

@@ -3,6 +3,7 @@ use Rattle.std.specs.Prelude.{◌≡◌, List, map, filter_map, All, Option, Som
 use Rattle.pol_addr.specs.Prefix.{read_prefix}
 use Rattle.pol_labels.specs.WellFormed.{all_well_formed}
 use Rattle.pol_rule.specs.Listed.{rule_entries}
+use Rattle.pol_rule.specs.declared.policy.DefaultDeny.{DefaultDeny}
 use Rattle.pol_rule.specs.declared.policy.Entry.{Entry}
 use Rattle.pol_rule.specs.declared.policy.Peer.{Peer}
 use Rattle.pol_rule.specs.declared.policy.Peer.TheVariants as peer
@@ -50,11 +51,19 @@ pub record IsWholeRule (key : PolicyKey) (rule : RawRule) : Type 0 where
   pub egress : All (IsWholeEntry key) rule.egress
   pub egress_deny : All (IsWholeEntry key) rule.egress_deny
 
--- the policy has the key, and a rule for each rule, with a subject and all its parts
+-- what the rules say of default deny, as it was written and as it is meant
+abbrev pub written_denies : List RawRule → List DefaultDeny
+written_denies rules = map (λ (rule : RawRule). rule.default_deny) rules
+
+abbrev pub meant_denies : List Rule → List DefaultDeny
+meant_denies rules = map (λ (rule : Rule). rule.default_deny) rules
+
+-- the policy has the key, and a rule for each rule, with a subject and all its parts, which says the same of default deny
 pub record IsWhole (raw : RawPolicy) (policy : Policy) : Type 0 where
   pub key : policy.key ≡ raw.key
   pub rules : map Some policy.rules ≡ map (rule_of raw.key) raw.rules
   pub parts : All (IsWholeRule raw.key) raw.rules
+  pub default_deny : meant_denies policy.rules ≡ written_denies raw.rules
 
 -- ---- well formed
 

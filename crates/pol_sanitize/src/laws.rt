@@ -43,7 +43,8 @@ pub fn peers()
 {}
 
 /// A policy that is accepted keeps its key, and nothing of it is left out: each rule, entry, selector,
-/// requirement, prefix, exception, entity and port of it is read. Its selectors are well formed.
+/// requirement, prefix, exception, entity and port of it is read, and each rule says what it was written to say of default
+/// deny. Its selectors are well formed.
 pub fn accepted()
     ensures whole { (raw : RawPolicy) (policy : Policy) → sanitized_of raw ≡ Ok policy → IsWhole raw policy }
     ensures well_formed { (raw : RawPolicy) (policy : Policy) → sanitized_of raw ≡ Ok policy → All IsWellFormedRule policy.rules }

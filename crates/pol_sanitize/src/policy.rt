@@ -97,6 +97,7 @@ fn rule_of(alloc: Global, key: &PolicyKey, rule: u32, raw: &RawRule) -> Result<R
         ingress_deny: section_of(alloc, key, rule, Section::IngressDeny, &raw.ingress_deny)?,
         egress: section_of(alloc, key, rule, Section::Egress, &raw.egress)?,
         egress_deny: section_of(alloc, key, rule, Section::EgressDeny, &raw.egress_deny)?,
+        default_deny: raw.default_deny,
     })
 }
 
