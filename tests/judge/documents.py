@@ -365,9 +365,8 @@ def read_network_policy(value):
     entries = {section: tuple(network_entry(key[1], section, at, it) for at, it in enumerate(items(spec, section)))
                for section in ("ingress", "egress")}
     isolates = {"ingress": "Ingress" in types or not types, "egress": "Egress" in types or not types and bool(entries["egress"])}
-    # a direction that it isolates without an entry has one that covers nothing
-    sections = {section: (entries.get(section) or (Entry(None, ()),)) if isolates.get(section) else () for section in SECTIONS}
-    return Policy(key, (Rule(subject, sections),))
+    sections = {section: entries[section] if isolates.get(section) else () for section in SECTIONS}
+    return Policy(key, (Rule(subject, sections, isolates),))
 
 
 def read_policy(value):

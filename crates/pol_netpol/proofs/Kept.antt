@@ -1,6 +1,6 @@
 -- A NetworkPolicy keeps its meaning.
 use Rattle.std.proofs.Common.{◌≡◌, ◌≤◌, ℕ, Bool, true, false, cond, ◌&&◌, ◌||◌, List, [], ◌∷◌, ◌++◌, map, filter_map, All, Option, Some, None, is_none, option_map, option_and_then, Ok, refl, sym, ap, ◌∙◌, arith}
-use Rattle.std.proofs.lemmas.Bool.{le-leb, lt-ltb, true≢false}
+use Rattle.std.proofs.lemmas.Bool.{le-leb, true≢false}
 use Rattle.std.proofs.lemmas.List.Elements.{All-head, All-tail}
 use Rattle.std.specs.List.{cons_option, list_any}
 use Rattle.std.specs.Option.{option_map_or, option_or}
@@ -13,7 +13,6 @@ use Rattle.pol_ports.specs.declared.Proto.{Proto}
 use Rattle.pol_rule.specs.Covers.{entry_covers, has_ports, ports_cover}
 use Rattle.pol_rule.specs.declared.cause.RuleCause.{RuleCause}
 use Rattle.pol_rule.specs.declared.fault.RuleFault.{RuleFault}
-use Rattle.pol_rule.specs.declared.policy.Entry.{Entry}
 use Rattle.pol_rule.specs.declared.policy.Peer.{Peer}
 use Rattle.pol_rule.specs.declared.policy.Policy.{Policy}
 use Rattle.pol_rule.specs.declared.policy.Section.{Section}
@@ -25,7 +24,7 @@ use Rattle.pol_sanitize.specs.Selectors.{is_in_namespace}
 use Rattle.pol_sanitize.proofs.Wholeness.{all_faultless, no_cause}
 use Rattle.pol_rule.specs.Covers as covers
 use Rattle.pol_rule.specs.declared.policy.Rule.{Rule}
-use Rattle.pol_model.specs.Enforced.{allow_section, deny_section, is_there, rule_says, rule_selects}
+use Rattle.pol_model.specs.Enforced.{allow_section, deny_section, rule_says, rule_selects}
 use Rattle.pol_model.specs.Selects.{selects_number}
 use Rattle.pol_model.specs.State.{State}
 use Rattle.pol_model.specs.Verdict.{rule_covers}
@@ -34,7 +33,7 @@ use Rattle.pol_model.specs.declared.row.IdentityRow.{IdentityRow}
 use Rattle.pol_netpol.specs.Faults.{asks_badly, entry_causes, entry_fault, excepts_outside, fault_at, first_fault, has_bad_cidr, has_bad_selector, is_bad_end, is_bad_peer, is_bad_port, is_bad_protocol, is_bad_selector, section_fault, subject_causes, subject_fault}
 use Rattle.pol_netpol.specs.Keeps.{KeepsItsMeaning, MeansTheSame}
 use Rattle.pol_netpol.specs.Meaning.{allows, entries_of, entry_takes, is_pod_of, isolates, meets, of_pod, port_takes, selects}
-use Rattle.pol_netpol.specs.Translated.{entry_of, policy_of, requirements_of, rule_of, rule_with, section_of, some_entry, spec_of, subject_of}
+use Rattle.pol_netpol.specs.Translated.{entry_of, policy_of, requirements_of, rule_of, rule_with, section_of, spec_of, subject_of}
 use Rattle.pol_netpol.specs.declared.raw.RawNetEntry.{RawNetEntry}
 use Rattle.pol_netpol.specs.declared.raw.RawNetPeer.{RawNetPeer}
 use Rattle.pol_netpol.specs.declared.raw.RawNetPort.{RawNetPort}
@@ -103,20 +102,7 @@ module _ (own : List ℕ) (rows : List IdentityRow) (number : ℕ) (proto : Prot
       let here = All-head Fine entry entries fine in
       λ i. entry_same entry.peers entry.ports here.peers here.ports i || entries_same entries (All-tail Fine entry entries fine) i
 
-  -- an entry that covers nothing changes nothing
-  some_same : (entries : List Entry) → list_any (entry_covers takes proto port) (some_entry entries) ≡ list_any (entry_covers takes proto port) entries
-  some_same [] = refl
-  some_same (entry ∷ entries) = refl
-
 -- ---- the rule
-some_there : (entries : List Entry) → is_there (some_entry entries) ≡ true
-some_there [] = lt-ltb 0 1 (omega arith)
-some_there (entry ∷ entries) = lt-ltb 0 _ (omega arith)
-
-says : (b : Bool) (entries : List Entry) → (is_there (cond b (some_entry entries) []) || false) ≡ b
-says true entries = ap (λ b. b || false) (some_there entries)
-says false entries = refl
-
 module _ (raw : RawNetworkPolicy) (selector : RawSelector) (there : raw.subject ≡ Some selector) where
   abbrev own : List ℕ
   own = raw.key.namespace
@@ -130,18 +116,17 @@ module _ (raw : RawNetworkPolicy) (selector : RawSelector) (there : raw.subject 
       ∙ (λ i. selector_met [] labels selector i && own_namespace own labels i)
       ∙ ap (λ o. option_map_or (meets (of_pod labels)) o false && is_pod_of own labels) (sym there)
 
-  says_same : (dir : Direction) (labels : List Label) → (matches subject labels && (is_there (section_of raw dir) || false)) ≡ (selects raw labels && isolates raw dir)
-  says_same dir labels = λ i. selects_same labels i && says (isolates raw dir) (map (entry_of own) (entries_of dir raw)) i
+  says_same : (dir : Direction) (labels : List Label) → (matches subject labels && isolates raw dir) ≡ (selects raw labels && isolates raw dir)
+  says_same dir labels = λ i. selects_same labels i && isolates raw dir
 
   section_same : (dir : Direction) → All Fine (entries_of dir raw) → (rows : List IdentityRow) (number : ℕ) (proto : Proto) (port : ℕ) (low : port ≤ 65535)
       → isolates raw dir ≡ true → list_any (entry_covers (selects_number rows number) proto port) (section_of raw dir) ≡ allows raw rows dir number proto port
   section_same dir fine rows number proto port low isolated =
-      ap (λ b. list_any (entry_covers (selects_number rows number) proto port) (cond b (some_entry (map (entry_of own) (entries_of dir raw))) [])) isolated
-      ∙ some_same own rows number proto port low (map (entry_of own) (entries_of dir raw))
+      ap (λ b. list_any (entry_covers (selects_number rows number) proto port) (cond b (map (entry_of own) (entries_of dir raw)) [])) isolated
       ∙ entries_same own rows number proto port low (entries_of dir raw) fine
 
   elsewhere : (dir : Direction) → isolates raw dir ≡ false → section_of raw dir ≡ []
-  elsewhere dir not_isolated = ap (λ b. cond b (some_entry (map (entry_of own) (entries_of dir raw))) []) not_isolated
+  elsewhere dir not_isolated = ap (λ b. cond b (map (entry_of own) (entries_of dir raw)) []) not_isolated
 
   abbrev rule : Rule
   rule = rule_with raw subject

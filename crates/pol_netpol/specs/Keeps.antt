@@ -18,7 +18,7 @@ use Rattle.pol_netpol.specs.Translated.{translated_of}
 use Rattle.pol_netpol.specs.declared.raw.RawNetworkPolicy.{RawNetworkPolicy}
 
 pub record MeansTheSame (raw : RawNetworkPolicy) (rule : Rule) : Type 0 where
-  -- the rule selects the endpoint and says something of the direction exactly where the object selects and isolates it
+  -- the rule selects the endpoint and puts the direction under default deny exactly where the object selects and isolates it
   pub enforces : (endpoint : Endpoint) (dir : Direction)
       → (rule_selects endpoint rule && rule_says dir rule) ≡ (selects raw endpoint.labels && isolates raw dir)
   -- in the object's directions it allows exactly what the object allows

@@ -12,6 +12,7 @@ use Rattle.pol_ports.specs.declared.Direction.{Direction}
 use Rattle.pol_ports.specs.declared.Direction.TheVariants.{Ingress, Egress}
 use Rattle.pol_ports.specs.declared.PortRange.{PortRange}
 use Rattle.pol_rule.specs.declared.fault.RuleFault.{RuleFault}
+use Rattle.pol_rule.specs.declared.policy.DefaultDeny.{DefaultDeny}
 use Rattle.pol_rule.specs.declared.policy.Entry.{Entry}
 use Rattle.pol_rule.specs.declared.policy.Peer.{Peer}
 use Rattle.pol_rule.specs.declared.policy.Peer.TheVariants.{Labels}
@@ -117,19 +118,13 @@ ports_of (peer ∷ peers) ports = filter_map spec_of ports
 abbrev pub entry_of : List ℕ → RawNetEntry → Entry
 entry_of own entry = record { peers = peers_of own entry.peers; ports = ports_of entry.peers entry.ports }
 
--- in a rule this entry covers nothing
-abbrev pub nothing : Entry
-nothing = record { peers = Every; ports = [] }
-
--- Without entries nothing is allowed: one entry that covers nothing says so.
-abbrev pub some_entry : List Entry → List Entry
-some_entry [] = nothing ∷ []
-some_entry (entry ∷ entries) = entry ∷ entries
-
 -- a direction in which the object doesn't isolate has no entry
 abbrev pub section_of : RawNetworkPolicy → Direction → List Entry
-section_of raw dir =
-    if isolates raw dir then some_entry (map (entry_of raw.key.namespace) (entries_of dir raw)) else []
+section_of raw dir = if isolates raw dir then map (entry_of raw.key.namespace) (entries_of dir raw) else []
+
+-- the rule says of each direction whether the object isolates there, so also where no entry would say it
+abbrev pub default_deny_of : RawNetworkPolicy → DefaultDeny
+default_deny_of raw = record { ingress = Some (isolates raw Ingress); egress = Some (isolates raw Egress) }
 
 -- the pods of the object's namespace that its `podSelector` selects
 abbrev pub subject_of : List ℕ → RawSelector → Option (List Requirement)
@@ -142,6 +137,7 @@ rule_with raw subject = record {
   ingress_deny = [];
   egress = section_of raw Egress;
   egress_deny = [];
+  default_deny = default_deny_of raw;
 }
 
 abbrev pub rule_of : RawNetworkPolicy → Option Rule

@@ -9,7 +9,7 @@ ghost use Rattle.pol_rule.specs.declared.policy.Policy.{Policy};
 
 /// A NetworkPolicy that is accepted becomes one rule, which selects, isolates and covers exactly where the object
 /// does by its own definition: in every state, for every endpoint, direction, number, protocol and port. It denies
-/// nothing, and says nothing in a direction that isn't among the object's types.
+/// nothing, and has no entry in a direction that isn't among the object's types.
 pub fn keeps_its_meaning()
     ensures { KeepsItsMeaning }
 {}

@@ -4,7 +4,7 @@ ghost use Rattle.std.specs.List.{list_any};
 ghost use Rattle.std.specs.Str.{bytes_eq};
 ghost use Rattle.pol_sanitize.specs.Answers.{Refuses};
 ghost use Rattle.pol_netpol.specs.Meaning.{default_type, entries_of, isolates, type_text};
-ghost use Rattle.pol_netpol.specs.Translated.{entry_of, nothing, policy_of, rule_of, section_of, some_entry, translated_of};
+ghost use Rattle.pol_netpol.specs.Translated.{default_deny_of, entry_of, policy_of, rule_of, section_of, translated_of};
 
 use crate::first_fault::check;
 use crate::peers::peers_of;
@@ -13,7 +13,7 @@ use crate::raw::{RawNetEntry, RawNetworkPolicy};
 use crate::selectors::{own_pods, well_formed};
 use pol_data::{Items, Memory, Text};
 use pol_ports::Direction;
-use pol_rule::{Entries, Entry, Peers, Policy, Rule};
+use pol_rule::{DefaultDeny, Entries, Entry, Policy, Rule};
 use pol_sanitize::SanitizeError;
 use std::alloc::Global;
 
@@ -84,38 +84,28 @@ fn each_entry(alloc: Global, own: &Text, entries: &[RawNetEntry]) -> Result<Entr
     Ok(Items::from_vec(made))
 }
 
-/// The entry that covers nothing.
-fn no_entry(alloc: Global) -> Entry
-    ensures { result ≡ nothing }
-{
-    Entry {
-        peers: Peers::Every,
-        ports: Items::empty(alloc),
-    }
-}
-
-/// An entry for each; where there is none, one that covers nothing.
-fn some_entry(alloc: Global, own: &Text, entries: &[RawNetEntry]) -> Result<Entries, Memory>
-    ensures { IfOk result (λ made. made ≡ some_entry (map (entry_of own.now) entries.now)) }
-{
-    match entries {
-        [] => Items::one(alloc, no_entry(alloc)),
-        listed => each_entry(alloc, own, listed),
-    }
-}
-
 /// The entries of a direction, none where the object doesn't isolate in it.
 fn section_of(alloc: Global, raw: &RawNetworkPolicy, dir: Direction) -> Result<Entries, Memory>
     ensures { IfOk result (λ entries. entries ≡ section_of raw.now dir) }
 {
     if isolates(raw, dir) {
-        some_entry(alloc, &raw.key.namespace, entries_of(dir, raw))
+        each_entry(alloc, &raw.key.namespace, entries_of(dir, raw))
     } else {
         Ok(Items::empty(alloc))
     }
 }
 
 // ---- the rule and the policy
+
+/// The rule says of each direction whether the object isolates there.
+fn default_deny_of(raw: &RawNetworkPolicy) -> DefaultDeny
+    ensures { result ≡ default_deny_of raw.now }
+{
+    DefaultDeny {
+        ingress: Some(isolates(raw, Direction::Ingress)),
+        egress: Some(isolates(raw, Direction::Egress)),
+    }
+}
 
 fn rule_of(alloc: Global, raw: &RawNetworkPolicy) -> Result<Option<Rule>, Memory>
     ensures { IfOk result (λ rule. rule ≡ rule_of raw.now) }
@@ -133,6 +123,7 @@ fn rule_of(alloc: Global, raw: &RawNetworkPolicy) -> Result<Option<Rule>, Memory
         ingress_deny: Items::empty(alloc),
         egress: section_of(alloc, raw, Direction::Egress)?,
         egress_deny: Items::empty(alloc),
+        default_deny: default_deny_of(raw),
     }))
 }
 
