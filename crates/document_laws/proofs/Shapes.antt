@@ -44,6 +44,12 @@ name_shape = member_shape metadata_shape (codes "name")
 abbrev pub rule_shape : Shape
 rule_shape = member_shape policy_shape (codes "spec")
 
+abbrev pub default_deny_shape : Shape
+default_deny_shape = member_shape rule_shape (codes "enableDefaultDeny")
+
+abbrev pub boolean_shape : Shape
+boolean_shape = member_shape default_deny_shape (codes "ingress")
+
 abbrev pub selector_shape : Shape
 selector_shape = member_shape rule_shape (codes "endpointSelector")
 
@@ -91,6 +97,9 @@ metadata_is = record { nothing = refl; more = λ name d others. refl }
 
 pub rule_is : IsObject rule_shape
 rule_is = record { nothing = refl; more = λ name d others. refl }
+
+pub default_deny_is : IsObject default_deny_shape
+default_deny_is = record { nothing = refl; more = λ name d others. refl }
 
 pub selector_is : IsObject selector_shape
 selector_is = record { nothing = refl; more = λ name d others. refl }

@@ -2,16 +2,17 @@
 use Rattle.std.proofs.Common.{◌≡◌, ℕ, suc, ◌^◌, ◌<◌, ◌≤◌, Bool, true, false, List, [], ◌∷◌, codes, map, Option, None, Some, option_map, IfSome, Less, nat_cmp, refl, arith}
 use Rattle.std.specs.Cmp.Lexicographic.{slice_cmp}
 use Rattle.std.specs.List.{AllByRecursion}
-use Rattle.serde_json.specs.Data.{Data, string, object, Items, Members, member, depth, items_depth, members_depth}
+use Rattle.serde_json.specs.Data.{Data, boolean, string, object, Items, Members, member, depth, items_depth, members_depth}
 use Rattle.serde_json.specs.View.{items_of}
 use Rattle.document_laws.proofs.Nothing.{all_sound, each_sound}
 use Rattle.document_laws.proofs.TextRead.{IsPlain, ItemsPlain, MembersPlain}
 use Rattle.document_laws.specs.Fields.{Fields, array_of, members_of, object_of, unless_empty, with_field}
 use Rattle.document_laws.specs.Kept.{ComesBefore, IsKeptEntry, IsKeptItem, IsKeptPort, IsKeptRule, IsKeptSection, IsKeptSelector, LabelsAscend}
-use Rattle.document_laws.specs.Written.{cidr_set_document, cidr_set_fields, document_with, entry_document, entry_fields, expression_document, expression_fields, kind_text, label_members, labels_document, metadata_document, metadata_fields, namespace_document, policy_fields, port_document, port_fields, port_item_document, port_item_fields, rule_document, rule_fields, section_document, selector_document, selector_fields, texts_document, whole_document}
+use Rattle.document_laws.specs.Written.{cidr_set_document, cidr_set_fields, default_deny_document, default_deny_fields, document_with, entry_document, entry_fields, expression_document, expression_fields, kind_text, label_members, labels_document, metadata_document, metadata_fields, namespace_document, policy_fields, port_document, port_fields, port_item_document, port_item_fields, rule_document, rule_fields, section_document, selector_document, selector_fields, texts_document, whole_document}
 use Rattle.pol_json.specs.Look.{IsBelow, ItemsAscend, MembersAscend, NamesAscend}
 use Rattle.pol_ports.specs.declared.Direction.{Direction}
 use Rattle.pol_ports.specs.declared.Direction.TheVariants.{Ingress, Egress}
+use Rattle.pol_rule.specs.declared.policy.DefaultDeny.{DefaultDeny}
 use Rattle.pol_rule.specs.declared.policy.PolicyKey.{PolicyKey}
 use Rattle.pol_rule.specs.declared.raw.RawCidrSet.{RawCidrSet}
 use Rattle.pol_rule.specs.declared.raw.RawEntry.{RawEntry}
@@ -209,19 +210,36 @@ pub subject_writable : (n : ℕ) (subject : Option RawSelector) → IfSome subje
 subject_writable n None kept = tt
 subject_writable n (Some selector) kept = selector_writable n selector kept
 
+said_writable : (n : ℕ) (said : Option Bool) → IfSome (option_map boolean said) (IsWritable n)
+said_writable n None = tt
+said_writable n (Some b) = record { plain = tt; ascend = tt; shallow = omega arith }
+
+deny_writable : (n : ℕ) (said : DefaultDeny) → IsWritable (suc n) (object_of (default_deny_fields said))
+deny_writable n said =
+    fields_writable n (default_deny_fields said) ((refl, tt), (tt, tt)) (said_writable n said.egress, (said_writable n said.ingress, tt))
+
+default_deny_writable : (n : ℕ) (ingress egress : Option Bool)
+    → IfSome (default_deny_document (record { ingress = ingress; egress = egress })) (IsWritable (suc n))
+default_deny_writable n None None = tt
+default_deny_writable n None (Some b) = deny_writable n (record { ingress = None; egress = Some b })
+default_deny_writable n (Some a) egress = deny_writable n (record { ingress = Some a; egress = egress })
+
 rule_writable : (n : ℕ) (r : RawRule) → IsKeptRule r → IsWritable (suc (suc (suc (suc (suc (suc (suc (suc n)))))))) (rule_document r)
 rule_writable n r kept =
     let three = suc (suc (suc n)) in
     fields_writable (suc (suc (suc (suc three)))) (rule_fields r)
-    ((refl, (refl, (refl, (refl, tt)))), ((refl, (refl, (refl, tt))), ((refl, (refl, tt)), ((refl, tt), (tt, tt))))) (
+    ((refl, (refl, (refl, (refl, (refl, tt))))), ((refl, (refl, (refl, (refl, tt)))), ((refl, (refl, (refl, tt))), ((refl, (refl, tt)), ((refl, tt), (tt, tt)))))) (
       section_writable n Egress r.egress kept.egress,
       (
         section_writable n Egress r.egress_deny kept.egress_deny,
         (
-          subject_writable three r.subject kept.subject,
+          default_deny_writable (suc (suc (suc three))) r.default_deny.ingress r.default_deny.egress,
           (
-            section_writable n Ingress r.ingress kept.ingress,
-            (section_writable n Ingress r.ingress_deny kept.ingress_deny, tt),
+            subject_writable three r.subject kept.subject,
+            (
+              section_writable n Ingress r.ingress kept.ingress,
+              (section_writable n Ingress r.ingress_deny kept.ingress_deny, tt),
+            ),
           ),
         ),
       ),

@@ -1,12 +1,13 @@
 -- Policies as the documents that write them, of a CiliumNetworkPolicy or a CiliumClusterwideNetworkPolicy (Cilium, Network
 -- Policy, "CiliumNetworkPolicy"). The members of an object stand in byte order, but for labels, which stand as they are
 -- listed; what is empty is left out, but for what a member of an entry lists.
-use Rattle.std.specs.Prelude.{ℕ, Bool, true, false, List, [], ◌∷◌, codes, Option, None, Some, option_map}
-use Rattle.serde_json.specs.Data.{Data, unsigned, number, string, object, Members, no_members, member}
+use Rattle.std.specs.Prelude.{ℕ, Bool, true, false, ◌||◌, if◌then◌else◌, List, [], ◌∷◌, codes, Option, None, Some, is_some, option_map}
+use Rattle.serde_json.specs.Data.{Data, unsigned, boolean, number, string, object, Members, no_members, member}
 use Rattle.document_laws.specs.Fields.{Fields, object_of, array_of, unless_empty}
 use Rattle.pol_json.specs.Build.{by_direction}
 use Rattle.pol_ports.specs.declared.Direction.{Direction}
 use Rattle.pol_ports.specs.declared.Direction.TheVariants.{Ingress, Egress}
+use Rattle.pol_rule.specs.declared.policy.DefaultDeny.{DefaultDeny}
 use Rattle.pol_rule.specs.declared.policy.PolicyKey.{PolicyKey}
 use Rattle.pol_rule.specs.declared.raw.RawCidrSet.{RawCidrSet}
 use Rattle.pol_rule.specs.declared.raw.RawEntry.{RawEntry}
@@ -96,10 +97,23 @@ entry_document dir entry = object_of (entry_fields dir entry)
 abbrev pub section_document : Direction → List RawEntry → Data
 section_document dir entries = array_of (entry_document dir) entries
 
+abbrev pub default_deny_fields : DefaultDeny → Fields
+default_deny_fields said =
+    (codes "egress", option_map boolean said.egress)
+    ∷ (codes "ingress", option_map boolean said.ingress)
+    ∷ []
+
+abbrev pub says_something : DefaultDeny → Bool
+says_something said = is_some said.ingress || is_some said.egress
+
+abbrev pub default_deny_document : DefaultDeny → Option Data
+default_deny_document said = if says_something said then Some (object_of (default_deny_fields said)) else None
+
 abbrev pub rule_fields : RawRule → Fields
 rule_fields rule =
     (codes "egress", unless_empty (section_document Egress) rule.egress)
     ∷ (codes "egressDeny", unless_empty (section_document Egress) rule.egress_deny)
+    ∷ (codes "enableDefaultDeny", default_deny_document rule.default_deny)
     ∷ (codes "endpointSelector", option_map selector_document rule.subject)
     ∷ (codes "ingress", unless_empty (section_document Ingress) rule.ingress)
     ∷ (codes "ingressDeny", unless_empty (section_document Ingress) rule.ingress_deny)

@@ -18,7 +18,7 @@ use Rattle.pol_labels.specs.declared.requirement.Requirement.{Requirement}
 use Rattle.pol_ports.specs.PortRange.{range_from}
 use Rattle.pol_ports.specs.declared.PortRange.{PortRange}
 use Rattle.pol_ports.specs.declared.Proto.TheVariants.{Tcp}
-use Rattle.pol_rule.specs.Plain.{rule_of}
+use Rattle.pol_rule.specs.Plain.{raw_rule_of, rule_of}
 use Rattle.pol_rule.specs.declared.cause.RuleCause.TheVariants as rule
 use Rattle.pol_rule.specs.declared.policy.Entry.{Entry}
 use Rattle.pol_rule.specs.declared.policy.Peer.TheVariants.{Labels}
@@ -82,10 +82,8 @@ raw_entry n last =
     record { endpoints = Some (raw_selector n.from ∷ []); cidrs = None; cidr_sets = None; entities = None; ports = raw_items n.first last }
 
 abbrev raw_rule : Bool → Numbers → ℕ → RawRule
-raw_rule true n last =
-    record { subject = Some (raw_selector n.app); ingress = []; ingress_deny = raw_entry n last ∷ []; egress = []; egress_deny = [] }
-raw_rule false n last =
-    record { subject = Some (raw_selector n.app); ingress = raw_entry n last ∷ []; ingress_deny = []; egress = []; egress_deny = [] }
+raw_rule true n last = record (raw_rule_of (Some (raw_selector n.app))) { ingress_deny = raw_entry n last ∷ [] }
+raw_rule false n last = record (raw_rule_of (Some (raw_selector n.app))) { ingress = raw_entry n last ∷ [] }
 
 abbrev key_named : List ℕ → PolicyKey
 key_named name = record { cluster_wide = false; namespace = codes "default"; name = codes "p" ++ name }

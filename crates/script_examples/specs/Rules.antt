@@ -1,7 +1,10 @@
 -- Written selectors and rules, for laws that read them (`rules`).
-use Rattle.std.specs.Prelude.{ℕ, false, true, List, [], ◌∷◌, codes, None, Some}
+use Rattle.std.specs.Prelude.{ℕ, false, true, List, [], ◌∷◌, codes, map, None, Some}
 use Rattle.pol_labels.specs.declared.requirement.Operator.TheVariants.{OneOf, Present}
 use Rattle.pol_labels.specs.declared.requirement.Requirement.{Requirement}
+use Rattle.pol_rule.specs.Plain.{raw_rule_of}
+use Rattle.pol_rule.specs.declared.policy.DefaultDeny.{DefaultDeny}
+use Rattle.pol_rule.specs.declared.policy.Policy.{Policy}
 use Rattle.pol_rule.specs.declared.policy.PolicyKey.{PolicyKey}
 use Rattle.pol_rule.specs.declared.raw.RawPolicy.{RawPolicy}
 use Rattle.pol_rule.specs.declared.raw.RawSelector.{RawSelector}
@@ -42,10 +45,7 @@ namespace_key = codes "io.kubernetes.pod.namespace"
 abbrev pub without : List ℕ → List ℕ → RawPolicy
 without cidr exception = record {
   key = in_namespace (codes "a");
-  rules = record {
-    subject = Some asks_nothing;
-    ingress = [];
-    ingress_deny = [];
+  rules = record (raw_rule_of (Some asks_nothing)) {
     egress = record {
       endpoints = None;
       cidrs = None;
@@ -53,6 +53,16 @@ without cidr exception = record {
       entities = None;
       ports = [];
     } ∷ [];
-    egress_deny = [];
   } ∷ [];
 }
+
+-- a policy of one rule for every endpoint, which says this of default deny
+abbrev pub saying : DefaultDeny → RawPolicy
+saying said = record {
+  key = in_namespace (codes "a");
+  rules = record (raw_rule_of (Some asks_nothing)) { default_deny = said } ∷ [];
+}
+
+-- what the rules of a policy say of default deny
+abbrev pub said_by : Policy → List DefaultDeny
+said_by policy = map (λ rule. rule.default_deny) policy.rules

@@ -1,9 +1,11 @@
 -- Values of JSON, for laws that read them (`documents`, `lines`). The members of an object stand in byte order.
-use Rattle.std.specs.Prelude.{◌≡◌, ℕ, List, [], ◌∷◌, ◌++◌, codes, map, Option, Some}
+use Rattle.std.specs.Prelude.{◌≡◌, ℕ, Bool, List, [], ◌∷◌, ◌++◌, codes, map, Option, Some, Result, Ok, Err}
 use Rattle.serde_json.specs.Data.{Data, string, array, object, Items, no_items, item, Members, no_members, member}
-use Rattle.pol_json.specs.Document.{first_fault}
+use Rattle.pol_json.specs.Document.{first_fault, read_document}
 use Rattle.pol_json.specs.declared.fault.DocFault.{DocFault}
 use Rattle.pol_json.specs.declared.fault.DocFault.TheVariants.{UnknownMember, Unsupported}
+use Rattle.pol_rule.specs.declared.policy.DefaultDeny.{DefaultDeny}
+use Rattle.pol_rule.specs.declared.raw.RawPolicy.{RawPolicy}
 
 abbrev pub members_of : List (List ℕ × Data) → Members
 members_of [] = no_members
@@ -37,6 +39,23 @@ document more = headed ((codes "metadata", fields ((codes "name", text (codes "p
 -- a policy of one rule, for every endpoint, with one member more
 abbrev pub ruled : List ℕ → Data → Data
 ruled name value = document ((codes "spec", fields ((codes "endpointSelector", fields []) ∷ (name, value) ∷ [])) ∷ [])
+
+-- a policy of one rule, for every endpoint, with this `enableDefaultDeny`
+abbrev pub denying : Data → Data
+denying value = document ((codes "spec", fields ((codes "enableDefaultDeny", value) ∷ (codes "endpointSelector", fields []) ∷ [])) ∷ [])
+
+-- what the rules that are read say of default deny
+abbrev told : Result RawPolicy DocFault → Result (List DefaultDeny) DocFault
+told (Ok policy) = Ok (map (λ rule. rule.default_deny) policy.rules)
+told (Err fault) = Err fault
+
+-- with this `enableDefaultDeny` the rule says so of ingress, and of egress
+abbrev pub Says : Data → Option Bool → Option Bool → Type 0
+Says value ingress egress = told (read_document (denying value)) ≡ Ok (record { ingress = ingress; egress = egress } ∷ [])
+
+-- with this one the policy is refused
+abbrev pub IsRefused : Data → DocFault → Type 0
+IsRefused value fault = read_document (denying value) ≡ Err fault
 
 -- a policy of one rule, with one item of `toCIDRSet`
 abbrev pub with_cidr_set : List (List ℕ × Data) → Data

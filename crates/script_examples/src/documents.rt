@@ -1,9 +1,9 @@
 //! What policy documents are refused for, on small documents.
-ghost use Rattle.std.specs.Prelude.{◌≡◌, [], ◌∷◌, codes, map, replicate, None, Some, Err};
-ghost use Rattle.serde_json.specs.Data.{unsigned, null, number};
+ghost use Rattle.std.specs.Prelude.{◌≡◌, [], ◌∷◌, codes, map, replicate, true, false, None, Some, Err};
+ghost use Rattle.serde_json.specs.Data.{unsigned, boolean, null, number};
 ghost use Rattle.pol_json.specs.Document.{read_document};
 ghost use Rattle.pol_json.specs.declared.fault.DocFault.TheVariants as fault;
-ghost use Rattle.script_examples.specs.Values.{AreLeftOut, AreUnknown, as_cidr, as_port, as_protocol, document, fields, headed, in_cidr_set, in_egress, in_ingress, in_port_item, in_rule, items, only_item, ruled, text, with_cidr_set};
+ghost use Rattle.script_examples.specs.Values.{AreLeftOut, AreUnknown, IsRefused, Says, as_cidr, as_port, as_protocol, document, fields, headed, in_cidr_set, in_egress, in_ingress, in_port_item, in_rule, items, only_item, ruled, text, with_cidr_set};
 
 /// A value that is no policy is told before it has no name, and that before it has no rule; all of them before what is
 /// wrong further in ('profile').
@@ -44,15 +44,34 @@ pub fn groups_of_prefixes_are_first()
     ensures lacks { read_document (with_cidr_set ((codes "a", items []) ∷ [])) ≡ Err (fault.WrongShape (codes "spec.egress[0].toCIDRSet[0].cidr")) }
 {}
 
+/// `enableDefaultDeny` says true, false or nothing of each direction; a member that is null is absent. Another member is
+/// unknown, and another shape is told with the path to it, that of the object before what it holds ('profile').
+pub fn default_deny_is_told()
+    ensures both { Says (fields ((codes "egress", boolean false) ∷ (codes "ingress", boolean true) ∷ [])) (Some true) (Some false) }
+    ensures other_way { Says (fields ((codes "egress", boolean true) ∷ (codes "ingress", boolean false) ∷ [])) (Some false) (Some true) }
+    ensures ingress { Says (fields ((codes "ingress", boolean false) ∷ [])) (Some false) None }
+    ensures egress { Says (fields ((codes "egress", boolean false) ∷ [])) None (Some false) }
+    ensures nothing { Says (fields []) None None }
+    ensures null { Says null None None }
+    ensures null_members { Says (fields ((codes "a", null) ∷ (codes "egress", null) ∷ (codes "ingress", boolean true) ∷ [])) (Some true) None }
+    ensures unknown { IsRefused (fields ((codes "x", boolean true) ∷ [])) (fault.UnknownMember (codes "spec.enableDefaultDeny.x")) }
+    ensures of_text { IsRefused (text (codes "true")) (fault.WrongShape (codes "spec.enableDefaultDeny")) }
+    ensures of_list { IsRefused (items []) (fault.WrongShape (codes "spec.enableDefaultDeny")) }
+    ensures of_truth { IsRefused (boolean false) (fault.WrongShape (codes "spec.enableDefaultDeny")) }
+    ensures word { IsRefused (fields ((codes "ingress", text (codes "yes")) ∷ [])) (fault.WrongShape (codes "spec.enableDefaultDeny.ingress")) }
+    ensures number { IsRefused (fields ((codes "egress", number (unsigned 1)) ∷ [])) (fault.WrongShape (codes "spec.enableDefaultDeny.egress")) }
+    ensures byte_order { IsRefused (fields ((codes "a", boolean true) ∷ (codes "egress", text (codes "no")) ∷ [])) (fault.UnknownMember (codes "spec.enableDefaultDeny.a")) }
+{}
+
 /// Each name that is left out, and some that are unknown where they stand ('profile').
 pub fn names_are_left_out()
-    ensures rule { AreLeftOut in_rule (codes "nodeSelector" ∷ codes "enableDefaultDeny" ∷ []) }
+    ensures rule { AreLeftOut in_rule (codes "nodeSelector" ∷ []) }
     ensures ingress { AreLeftOut in_ingress (codes "fromRequires" ∷ codes "fromNodes" ∷ codes "fromGroups" ∷ codes "icmps" ∷ codes "authentication" ∷ []) }
     ensures egress { AreLeftOut in_egress (codes "toRequires" ∷ codes "toNodes" ∷ codes "toGroups" ∷ codes "toFQDNs" ∷ codes "toServices" ∷ codes "icmps" ∷ codes "authentication" ∷ []) }
     ensures cidr_set { AreLeftOut in_cidr_set (codes "cidrGroupRef" ∷ codes "cidrGroupSelector" ∷ []) }
     ensures port_item { AreLeftOut in_port_item (codes "rules" ∷ codes "terminatingTLS" ∷ codes "originatingTLS" ∷ codes "listener" ∷ codes "serverNames" ∷ []) }
     ensures unknown_rule { AreUnknown (codes "spec.") in_rule (codes "icmps" ∷ codes "ingresses" ∷ []) }
-    ensures unknown_ingress { AreUnknown (codes "spec.ingress[0].") in_ingress (codes "toRequires" ∷ codes "toFQDNs" ∷ codes "toEndpoints" ∷ codes "nodeSelector" ∷ codes "rules" ∷ []) }
+    ensures unknown_ingress { AreUnknown (codes "spec.ingress[0].") in_ingress (codes "toRequires" ∷ codes "toFQDNs" ∷ codes "toEndpoints" ∷ codes "nodeSelector" ∷ codes "enableDefaultDeny" ∷ codes "rules" ∷ []) }
     ensures unknown_egress { AreUnknown (codes "spec.egress[0].") in_egress (codes "fromRequires" ∷ codes "fromNodes" ∷ codes "fromCIDR" ∷ codes "cidrGroupRef" ∷ []) }
     ensures unknown_port_item { AreUnknown (codes "spec.ingress[0].toPorts[0].") in_port_item (codes "icmps" ∷ codes "port" ∷ []) }
 {}

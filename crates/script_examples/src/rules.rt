@@ -1,12 +1,13 @@
 //! What selectors ask, and what rules are refused for, on small rules.
-ghost use Rattle.std.specs.Prelude.{◌≡◌, [], ◌∷◌, codes, map, None, Some, Ok, Err, true, false};
+ghost use Rattle.std.specs.Prelude.{◌≡◌, [], ◌∷◌, codes, map, None, Some};
 ghost use Rattle.pol_ports.specs.declared.Proto.TheVariants.{Sctp, Tcp, Udp};
+ghost use Rattle.pol_rule.specs.declared.policy.DefaultDeny.{DefaultDeny};
 ghost use Rattle.pol_rule.specs.declared.policy.Section.TheVariants as section;
 ghost use Rattle.pol_sanitize.specs.Faults.{first_fault};
 ghost use Rattle.pol_sanitize.specs.Ports.{protocol_of};
-ghost use Rattle.pol_sanitize.specs.Sanitized.{sanitized_of};
+ghost use Rattle.pol_sanitize.specs.Sanitized.{policy_of};
 ghost use Rattle.pol_sanitize.specs.Selectors.{peer_selector, subject_selector};
-ghost use Rattle.script_examples.specs.Rules.{any_has, any_is, asks_key, asks_label, asks_nothing, cluster_wide, in_namespace, namespace_key, source_has, source_is, without};
+ghost use Rattle.script_examples.specs.Rules.{any_has, any_is, asks_key, asks_label, asks_nothing, cluster_wide, in_namespace, namespace_key, said_by, saying, source_has, source_is, without};
 
 /// A subject's label of Kubernetes' own namespace key is left out, whether its source is written or any, and the policy's
 /// namespace takes its place. That of another source stays, and so does an expression. A cluster-wide subject that asks
@@ -49,6 +50,12 @@ pub fn exceptions_lie_inside()
     ensures itself { first_fault (without (codes "10.0.0.0/8") (codes "10.0.0.0/8")) ≡ None }
     ensures inside { first_fault (without (codes "10.0.0.0/8") (codes "10.255.255.255")) ≡ None }
     ensures bad { first_fault (without (codes "10.0.0.0/8") (codes "10.0.0/16")) ≡ Some (record { number = 18; rule = 0; «at» = Some (section.Egress, 0) }) }
+{}
+
+/// What a rule says of default deny is kept as it was written, whatever it is.
+pub fn default_deny_is_kept()
+    ensures accepted { (said : DefaultDeny) → first_fault (saying said) ≡ None }
+    ensures kept { (said : DefaultDeny) → said_by (policy_of (saying said)) ≡ said ∷ [] }
 {}
 
 /// Protocols are told without ASCII case, and a missing one is ANY ('profile').
