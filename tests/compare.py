@@ -16,8 +16,6 @@ from judge.runs import wrong_with
 
 TOP = pathlib.Path(__file__).resolve().parent.parent
 SECONDS = 60
-# How many entries a policy map may have.
-LIMIT = 16384
 
 
 def lines_of(data):
@@ -78,7 +76,7 @@ class Case:
         if self.status() not in (None, ended.returncode):
             found += [f"status {ended.returncode}, and not {self.status()}", *lines_of(ended.stderr)[-5:]]
         if self.runs():
-            wrong = wrong_with(self.given(), ended.stdout, ended.returncode, *script_options(self.words()), LIMIT)
+            wrong = wrong_with(self.given(), ended.stdout, ended.returncode, *script_options(self.words()))
             found += [f"no run of the policy machine: {wrong}"] if wrong else []
         for name, got in (("out", ended.stdout), ("err", ended.stderr)):
             wanted = self.part(name)

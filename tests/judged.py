@@ -17,7 +17,7 @@ def is_judged(case):
 
 def of_case(case):
     """What is wrong with the answers of a case, in lines."""
-    wrong = wrong_with(case.given(), case.out(), case.status(), *script_options(case.words()), compare.LIMIT)
+    wrong = wrong_with(case.given(), case.out(), case.status(), *script_options(case.words()))
     return [wrong] if wrong else []
 
 

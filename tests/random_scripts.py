@@ -3,8 +3,9 @@
 
     tests/random_scripts.py PROGRAM [FIRST [LAST]]     plays the scripts of the seeds FIRST to LAST, 1 to 3 without them
 
-A script has 600 lines. Seed 1 has one session, seed 8 has eight, and so on from 9; each takes 0 to 8 workers. The
-judge of tests/judge says what is wrong with the answers. A play that takes over two minutes has failed.
+A script has 600 lines. Seed 1 has one session, seed 8 has eight, and so on from 9; each takes 0 to 8 workers,
+and has a limit of 256 to 300 entries a map, which maps pass and come back under. The judge of tests/judge says what is
+wrong with the answers. A play that takes over two minutes has failed.
 """
 import json
 import random
@@ -12,7 +13,7 @@ import subprocess
 import sys
 
 sys.dont_write_bytecode = True
-from compare import LIMIT  # noqa: E402
+from judge import script_options  # noqa: E402
 from judge.runs import wrong_with  # noqa: E402
 
 LINES = 600
@@ -101,17 +102,18 @@ def script(seed):
     pick, sessions = random.Random(seed), (seed - 1) % 8 + 1
     ends = {LINES * phase // PHASES for phase in range(1, PHASES)}
     lines = ['{"op":"phase"}' if at in ends else line(pick, sessions) for at in range(LINES)]
-    return ["--workers", str(pick.randrange(9))], "".join(f"{it}\n" for it in lines).encode()
+    words = ["--workers", str(pick.randrange(9)), "--policy-map-max", str(pick.randrange(256, 301))]
+    return words, "".join(f"{it}\n" for it in lines).encode()
 
 
-def play(command, seed, limit):
+def play(command, seed):
     """What is wrong with the command's answers to the script of that seed, in lines."""
     words, given = script(seed)
     try:
         ended = subprocess.run([*command, *words], input=given, stdout=subprocess.PIPE, stderr=subprocess.PIPE, timeout=SECONDS)
     except subprocess.TimeoutExpired:
         return [f"no end within {SECONDS} seconds"]
-    wrong = wrong_with(given, ended.stdout, ended.returncode, limit=limit)
+    wrong = wrong_with(given, ended.stdout, ended.returncode, *script_options(words))
     return [wrong] if wrong else []
 
 
@@ -119,7 +121,7 @@ def main(words):
     first, last = int((words[1:] or ["1"])[0]), int((words[2:] or words[1:] or ["3"])[0])
     failed = 0
     for seed in range(first, last + 1):
-        wrong = play(words[:1], seed, LIMIT)
+        wrong = play(words[:1], seed)
         failed += bool(wrong)
         print(f"seed {seed}: {'; '.join(wrong) or 'a run'}", flush=True)
     return 1 if failed else 0

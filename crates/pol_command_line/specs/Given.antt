@@ -1,5 +1,5 @@
 -- Which lists of words fit the command line, and what they give.
-use Rattle.std.specs.Prelude.{ℕ, ◌≤◌, Bool, true, false, if◌then◌else◌, List, [], ◌∷◌, codes, Option, None, Some, is_some, option_map, option_and_then}
+use Rattle.std.specs.Prelude.{◌≡◌, ℕ, ◌≤◌, Bool, true, false, if◌then◌else◌, List, [], ◌∷◌, codes, Option, None, Some, is_some, option_map, option_and_then}
 use Rattle.std.specs.Str.{bytes_eq}
 use Rattle.std.specs.Str.Parse.{digits_value, without_leading_plus}
 use Rattle.clap.specs.Words.{Row, Text, first_of, fault_of, matches_of}
@@ -54,6 +54,10 @@ mode_in rows = option_and_then mode_named (first_of (codes "enable-policy") rows
 abbrev pub localhost_in : List Row → Option Bool
 localhost_in rows = option_and_then localhost_named (first_of (codes "allow-localhost") rows)
 
+-- the most entries of a map that is published (Cilium, `bpf-policy-map-max`)
+abbrev pub map_max_in : List Row → Option (Option ℕ)
+map_max_in rows = if_given (number_in 256 65536) (first_of (codes "policy-map-max") rows)
+
 abbrev pub generate_in : List Row → Option (Option ℕ)
 generate_in rows = if_given (number_in 1 10000) (first_of (codes "generate") rows)
 
@@ -83,18 +87,38 @@ IsInRange (Generate rounds) = (1 ≤ rounds) × (rounds ≤ 10000)
 IsInRange (Map name) = Unit {0}
 IsInRange Audit = Unit {0}
 
+-- ---- the limit of maps
+
+-- the one that is asked for, else the default; beside a generated script none may be asked for
+abbrev pub limit_of : Task → Option ℕ → Option ℕ
+limit_of task None = Some MAP_MAX
+limit_of Play (Some limit) = Some limit
+limit_of (Generate rounds) (Some limit) = None
+limit_of (Map name) (Some limit) = Some limit
+limit_of Audit (Some limit) = Some limit
+
+-- a script that is to be generated has the default
+abbrev pub HasDefault : Task → Option ℕ → Type 0
+HasDefault Play limit = Unit {0}
+HasDefault (Generate rounds) limit = limit ≡ Some MAP_MAX
+HasDefault (Map name) limit = Unit {0}
+HasDefault Audit limit = Unit {0}
+
 -- ---- all of them
 
-abbrev pub words_of : Option ℕ → Option Mode → Option Bool → Option Task → Option Words
-words_of (Some workers) (Some mode) (Some localhost) (Some task) = Some (record {
-  options = record { mode = mode; localhost = localhost; map_max = Some MAP_MAX };
+abbrev limited : ℕ → Mode → Bool → Task → ℕ → Words
+limited workers mode localhost task limit = record {
+  options = record { mode = mode; localhost = localhost; map_max = Some limit };
   workers = workers;
   task = task;
-})
-words_of _ _ _ _ = None
+}
+
+abbrev pub words_of : Option ℕ → Option Mode → Option Bool → Option (Option ℕ) → Option Task → Option Words
+words_of (Some workers) (Some mode) (Some localhost) (Some asked) (Some task) = option_map (limited workers mode localhost task) (limit_of task asked)
+words_of _ _ _ _ _ = None
 
 abbrev pub words_in : List Row → Option Words
-words_in rows = words_of (workers_in rows) (mode_in rows) (localhost_in rows) (task_in rows)
+words_in rows = words_of (workers_in rows) (mode_in rows) (localhost_in rows) (map_max_in rows) (task_in rows)
 
 abbrev pub words_without : Kinds → List Text → Option Words
 words_without [] words = words_in (matches_of grammar words)

@@ -4,10 +4,10 @@
 //! and what they give.
 #![tactic(auto)]
 
-ghost use Rattle.std.specs.Prelude.{◌≡◌, ◌≤◌, false, map, string_bytes, option_map, None, Some, IfSome, IfOk, IsErrOf};
+ghost use Rattle.std.specs.Prelude.{◌≡◌, ◌≤◌, false, map, string_bytes, option_map, None, Some, IfSome, IfOk, IsErrOf, IsSomeAnd};
 ghost use Rattle.clap.specs.Words.{app_of, first_of, found_of, rows_of, rule_of};
 ghost use Rattle.pol_command_line.specs.Grammar.{option, number, flag, or_default, no_options, grammar};
-ghost use Rattle.pol_command_line.specs.Given.{IsInRange, number_in, mode_named, localhost_named, workers_in, mode_in, localhost_in, words_of, words_in, words_given};
+ghost use Rattle.pol_command_line.specs.Given.{HasDefault, IsInRange, number_in, mode_named, localhost_named, workers_in, mode_in, localhost_in, words_of, words_in, words_given};
 
 use clap::builder::ValueParser;
 use clap::error::ErrorKind;
@@ -17,18 +17,21 @@ use pol_model::{Mode, Options};
 use std::alloc::Global;
 
 pub mod laws;
+mod limit;
 mod task;
 
+use limit::{limit_of, map_max_in};
 pub use task::Task;
 use task::task_in;
 
-/// The most entries of a policy map that is published (Cilium, `bpf-policy-map-max`).
+/// The most entries of a policy map that is published, where no word says it (Cilium, `bpf-policy-map-max`).
 pub const MAP_MAX: u32 = 16_384;
 
 /// What the words of a command line say ('profile').
 #[derive(Debug, Drop, PartialEq, Eq)]
 pub struct Words {
-    /// The options of the run. Maps of more than `MAP_MAX` entries aren't published.
+    /// The options of the run, with the most entries of a map that is published: 256 to 65,536, `MAP_MAX` where no word
+    /// says it.
     pub options: Options,
     /// How many workers, 0 to 8.
     pub workers: u64,
@@ -85,13 +88,14 @@ fn no_options<'a>(alloc: Global) -> Command<'a>
     Command::new(alloc, "policyd").no_binary_name(true)
 }
 
-// The command: six options, each once at most.
+// The command: seven options, each once at most.
 fn command<'a>(alloc: Global) -> Result<Command<'a>, Memory>
     ensures { IfOk result (λ command. app_of command ≡ grammar) }
 {
     let workers = or_default(number(alloc, "workers", 0, 8), "2");
     let mode = or_default(option(alloc, "enable-policy"), "default");
     let localhost = or_default(option(alloc, "allow-localhost"), "always");
+    let map_max = number(alloc, "policy-map-max", 256, 65536);
     let generate = number(alloc, "generate", 1, 10000);
     let map = option(alloc, "map");
     let audit = flag(alloc, "audit");
@@ -99,6 +103,7 @@ fn command<'a>(alloc: Global) -> Result<Command<'a>, Memory>
         .arg(workers)?
         .arg(mode)?
         .arg(localhost)?
+        .arg(map_max)?
         .arg(generate)?
         .arg(map)?
         .arg(audit)
@@ -180,25 +185,32 @@ fn words_of(
     workers: Option<u64>,
     mode: Option<Mode>,
     localhost: Option<bool>,
+    asked: Option<Option<u32>>,
     task: Option<Task>,
 ) -> Option<Words>
-    ensures words { result ≡ words_of workers mode localhost task }
-    ensures limited { IfSome result (λ given. given.options.map_max ≡ Some MAP_MAX) }
+    requires { IfSome asked (λ asked. IfSome asked (λ limit. (256 ≤ limit) × (limit ≤ 65536))) }
+    ensures words { result ≡ words_of workers mode localhost asked task }
+    ensures least { IfSome result (λ given. IsSomeAnd given.options.map_max (λ limit. 256 ≤ limit)) }
+    ensures greatest { IfSome result (λ given. IsSomeAnd given.options.map_max (λ limit. limit ≤ 65536)) }
+    ensures default { IfSome result (λ given. HasDefault given.task given.options.map_max) }
     ensures workers { IfSome result (λ given. Some given.workers ≡ workers) }
     ensures task { IfSome result (λ given. Some given.task ≡ task) }
 {
-    match (workers, mode, localhost) {
-        (Some(workers), Some(mode), Some(localhost)) => match task {
+    match (workers, mode, localhost, asked) {
+        (Some(workers), Some(mode), Some(localhost), Some(asked)) => match task {
             None => None,
-            Some(task) => Some(Words {
-                options: Options {
-                    mode,
-                    localhost,
-                    map_max: Some(MAP_MAX),
-                },
-                workers,
-                task,
-            }),
+            Some(task) => match limit_of(&task, asked) {
+                None => None,
+                Some(limit) => Some(Words {
+                    options: Options {
+                        mode,
+                        localhost,
+                        map_max: Some(limit),
+                    },
+                    workers,
+                    task,
+                }),
+            },
         },
         _ => None,
     }
@@ -206,20 +218,31 @@ fn words_of(
 
 fn words_in(alloc: Global, matches: &ArgMatches) -> Result<Option<Words>, Memory>
     ensures given { IfOk result (λ found. found ≡ words_in (rows_of (found_of matches.now))) }
-    ensures limited { IfOk result (λ found. IfSome found (λ given. given.options.map_max ≡ Some MAP_MAX)) }
+    ensures least { IfOk result (λ found. IfSome found (λ given. IsSomeAnd given.options.map_max (λ limit. 256 ≤ limit))) }
+    ensures greatest { IfOk result (λ found. IfSome found (λ given. IsSomeAnd given.options.map_max (λ limit. limit ≤ 65536))) }
+    ensures default { IfOk result (λ found. IfSome found (λ given. HasDefault given.task given.options.map_max)) }
     ensures workers { IfOk result (λ found. IfSome found (λ given. given.workers ≤ 8)) }
     ensures rounds { IfOk result (λ found. IfSome found (λ given. IsInRange given.task)) }
 {
     let workers = workers_in(matches);
     let task = task_in(alloc, matches)?;
-    Ok(words_of(workers, mode_in(matches), localhost_in(matches), task))
+    let asked = map_max_in(matches);
+    Ok(words_of(
+        workers,
+        mode_in(matches),
+        localhost_in(matches),
+        asked,
+        task,
+    ))
 }
 
 // What the matches give, or that they give nothing.
 fn words_found(alloc: Global, matches: &ArgMatches) -> Result<Words, WordsError>
     ensures given { IfOk result (λ given. words_in (rows_of (found_of matches.now)) ≡ Some given) }
     ensures misfit { IsErrOf result WordsError.Misfit → words_in (rows_of (found_of matches.now)) ≡ None }
-    ensures limited { IfOk result (λ given. given.options.map_max ≡ Some MAP_MAX) }
+    ensures least { IfOk result (λ given. IsSomeAnd given.options.map_max (λ limit. 256 ≤ limit)) }
+    ensures greatest { IfOk result (λ given. IsSomeAnd given.options.map_max (λ limit. limit ≤ 65536)) }
+    ensures default { IfOk result (λ given. HasDefault given.task given.options.map_max) }
     ensures workers { IfOk result (λ given. given.workers ≤ 8) }
     ensures rounds { IfOk result (λ given. IsInRange given.task) }
 {
@@ -232,13 +255,15 @@ fn words_found(alloc: Global, matches: &ArgMatches) -> Result<Words, WordsError>
 
 /// What the words behind the program's name give. `Misfit` comes exactly where they don't fit the command:
 /// `[--workers 0..8] [--enable-policy default|always|never] [--allow-localhost always|policy]
-/// [--generate 1..10000] [--map NAME] [--audit]`, with both ends of each range, or more than one of the last three stands
-/// among them. The defaults are 2, `default` and `always`; where none of the last three stands there, a script is to be
-/// played ('profile').
+/// [--policy-map-max 256..65536] [--generate 1..10000] [--map NAME] [--audit]`, with both ends of each range, or more than
+/// one of the last three stands among them, or `--policy-map-max` beside `--generate`. The defaults are 2, `default`,
+/// `always` and `MAP_MAX`; where none of the last three stands there, a script is to be played ('profile').
 pub fn read_words(alloc: Global, words: &[String]) -> Result<Words, WordsError>
     ensures given { IfOk result (λ given. words_given (map string_bytes words.now) ≡ Some given) }
     ensures misfit { IsErrOf result WordsError.Misfit → words_given (map string_bytes words.now) ≡ None }
-    ensures limited { IfOk result (λ given. given.options.map_max ≡ Some MAP_MAX) }
+    ensures least { IfOk result (λ given. IsSomeAnd given.options.map_max (λ limit. 256 ≤ limit)) }
+    ensures greatest { IfOk result (λ given. IsSomeAnd given.options.map_max (λ limit. limit ≤ 65536)) }
+    ensures default { IfOk result (λ given. HasDefault given.task given.options.map_max) }
     ensures workers { IfOk result (λ given. given.workers ≤ 8) }
     ensures rounds { IfOk result (λ given. IsInRange given.task) }
 {

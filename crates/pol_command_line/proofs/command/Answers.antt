@@ -12,6 +12,7 @@ returns c =
     let one = c.in_ok-arg.ensures.shape (c.or_default-workers.ensures.local ∙ c.number.ensures.local) ∙ ap₂ with_rule c.no_options.ensures workers in
     let two = c.in_ok-arg-2.ensures.shape (c.or_default-mode.ensures.local ∙ c.option.ensures.local) ∙ ap₂ with_rule one mode in
     let three = c.in_ok-arg-3.ensures.shape (c.or_default-localhost.ensures.local ∙ c.option-2.ensures.local) ∙ ap₂ with_rule two localhost in
-    let four = c.in_ok-arg-4.ensures.shape c.number-generate.ensures.local ∙ ap₂ with_rule three c.number-generate.ensures.rule in
-    let five = c.in_ok-arg-5.ensures.shape c.option-map.ensures.local ∙ ap₂ with_rule four c.option-map.ensures.rule in
-    IfOk-weaker c.arg-6.result _ _ (λ command added. added.shape c.flag-audit.ensures.local ∙ ap₂ with_rule five c.flag-audit.ensures.rule) c.arg-6.ensures
+    let four = c.in_ok-arg-4.ensures.shape c.number-map_max.ensures.local ∙ ap₂ with_rule three c.number-map_max.ensures.rule in
+    let five = c.in_ok-arg-5.ensures.shape c.number-generate.ensures.local ∙ ap₂ with_rule four c.number-generate.ensures.rule in
+    let six = c.in_ok-arg-6.ensures.shape c.option-map.ensures.local ∙ ap₂ with_rule five c.option-map.ensures.rule in
+    IfOk-weaker c.arg-7.result _ _ (λ command added. added.shape c.flag-audit.ensures.local ∙ ap₂ with_rule six c.flag-audit.ensures.rule) c.arg-7.ensures

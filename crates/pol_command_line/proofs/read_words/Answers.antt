@@ -38,7 +38,9 @@ returns c =
     record {
       given = tt;
       misfit = λ _. misfitting words error has (λ memory. c.in_default.not-OutOfMemory (c.kind.ensures ∙ memory));
-      limited = tt;
+      least = tt;
+      greatest = tt;
+      default = tt;
       workers = tt;
       rounds = tt;
     }

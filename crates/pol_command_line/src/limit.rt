@@ -1,0 +1,48 @@
+//! The most entries of a map that is published, as the words say it.
+ghost use Rattle.std.specs.Prelude.{◌≡◌, ◌≤◌, IfSome, Some};
+ghost use Rattle.clap.specs.Words.{found_of, rows_of};
+ghost use Rattle.pol_command_line.specs.Given.{HasDefault, limit_of, map_max_in, number_in};
+
+use crate::{MAP_MAX, Task, number_in, text_in};
+use clap::ArgMatches;
+
+fn entries(text: &str) -> Option<u32>
+    ensures number { result ≡ number_in 256 65536 text.now }
+    ensures range { IfSome result (λ limit. (256 ≤ limit) × (limit ≤ 65536)) }
+{
+    match number_in(text, 256, 65536) {
+        None => None,
+        Some(number) => Some(number as u32),
+    }
+}
+
+/// The limit that is asked for, which may be left out.
+pub(crate) fn map_max_in(matches: &ArgMatches) -> Option<Option<u32>>
+    ensures given { result ≡ map_max_in (rows_of (found_of matches.now)) }
+    ensures range { IfSome result (λ asked. IfSome asked (λ limit. (256 ≤ limit) × (limit ≤ 65536))) }
+{
+    match text_in(matches, "policy-map-max") {
+        None => Some(None),
+        Some(text) => match entries(text) {
+            None => None,
+            Some(limit) => Some(Some(limit)),
+        },
+    }
+}
+
+/// The limit of maps, where one may be asked for beside what is to be done.
+pub(crate) fn limit_of(task: &Task, asked: Option<u32>) -> Option<u32>
+    requires { IfSome asked (λ limit. (256 ≤ limit) × (limit ≤ 65536)) }
+    ensures limit { result ≡ limit_of task.now asked }
+    ensures least { IfSome result (λ limit. 256 ≤ limit) }
+    ensures greatest { IfSome result (λ limit. limit ≤ 65536) }
+    ensures default { IfSome result (λ limit. HasDefault task.now (Some limit)) }
+{
+    match asked {
+        None => Some(MAP_MAX),
+        Some(limit) => match task {
+            Task::Generate(_) => None,
+            Task::Play | Task::Map(_) | Task::Audit => Some(limit),
+        },
+    }
+}
