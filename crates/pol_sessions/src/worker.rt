@@ -130,7 +130,8 @@ fn serve<
 }
 
 /// Plays phase after phase, beside so many workers, which regenerate the slots that hints name until the sessions have
-/// ended. The one error is want of memory.
+/// ended. Workers wait for that end, so the sessions are the arm that `join` runs first where it can make no thread. The one
+/// error is want of memory.
 pub fn play_beside<
     N: NodeName + Send + Sync,
     W: Threads + Wait + Sync,
@@ -158,8 +159,11 @@ pub fn play_beside<
     let other = hints.split(rt, &mut hint_pass)?;
     let calls = Calls::new();
     let over = Over::new();
-    let (played, served) = join(
+    let (served, played) = join(
         rt,
+        || -> Result<(), Memory>
+            requires { other.queue ≡ hints.now.name }
+        { serve(rt, alloc, node, hints, gate, &calls, &over, other, workers) },
         || -> Result<PlayedPhases<N>, Memory>
             requires handed_out { AllByRecursion (λ pass. has N.passes pass.number ≡ true) passes.items }
             requires one_each { AllByRecursion (λ lines. length lines ≡ length passes.items) phases.items }
@@ -172,9 +176,6 @@ pub fn play_beside<
             over.set();
             played
         },
-        || -> Result<(), Memory>
-            requires { other.queue ≡ hints.now.name }
-        { serve(rt, alloc, node, hints, gate, &calls, &over, other, workers) },
     );
     served?;
     played
