@@ -1,96 +1,135 @@
 """The objects of a cluster, as far as the recipes speak of them."""
-import re
-
-from . import network
+from . import deciding, network, services, workloads
+from .pods import (  # noqa: F401
+    CLUSTER_KEY,
+    FINISHED,
+    NAME,
+    NAMESPACE_KEY,
+    NO_ADDRESS,
+    OWN_PREFIX,
+    SAME_ADDRESS,
+    AnyOther,
+    Pod,
+    workload_of,
+)
 from .policies import POLICY_KINDS, Policy
-from .reading import IPV4, VALUE, Bad, addresses_of, labels_of, member, name_of, objects
+from .reading import IPV4, Bad, labels_of, member, name_of, objects
 
 ENDPOINTS_MOST = 256
 IDENTITIES_FROM, IDENTITIES_MOST = 256, 65_280
-HOST, WORLD, REMOTE_NODE = 1, 2, 6
-NAME = re.compile(r"[A-Za-z0-9._/-]{1,253}")
-NAMESPACE_KEY = "io.kubernetes.pod.namespace"
-OWN_PREFIX = "io.cilium.k8s."
-CLUSTER_KEY = f"{OWN_PREFIX}policy.cluster"
+HOST, WORLD, REMOTE_NODE, API_SERVER = 1, 2, 6, 7
 NAMED_MOST = 4
-
-
-class Pod:
-    """What is known of a pod."""
-
-    def __init__(self, place, value):
-        metadata, name = name_of(place, value)
-        self.namespace = member(f"{place}: metadata", metadata, "namespace", str, "default")
-        self.name = f"{self.namespace}/{name}"
-        place = f"{place}: Pod {self.name}"
-        spec, status = (member(place, value, it, dict, {}) for it in ("spec", "status"))
-        self.place, self.own = place, labels_of(place, metadata)
-        self.workload = workload_of(place, metadata, name, self.own)
-        self.node = member(f"{place}: spec", spec, "nodeName", str, "")
-        self.is_host = member(f"{place}: spec", spec, "hostNetwork", bool, False)
-        self.account = member(f"{place}: spec", spec, "serviceAccountName", str, "")
-        if not VALUE.fullmatch(f"{self.namespace}{self.account}"):
-            raise Bad(f"{place}: its namespace or its service account is no label's value")
-        self.phase = member(f"{place}: status", status, "phase", str, "")
-        self.address = next(iter(addresses_of(f"{place}: status", status, "podIPs", "podIP")), "")
-        self.of_node = addresses_of(f"{place}: status", status, "hostIPs", "hostIP")
-        self.labels = ()
-
-    def reason(self):
-        """Why it is no endpoint and no identity, or None."""
-        if self.is_host:
-            return "pods on the host's network, which share the identity of their node"
-        if self.phase in ("Succeeded", "Failed"):
-            return "pods that have finished"
-        if not self.address:
-            return "pods without an IPv4 address"
-        if not NAME.fullmatch(self.name):
-            return "pods whose NAMESPACE/POD is no name for policyd: over 253 bytes, say"
-        return None
-
-    def derive(self, of_namespace, choice, cluster):
-        """The labels that Cilium derives and that make the identity. A pod can't give itself those that Cilium writes."""
-        labels = {key: value for key, value in self.own.items() if not key.startswith(OWN_PREFIX)}
-        labels[NAMESPACE_KEY] = self.namespace
-        labels[CLUSTER_KEY] = cluster
-        if self.account:
-            labels[f"{OWN_PREFIX}policy.serviceaccount"] = self.account
-        for key, value in of_namespace.items():
-            labels[f"{OWN_PREFIX}namespace.labels.{key}"] = value
-        self.labels = tuple(f"k8s:{key}={value}" for key, value in sorted(labels.items()) if choice.counts(key))
-
-
-def workload_of(place, metadata, name, labels):
-    """The name of what a pod is a replica of: its controller, a Deployment's without the hash; else the pod's own."""
-    found = name
-    for number, owner in enumerate(member(f"{place}: metadata", metadata, "ownerReferences", list, [])):
-        if isinstance(owner, dict) and member(f"{place}: ownerReferences[{number}]", owner, "controller", bool, False):
-            found = member(f"{place}: ownerReferences[{number}]", owner, "name", str, "") or name
-    head, cut, _ = f"{found}-".partition(f"-{labels.get('pod-template-hash') or '/'}-")
-    return head if cut else found
+# The label of the API server's pods on the nodes that they run on, as kubeadm gives it.
+API_LABEL = ("component", "kube-apiserver")
+# The kinds that decide, or that say what an address is, with the words for none of them.
+ASKED_FOR = {
+    "Namespace": "Namespaces",
+    "Service": "Services",
+    "NetworkPolicy": "NetworkPolicies",
+    "CiliumNetworkPolicy": "CiliumNetworkPolicies",
+    "CiliumClusterwideNetworkPolicy": "CiliumClusterwideNetworkPolicies",
+}
 
 
 class Cluster:
     """The objects of the input."""
 
     def __init__(self, text, choice, cluster="default", whole="standard input", part="document"):
-        self.namespaces, self.pods, self.policies = {}, {}, []
-        self.services, self.nodes = {}, {}
-        self.left_out, self.unread, self.cluster = {}, {}, cluster
+        self.warned = []
+        self.begin(choice, cluster, list(objects(text, whole, part, self.warned)))
+
+    @classmethod
+    def of(cls, given, choice, cluster="default", relabelled=()):
+        """The cluster of objects with their places; templates that come give their pods other labels."""
+        found = cls.__new__(cls)
+        found.warned = []
+        found.begin(choice, cluster, given, relabelled)
+        return found
+
+    def begin(self, choice, cluster, given, relabelled=()):
+        self.namespaces, self.pods, self.policies, self.templates = {}, {}, [], []
+        # What addresses are: the name of a Service by its own ones and by those outside the cluster, the node's name.
+        self.services, self.balancers, self.nodes = {}, {}, {}
+        self.listed_services, self.behind, self.groups, self.deciding = {}, {}, {}, []
+        self.left_out, self.unread, self.kinds = {}, {}, {}
+        self.cluster, self.choice, self.given = cluster, choice, given
         self.has_services = False
-        for place, value in objects(text, whole, part):
+        for place, value in given:
             self.take(place, value)
+        for template in relabelled:
+            for pod in filter(template.is_of, self.pods.values()):
+                pod.own = template.replaces_labels_of(pod)
+        self.settle_nodes()
+        self.settle_pods()
+
+    def settle_nodes(self):
+        """The addresses of nodes, and which of them are the API server's."""
         for pod in self.pods.values():
             self.nodes.update((it, pod.node) for it in pod.of_node)
+        self.api_addresses = {*self.behind.get(services.API_SERVER, [])}
+        self.api_nodes = {it.node for it in self.pods.values() if it.is_host and API_LABEL in it.own.items()}
+        self.api_nodes |= {self.nodes[it] for it in self.api_addresses if it in self.nodes}
+
+    def settle_pods(self):
+        """The pods that are endpoints, and those that come."""
+        self.live, by_address, coming = [], {}, []
+        for pod in self.pods.values():
             reason = pod.reason()
             if reason:
                 self.leave_out(reason, pod.name)
             else:
-                pod.derive(self.namespaces.get(pod.namespace, {}), choice, cluster)
-        self.live = [it for it in self.pods.values() if it.labels]
+                self.derive(pod)
+                by_address.setdefault(pod.address, []).append(pod)
+            if reason and pod.comes():
+                pod.stands_for = pod.comes()
+                coming.append(pod)
+        kept = {id(min(pods, key=lambda it: it.is_ending)) for pods in by_address.values()}
+        for pods in by_address.values():
+            for pod in pods:
+                self.live.append(pod) if id(pod) in kept else self.leave_out(SAME_ADDRESS, pod.name)
+        order = {id(it): at for at, it in enumerate(self.pods.values())}
+        self.live.sort(key=lambda it: order[id(it)])
+        self.settle_coming([*coming, *(it for it in self.templates if it.comes())])
+
+    def settle_coming(self, coming):
+        """What stands for pods that come: where no pod and nothing before it has the workload with the same labels."""
+        known, self.coming = {(it.namespace, it.workload, it.labels) for it in self.live}, []
+        for it in coming:
+            self.derive(it)
+            if (it.namespace, it.workload, it.labels) not in known:
+                known.add((it.namespace, it.workload, it.labels))
+                self.coming.append(it)
+        for name in sorted({*self.namespaces, *(it.namespace for it in [*self.live, *self.coming])}):
+            self.coming.append(AnyOther(name))
+            self.derive(self.coming[-1])
+
+    def derive(self, pod):
+        pod.derive(self.namespaces.get(pod.namespace, {}), self.choice)
+
+    @property
+    def ends(self):
+        """The pods and what stands for those that come."""
+        return [*self.live, *self.coming]
 
     def take(self, place, value):
         api, kind = value["apiVersion"], value["kind"]
+        self.kinds[kind] = self.kinds.get(kind, 0) + 1
+        if (api, kind) in workloads.KINDS:
+            self.take_template(workloads.Template(place, value))
+        elif api == "cilium.io/v2" and kind in POLICY_KINDS:
+            self.policies.append(Policy(place, value))
+        elif (api, kind) == (network.API, network.KIND):
+            self.policies.append(network.NetworkPolicy(place, value))
+        elif deciding.decides(api, kind):
+            self.deciding.append(deciding.Deciding(place, value))
+        elif (api, kind) in services.GROUPS:
+            name, labels, prefixes = services.group_of(place, value)
+            self.groups[name] = (labels, prefixes)
+        elif not self.take_core(place, value, api, kind):
+            self.unread[(api, kind)] = self.unread.get((api, kind), 0) + 1
+
+    def take_core(self, place, value, api, kind):
+        """An object of Kubernetes itself; whether it is of a kind that is read."""
         if (api, kind) == ("v1", "Namespace"):
             metadata, name = name_of(place, value)
             self.namespaces[name] = labels_of(f"{place}: Namespace {name}", metadata)
@@ -100,23 +139,26 @@ class Cluster:
                 self.leave_out("pods that stand again further down", pod.name)
             self.pods[pod.name] = pod
         elif (api, kind) == ("v1", "Service"):
-            self.take_service(place, value)
+            self.take_service(services.Service(place, value))
         elif (api, kind) == ("v1", "Node"):
             self.take_node(place, value)
-        elif api == "cilium.io/v2" and kind in POLICY_KINDS:
-            self.policies.append(Policy(place, value))
-        elif (api, kind) == (network.API, network.KIND):
-            self.policies.append(network.NetworkPolicy(place, value))
+        elif (api, kind) in (services.SLICES, services.ENDPOINTS):
+            name, addresses = services.slice_of(place, value)
+            self.behind.setdefault(name, []).extend(it for it in addresses if it not in self.behind.get(name, []))
         else:
-            self.unread[(api, kind)] = self.unread.get((api, kind), 0) + 1
+            return False
+        return True
 
-    def take_service(self, place, value):
-        metadata, name = name_of(place, value)
-        namespace = member(f"{place}: metadata", metadata, "namespace", str, "default")
-        spec = member(f"{place}: Service {namespace}/{name}", value, "spec", dict, {})
+    def take_template(self, template):
+        """A workload's template; a Job of a CronJob is that one's."""
+        if not template.owner or template.owner[0] != "CronJob":
+            self.templates.append(template)
+
+    def take_service(self, service):
         self.has_services = True
-        for it in addresses_of(f"{place}: Service {namespace}/{name}: spec", spec, "clusterIPs", "clusterIP"):
-            self.services[it] = f"{namespace}/{name}"
+        self.listed_services[service.name] = service
+        self.services.update((it, service.name) for it in service.own)
+        self.balancers.update((it, service.name) for it in service.outer)
 
     def take_node(self, place, value):
         """Further addresses of a node, beside those that its pods tell."""
@@ -135,22 +177,42 @@ class Cluster:
 
     def node_number(self, node, local):
         """The identity of a node, for an endpoint of the node `local`."""
-        return HOST if node == local else REMOTE_NODE
+        return HOST if node == local else API_SERVER if node in self.api_nodes else REMOTE_NODE
+
+    def number_of(self, address, local):
+        """The identity of a node's address, or of the API server's, for an endpoint of the node `local`; or None."""
+        if address in self.nodes:
+            return self.node_number(self.nodes[address], local)
+        return API_SERVER if address in self.api_addresses else None
 
 
 def counted(count, one, many):
     return f"{count} {one if count == 1 else many}"
 
 
-def left_out(cluster):
-    """What is said of what the verdicts lack, but for policies."""
+def left_out(cluster, come=False):
+    """What is said of what the verdicts lack, but for policies; where pods that come count, they aren't left out."""
+    coming = {it.name for it in cluster.coming} if come else ()
+    known = {name for it in cluster.templates for name in [it.name]} if come else ()
     for reason, names in cluster.left_out.items():
+        names = [it for it in names if it not in coming and not (come and is_known(cluster, it, known))]
         more = ", .." if len(names) > NAMED_MOST else ""
-        yield f"left out: {reason}: {len(names)} ({', '.join(names[:NAMED_MOST])}{more})"
+        if names:
+            yield f"left out: {reason}: {len(names)} ({', '.join(names[:NAMED_MOST])}{more})"
     for (api, kind), count in sorted(cluster.unread.items()):
         yield f"left out: objects of a kind that isn't read: {count} {kind} ({api})"
     for name in sorted({it.namespace for it in cluster.live} - {*cluster.namespaces}):
         yield f"note: the namespace {name} isn't in the input, so its pods have none of its labels"
-    named = [it.name for it in cluster.policies if it.names_cluster()]
-    if cluster.cluster != "default" and named:
-        yield f"note: policyd's entity `cluster` means pods of the cluster `default`, so it selects no pod here; it is in {', '.join(named)}"
+
+
+def is_known(cluster, name, known):
+    """Whether a pod that isn't there is one of a workload that has ends."""
+    pod = cluster.pods[name]
+    return pod.is_owned and bool(pod.comes())
+
+
+def lacks(cluster):
+    """What is said of kinds of which the input has no object, in a line, or nothing."""
+    none = [f"0 {many}" for kind, many in ASKED_FOR.items() if not cluster.kinds.get(kind)]
+    if none:
+        yield f"note: the state has {', '.join(none)}"

@@ -4,6 +4,7 @@ from .unread import SECTIONS, why_unread
 
 NAMESPACED, CLUSTER_WIDE = POLICY_KINDS = ("CiliumNetworkPolicy", "CiliumClusterwideNetworkPolicy")
 NAMESPACE_KEY = "io.kubernetes.pod.namespace"
+DIRECTIONS = ("ingress", "egress")
 
 
 class Policy:
@@ -48,13 +49,18 @@ class Policy:
         """The entries of its rules, each with its direction."""
         for rule in self.rules():
             for section in SECTIONS:
-                for entry in rule.get(section) or []:
+                for entry in listed(rule, section):
                     if isinstance(entry, dict):
                         yield section.removesuffix("Deny"), entry
 
     def directions(self):
-        """The directions in which it has a section that isn't empty, so that it may enforce them."""
-        return {section.removesuffix("Deny") for rule in self.rules() for section in SECTIONS if rule.get(section)}
+        """The directions in which it has a section that isn't empty or isolates without one, so that it may decide."""
+        of_sections = {section.removesuffix("Deny") for rule in self.rules() for section in SECTIONS if listed(rule, section)}
+        return of_sections | self.isolates()
+
+    def isolates(self):
+        """The directions in which it isolates: what its rules say of that, or where one has a section that isn't empty."""
+        return {it for rule in self.rules() for it in DIRECTIONS if is_isolating(rule, it)}
 
     def deletion(self):
         kind, namespace, name = self.key
@@ -63,6 +69,18 @@ class Policy:
     def names_cluster(self):
         """Whether it speaks of the entity `cluster`."""
         return any("cluster" in (it.get(name) or []) for _, it in self.entries() for name in ("fromEntities", "toEntities"))
+
+
+def listed(rule, section):
+    found = rule.get(section)
+    return found if isinstance(found, list) else []
+
+
+def is_isolating(rule, direction):
+    """Whether a rule isolates in a direction: Cilium, `enableDefaultDeny` of the API."""
+    said = rule.get("enableDefaultDeny")
+    said = said.get(direction) if isinstance(said, dict) else None
+    return said if isinstance(said, bool) else bool(listed(rule, direction) or listed(rule, f"{direction}Deny"))
 
 
 def is_selected(rule, namespace, labels):

@@ -6,7 +6,11 @@ KEY, VALUE = re.compile(r"[!-<>-~]+"), re.compile(r"[!-~]*")
 BYTE = r"(0|[1-9]\d?|1\d\d|2[0-4]\d|25[0-5])"
 IPV4 = re.compile(rf"{BYTE}(\.{BYTE}){{3}}")
 YAML = re.compile(r"""\s*(%.*\n\s*|---\s+|#.*\n\s*|- +)*(["']?)[A-Za-z][A-Za-z0-9]*\2:(\s|$)""")
-AS_JSON = "kubectl create --dry-run=client -o json -f FILE"
+AS_JSON = "kubectl patch --local --type=merge -p '{}' -o json -f FILE"
+# What kubectl says on standard error, where a shell has put that into the same file: a warning, or why it gave less.
+BLANKS = re.compile(r"\s*")
+WARNS = re.compile(r"(Warning|W\d{4} |No resources found)[^\n]*")
+FAILS = re.compile(r"(error:|Error from server|Error:|Unable to connect|The connection to the server|E\d{4} )[^\n]*")
 
 
 class Bad(Exception):
@@ -40,16 +44,37 @@ def no_constant(name):
     raise ValueError(f"{name} is no number")
 
 
-def documents(text, whole="standard input", part="document"):
-    """The JSON values that stand one after another in the text, each with its place."""
-    decoder, at, number = json.JSONDecoder(parse_constant=no_constant), 0, 0
-    space = re.compile(r"\s*")
-    if YAML.match(text):
-        raise Bad(f"{whole} is YAML, which Python's standard library doesn't read: `{AS_JSON}` prints it as JSON, and so does kubectl get with -o json")
+def documents(text, whole="standard input", part="document", warned=None):
+    """The JSON values that stand one after another in the text, each with its place; kubectl's warnings go to a list."""
+    warned = [] if warned is None else warned
+    at, number = past_lines_of_kubectl(text, 0, warned, whole), 0
+    values = of_yaml(text[at:], whole) if YAML.match(text, at) else of_json(text, at, part, warned, whole)
+    for number, value in enumerate(values, 1):
+        yield f"{part} {number}", value
+    if not number:
+        raise Bad(f"{whole} is empty: it takes what kubectl get .. -o json prints")
+
+
+def past_lines_of_kubectl(text, at, warned, whole):
+    """Where the text goes on behind blanks and kubectl's warnings; Bad where kubectl says there that it failed."""
     while True:
-        at = space.match(text, at).end()
+        at = BLANKS.match(text, at).end()
+        warns, fails = WARNS.match(text, at), FAILS.match(text, at)
+        if fails:
+            raise Bad(f"{whole} has what kubectl said where it failed, so it isn't all that was asked for: {fails[0]}")
+        if not warns:
+            return at
+        warned.append(warns[0])
+        at = warns.end()
+
+
+def of_json(text, at, part, warned, whole):
+    """The JSON values of a text from a place on."""
+    decoder, number = json.JSONDecoder(parse_constant=no_constant), 0
+    while True:
+        at = past_lines_of_kubectl(text, at, warned, whole)
         if at == len(text):
-            break
+            return
         number += 1
         try:
             value, at = decoder.raw_decode(text, at)
@@ -58,14 +83,42 @@ def documents(text, whole="standard input", part="document"):
             raise Bad(f"{part} {number}: no JSON: {getattr(error, 'msg', error)}{at}")
         except RecursionError:
             raise Bad(f"{part} {number}: it is nested too deeply")
-        yield f"{part} {number}", value
-    if not number:
-        raise Bad(f"{whole} is empty: it takes what kubectl get .. -o json prints")
+        yield value
 
 
-def objects(text, whole="standard input", part="document"):
+def of_yaml(text, whole):
+    """The values of a text in YAML, where PyYAML is there; documents of nothing are passed over."""
+    try:
+        import yaml
+    except ImportError:
+        raise Bad(f"{whole} is YAML, which Python reads with PyYAML alone, and that isn't there: `{AS_JSON}` prints it as JSON without a server, and so do `yq -o json` and kubectl get with -o json")
+    try:
+        yield from (it for it in yaml.load_all(text, Loader=loader(yaml)) if it is not None)
+    except (yaml.YAMLError, ValueError, RecursionError) as error:
+        raise Bad(f"{whole}: no YAML: {' '.join(str(error).split())}")
+
+
+def loader(yaml):
+    """PyYAML's safe loader with the texts that kubectl reads as texts: dates, `yes` and `no`, and numbers like 1:30."""
+
+    class Loader(yaml.SafeLoader):
+        yaml_implicit_resolvers = {}
+
+    plain = "tag:yaml.org,2002:"
+    for name, form, firsts in (
+        ("bool", r"true|True|TRUE|false|False|FALSE", "tTfF"),
+        ("int", r"[-+]?(0|[1-9][0-9]*)|0x[0-9a-fA-F]+", "-+0123456789"),
+        ("float", r"[-+]?([0-9]+\.[0-9]*|\.[0-9]+)([eE][-+]?[0-9]+)?|[-+]?[0-9]+[eE][-+]?[0-9]+", "-+.0123456789"),
+        ("null", r"~|null|Null|NULL|", ["~", "n", "N", ""]),
+        ("merge", r"<<", "<"),
+    ):
+        Loader.add_implicit_resolver(f"{plain}{name}", re.compile(f"^(?:{form})$"), list(firsts))
+    return Loader
+
+
+def objects(text, whole="standard input", part="document", warned=None):
     """The objects of all documents with their places: a list's items, and what stands alone."""
-    for place, value in documents(text, whole, part):
+    for place, value in documents(text, whole, part, warned):
         kind = kind_of(place, value)
         items = value.get("items")
         if kind != "List" and not (kind.endswith("List") and "items" in value):

@@ -5,24 +5,44 @@ import typing
 
 from . import rewriting
 from .cluster import Cluster
-from .reading import Bad
+from .rewriting import Names, Unsure, named_ports, requires
 
 
 class State:
-    """Objects of a cluster with the policies rewritten."""
+    """Objects of a cluster with the policies rewritten.
 
-    def __init__(self, cluster: Cluster):
+    `names` has further names of ports that pods are told apart by, as another state's policies ask about them.
+    """
+
+    def __init__(self, cluster: Cluster, names: typing.Iterable[str] = ()):
         self.cluster = cluster
         # The policies as they are written, by their keys.
         self.policies = {it.key: it for it in cluster.policies}
-        self.rewritten: typing.Dict[tuple, rewriting.Rewritten] = {}
-        for key, it in self.policies.items():
-            self.rewritten[key] = rewriting.rewrite(it, self)
+        self.settle(names)
+
+    def settle(self, names: typing.Iterable[str]):
+        """Gives pods the labels of the bridge's own, and rewrites the policies."""
+        self.names_of_ports = named_ports.asked_by(self.policies.values()) | {*names}
+        self.requirements = requires.gather(self.policies.values())
+        self.required: typing.Set[str] = set()
+        for pod in self.cluster.ends:
+            self.cluster.derive(pod)
+            required = requires.label_of(self.requirements, pod.labels)
+            self.required.update(required.values())
+            pod.add_labels({**named_ports.labels_of(pod, self.names_of_ports), **required})
+        self.rewritten = {key: rewriting.rewrite(it, self) for key, it in self.policies.items()}
+        self.places, self.all_marks, self.all_unsure, self.all_names = {}, {}, [], []
+        for it in self.rewritten.values():
+            self.places.update(it.places)
+            self.all_marks.update(it.marks)
+            self.all_unsure += it.unsure
+            self.all_names += it.names
+        self.all_unsure += [of_deciding(it) for it in self.cluster.deciding]
 
     @property
     def ends(self) -> list:
-        """The pods that can be ends of connections, stand-ins included."""
-        return self.cluster.live
+        """The pods that can be ends of connections, and what stands for those that come."""
+        return self.cluster.ends
 
     def parts(self) -> list:
         """The policies that policyd is given, in their order. Each has `line`, `deletion()`, `selects()` and `whole`."""
@@ -30,36 +50,27 @@ class State:
 
     def place(self, text: str) -> str:
         """A place of an answer, in the policy as it was written."""
-        for it in self.rewritten.values():
-            if text in it.places:
-                return it.places[text]
-        return text
+        return self.places.get(text, text)
 
     def marks(self, place: str) -> typing.Tuple[str, ...]:
         """The marks of an entry, by its place as it was written."""
-        return next((it.marks[place] for it in self.rewritten.values() if place in it.marks), ())
+        return self.all_marks.get(place, ())
 
-    def unsure(self, labels: typing.Sequence[str], direction: str) -> typing.List[rewriting.Unsure]:
+    def unsure(self, labels: typing.Sequence[str], direction: str) -> typing.List[Unsure]:
         """What isn't read and may change what pods with the labels may receive, or send."""
-        return []
+        return [it for it in self.all_unsure if it.touches(labels, direction)]
 
-    def names(self, labels: typing.Sequence[str], direction: str) -> typing.List[rewriting.Names]:
+    def names(self, labels: typing.Sequence[str], direction: str) -> typing.List[Names]:
         """The unknown addresses that pods with the labels may receive from, or send to."""
-        return []
+        return [it for it in self.all_names if it.touches(labels, direction)]
 
-    def lacks(self) -> typing.List[str]:
-        """What is said of what the state lacks, as lines."""
-        return []
+
+def of_deciding(found) -> Unsure:
+    """An object that decides beside policies, as what isn't read of one."""
+    how = {"directions": found.directions(), "isolates": not found.overrides, "overrides": found.overrides, "selector": found.selects}
+    return Unsure(found.name, f"a {found.kind} decides too", "", **how)
 
 
 def read(text: str, choice, cluster: str = "default", whole: str = "standard input", part: str = "document") -> State:
     """The state of a text that kubectl printed; Bad where an object of it is bad."""
     return State(Cluster(text, choice, cluster, whole, part))
-
-
-def after(before: State, added: typing.Sequence[str], removed: typing.Sequence[str]) -> State:
-    """The state with the manifests of files, which replace what has their names, and without what is named.
-
-    `added` has names of files, `removed` texts such as `cnp/pay/web`. Bad where one of them doesn't fit the state.
-    """
-    raise Bad("not yet")

@@ -1,57 +1,18 @@
 """What a policy has and policyd's profile doesn't, rewritten into what the profile has: the table of docs/RULES.md,
-'What the bridge rewrites', with a module for each idea."""
+'What the bridge rewrites', with a module for each idea.
+
+A rule's entries are rewritten one by one (`entries.py`), and a rule may become several (`rules.py`); here they are put
+together into what policyd is given, with the way back from the places in its answers.
+"""
 from __future__ import annotations
 
-import collections
-import dataclasses
-import typing
+import copy
 
-
-@dataclasses.dataclass(frozen=True)
-class Unsure:
-    """What isn't read in a policy, so that what it changes can't be told."""
-
-    # The policy's name, as answers have it, what isn't read, and the path to it in the document.
-    policy: str
-    what: str
-    path: str
-    # The directions that it may change, and whether it may allow, deny, or isolate what nothing read isolates.
-    directions: frozenset = frozenset(("ingress", "egress"))
-    allows: bool = True
-    denies: bool = True
-    isolates: bool = False
-
-
-@dataclasses.dataclass(frozen=True)
-class Names:
-    """Addresses that an entry opens and that nobody knows here: those of names, or of a cloud's groups."""
-
-    # The entry's place, its direction, what it names, and the entry with its ports alone.
-    place: str
-    direction: str
-    names: typing.Tuple[str, ...]
-    ports: dict
-
-
-@dataclasses.dataclass
-class Rewritten:
-    """A policy as policyd is given it. `policy` is it as it was written."""
-
-    policy: object
-    # What is applied in its place: most often one policy, none where no rule of it can be in force. Each has `whole`,
-    # which is `policy`.
-    parts: list = dataclasses.field(default_factory=list)
-    # A place of an answer, such as `pay/web#0.ingress[1]`, and the place in the policy as it was written.
-    places: typing.Dict[str, str] = dataclasses.field(default_factory=dict)
-    # Marks of entries by their places as written: `L7`, `auth`, `nodes`.
-    marks: typing.Dict[str, typing.Tuple[str, ...]] = dataclasses.field(default_factory=dict)
-    names: typing.List[Names] = dataclasses.field(default_factory=list)
-    # What isn't read; and why Cilium refuses the policy too, or None: it is never in force there.
-    unsure: typing.List[Unsure] = dataclasses.field(default_factory=list)
-    refused: typing.Optional[str] = None
-    # What was left out, by what it is, with how often, and what the state lacks for it to be rewritten.
-    counted: typing.Counter[str] = dataclasses.field(default_factory=collections.Counter)
-    lacking: typing.List[str] = dataclasses.field(default_factory=list)
+from ..policies import NAMESPACED, Policy
+from ..unread import SECTIONS
+from . import network, rules
+from .results import Names, Rewritten, Unsure  # noqa: F401
+from .work import Refused, Work
 
 
 def rewrite(policy, state) -> Rewritten:
@@ -60,4 +21,50 @@ def rewrite(policy, state) -> Rewritten:
     `policy` is a policies.Policy or network.NetworkPolicy, `state` the state.State that it is judged in: its Services,
     pods, prefix groups and the cluster's name decide what some members become.
     """
-    return Rewritten(policy, [policy])
+    found = Rewritten(policy)
+    work = Work(policy, state, found)
+    try:
+        is_network = network.is_network(policy.document)
+        if is_network and not network.is_rewritten(policy, state):
+            found.parts = [policy]
+            return found
+        written = network.as_rules(work) if is_network else rules.written(work)
+        made = [one for number, rule in written for one in rules.rewritten(work, number, rule)]
+    except Refused as refused:
+        return Rewritten(policy, refused=str(refused))
+    name = f"{network.FRONT}{policy.key[2]}" if is_network else policy.key[2]
+    if made:
+        found.parts = [assembled(work, made, name)]
+    return found
+
+
+def assembled(work: Work, made: list, name: str):
+    """The policy of rules that were rewritten, and the places of its entries as they were written."""
+    policy = work.policy
+    documents = [it.document() for it in made]
+    if name == policy.key[2] and documents == [it for it in policy.rules()]:
+        note_places(work, made, policy.name)
+        return policy
+    document = copy.copy(policy.document)
+    document.pop("spec", None)
+    document.pop("specs", None)
+    document.update({"spec": documents[0]} if len(documents) == 1 else {"specs": documents})
+    if name != policy.key[2]:
+        document.update({"apiVersion": "cilium.io/v2", "kind": NAMESPACED})
+        document["metadata"] = {"name": name, "namespace": policy.namespace}
+    found = Policy(policy.place, document)
+    found.whole = policy
+    note_places(work, made, found.name)
+    return found
+
+
+def note_places(work: Work, made: list, name: str):
+    """Notes where each entry of an answer stands in the policy as it was written."""
+    front = "" if work.policy.namespace else "/"
+    for number, rule in enumerate(made):
+        for section in SECTIONS:
+            for at, entry in enumerate(rule.sections.get(section, [])):
+                place = f"{work.policy.name}#{rule.number}.{section}[{entry.number}]"
+                work.found.places[f"{front}{name}#{number}.{section}[{at}]"] = place
+                if entry.marks:
+                    work.found.marks[place] = tuple(dict.fromkeys([*work.found.marks.get(place, ()), *entry.marks]))

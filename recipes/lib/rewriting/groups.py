@@ -1,0 +1,45 @@
+"""Groups of prefixes as peers: the prefixes of the CiliumCIDRGroups of the state (Cilium, Network Policy, 'CIDR based')."""
+from __future__ import annotations
+
+import dataclasses
+import typing
+
+from ..policies import holds, requirements
+from ..unread import prefix
+from .work import Entry, Work
+
+
+def rewrite(work: Work, entry: Entry, word: str) -> typing.List[Entry]:
+    """The entry with each prefix of a group in the group's place."""
+    listed = entry.value.get(f"{word}CIDRSet")
+    if not listed:
+        return [entry]
+    sets = [it for one in listed for it in prefixes(work, one)]
+    return [dataclasses.replace(entry, value={**entry.value, f"{word}CIDRSet": sets})]
+
+
+def prefixes(work: Work, item: dict) -> typing.List[dict]:
+    name, selector = item.get("cidrGroupRef"), item.get("cidrGroupSelector")
+    if name is None and selector is None:
+        return [item]
+    rest = {key: it for key, it in item.items() if key not in ("cidrGroupRef", "cidrGroupSelector")}
+    groups = work.state.cluster.groups
+    if name is not None and name not in groups:
+        work.lacks(f"the CiliumCIDRGroup {name} isn't in the state")
+    names = [name] if name in groups else []
+    if selector is not None:
+        asked = [("k8s", *it[1:]) for it in requirements(selector, "")]
+        names = [it for it, (labels, _) in groups.items() if all(holds(one, [f"k8s:{key}={text}" for key, text in labels.items()]) for one in asked)]
+        if not names:
+            work.lacks("no CiliumCIDRGroup of the state has the labels that it asks for")
+    return [it for one in names for text in groups[one][1] for it in with_exceptions(text, rest)]
+
+
+def with_exceptions(text: str, rest: dict) -> typing.Iterator[dict]:
+    """A prefix of a group with those of the exceptions that lie in it, or nothing where one of them has all of it."""
+    whole, listed = prefix(text), rest.get("except") or []
+    if whole is None or any(prefix(it) is None for it in listed):
+        yield {**rest, "cidr": text}
+    elif not any(whole.subnet_of(prefix(it)) for it in listed):
+        inside = [it for it in listed if prefix(it).subnet_of(whole)]
+        yield {**{key: it for key, it in rest.items() if key != "except"}, "cidr": text, **({"except": inside} if inside else {})}

@@ -1,0 +1,27 @@
+"""What a proxy decides behind the ports: its layers 3 and 4 are kept, and marked."""
+from __future__ import annotations
+
+import dataclasses
+import typing
+
+from .work import Entry, Work
+
+MEMBERS = ("rules", "listener", "terminatingTLS", "originatingTLS", "serverNames")
+
+
+def rewrite(work: Work, entry: Entry, word: str) -> typing.List[Entry]:
+    """The entry without rules of layer 7 and without authentication: open to the proxy, or to who authenticates."""
+    value, marks = dict(entry.value), list(entry.marks)
+    items = value.get("toPorts")
+    if isinstance(items, list) and any(isinstance(it, dict) and it.get(name) for it in items for name in MEMBERS):
+        marks.append("L7")
+    if isinstance(items, list):
+        value["toPorts"] = [without(it) if isinstance(it, dict) else it for it in items]
+    mode = value.pop("authentication", None)
+    if mode is not None and mode.get("mode") != "disabled":
+        marks.append("auth")
+    return [dataclasses.replace(entry, value=value, marks=tuple(marks))]
+
+
+def without(item: dict) -> dict:
+    return {name: it for name, it in item.items() if name not in MEMBERS}

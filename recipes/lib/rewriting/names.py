@@ -1,0 +1,42 @@
+"""Addresses that nobody knows here: those of names, and those of a cloud's groups."""
+from __future__ import annotations
+
+import dataclasses
+import typing
+
+from ..unread import Unread
+from .refusals import Refused
+from .work import Entry, Work
+
+MEMBERS = ("toFQDNs", "toGroups", "fromGroups")
+
+
+def rewrite(work: Work, entry: Entry, word: str) -> typing.List[Entry]:
+    """An entry that isolates and opens nothing, and a note of what it opens besides."""
+    value = dict(entry.value)
+    lists = {it: value.pop(it) for it in MEMBERS if it in value}
+    if not any(lists.values()):
+        return [dataclasses.replace(entry, value={f"{word}Endpoints": [], **value} if lists else value)]
+    for member, listed in lists.items():
+        if listed:
+            ports = {"toPorts": value["toPorts"]} if value.get("toPorts") else {}
+            work.names([written(work, member, at, it) for at, it in enumerate(listed)], ports)
+    return [dataclasses.replace(entry, value={})]
+
+
+def written(work: Work, member: str, at: int, item: dict) -> str:
+    """A name or a pattern as it stands; a group by what it lists."""
+    path = f"{work.path}.{member}[{at}]"
+    if not isinstance(item, dict):
+        raise Refused(f"wrong-shape at {path}")
+    if member != "toFQDNs":
+        inner = next((it for it in item.values() if isinstance(it, dict)), {})
+        texts = [str(one) for it in inner.values() for one in (it if isinstance(it, list) else [it])]
+        return f"group {', '.join(texts)}"
+    unknown = sorted(it for it in item if it not in ("matchName", "matchPattern") and item[it] is not None)
+    if unknown:
+        raise Unread("unknown-member", f"{path}.{unknown[0]}")
+    text = item.get("matchName") or item.get("matchPattern")
+    if not isinstance(text, str):
+        raise Refused(f"wrong-shape at {path}")
+    return text

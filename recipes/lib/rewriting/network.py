@@ -1,0 +1,127 @@
+"""A NetworkPolicy as a policy of Cilium's, where it has what policyd doesn't read: a port by name, or a prefix of IPv6.
+
+What it means is in docs/RULES.md, 'NetworkPolicies'; policyd reads all other NetworkPolicies as they are.
+"""
+from __future__ import annotations
+
+import typing
+
+from .. import unread
+from ..pods import OWN_PREFIX
+from ..policies import NAMESPACE_KEY
+from ..unread import Unread, why_unread
+from . import named_ports
+from .refusals import refused_by_cilium
+from .work import Refused, Work, with_expressions
+
+# The names of policies that NetworkPolicies become: no object of Kubernetes has two dots in its name.
+FRONT = "networkpolicy.."
+WORDS = (("ingress", "from"), ("egress", "to"))
+PORTS_MOST = 40
+Rules = typing.List[typing.Tuple[int, dict]]
+
+
+def is_network(document: dict) -> bool:
+    return unread.is_network_policy(document)
+
+
+def is_rewritten(policy, state) -> bool:
+    return bool(why_unread(policy.document) or state.requirements)
+
+
+def as_rules(work: Work) -> Rules:
+    """The rule that a NetworkPolicy means, with its number."""
+    spec = work.policy.document.get("spec")
+    if not isinstance(spec, dict):
+        raise Refused("no-spec at spec")
+    for name in sorted(spec):
+        if spec[name] is not None and name not in unread.SHAPES["network spec"]:
+            work.is_unsure("unknown-member", f"spec.{name}", isolates=True)
+    check_subject(work, spec)
+    work.subject = of_labels(spec["podSelector"])
+    rule: dict = {"endpointSelector": work.subject, "": "spec"}
+    for section, word in WORDS:
+        if section not in work.policy.directions():
+            continue
+        work.direction, rule[section] = section, []
+        listed = spec.get(section) or []
+        if not isinstance(listed, list) or not all(isinstance(it, dict) for it in listed):
+            raise Refused(f"wrong-shape at spec.{section}")
+        for at, entry in enumerate(listed):
+            work.path = f"spec.{section}[{at}]"
+            rule[section] += [{**it, "": at} for it in entries(work, entry, word)]
+        rule[section] = rule[section] or [{"": 0}]
+    return [(0, rule)]
+
+
+def check_subject(work: Work, spec: dict):
+    try:
+        for name in ("podSelector", "policyTypes"):
+            if spec.get(name) is not None:
+                unread.walk(spec[name], unread.SHAPES["network spec"][name], f"spec.{name}")
+        unread.judge_network({"podSelector": spec.get("podSelector"), "policyTypes": spec.get("policyTypes")})
+    except Unread as found:
+        raise Refused(f"{found.what} at {found.path}")
+
+
+def entries(work: Work, entry: dict, word: str) -> typing.List[dict]:
+    """The entries of Cilium's that one of a NetworkPolicy means: one for its pods, and one for its prefixes."""
+    try:
+        check(entry, word, work.path)
+    except Unread as found:
+        if refused_by_cilium(found.what):
+            raise Refused(f"{found.what} at {found.path}")
+        work.entry_is_unsure(found.what, found.path)
+        return [{}]
+    peers, ports = entry.get(word) or [], [port_of(it) for it in entry.get("ports") or []]
+    items = [{"ports": ports[at : at + PORTS_MOST]} for at in range(0, len(ports), PORTS_MOST)]
+    rest = {"toPorts": items} if items else {}
+    if not peers:
+        return [rest or {f"{word}Entities": ["all"]}]
+    pods = [of_peer(work, it) for it in peers if it.get("ipBlock") is None]
+    blocks = [it["ipBlock"] for it in peers if it.get("ipBlock") is not None]
+    found = [{f"{word}Endpoints": pods, **rest}] if pods else []
+    return [*found, {f"{word}CIDRSet": blocks, **rest}] if blocks else found
+
+
+def check(entry: dict, word: str, path: str):
+    """What policyd says of the entry without its ports by name and its prefixes of IPv6."""
+    number = lambda it: {**it, "port": 1} if isinstance(it, dict) and named_ports.is_named(it.get("port")) else it
+    copy = dict(entry)
+    for name, keep in (("ports", number), (word, without_ipv6)):
+        if isinstance(entry.get(name), list):
+            copy[name] = [keep(it) for it in entry[name]]
+    unread.walk(copy, f"network {word}", path)
+    unread.judge_network_entry(copy.get(word) or [], copy.get("ports") or [], path)
+
+
+def without_ipv6(peer):
+    """A peer with a prefix of IPv4 in the place of one of IPv6."""
+    block = peer.get("ipBlock") if isinstance(peer, dict) else None
+    if not isinstance(block, dict) or ":" not in str(block.get("cidr")):
+        return peer
+    return {**peer, "ipBlock": {**block, "cidr": "0.0.0.0/0", "except": []}}
+
+
+def port_of(value: dict) -> dict:
+    port, end = value.get("port"), value.get("endPort")
+    found = {"port": "0" if port is None else str(port), "protocol": value.get("protocol") or "TCP"}
+    return found if end is None else {**found, "endPort": end}
+
+
+def of_labels(selector: dict, front: str = "") -> dict:
+    """A selector of Kubernetes' labels as one of Cilium's."""
+    labels = {f"k8s:{front}{key}": it for key, it in (selector.get("matchLabels") or {}).items()}
+    asked = [{**it, "key": f"k8s:{front}{it['key']}"} for it in selector.get("matchExpressions") or []]
+    return {**({"matchLabels": labels} if labels else {}), **({"matchExpressions": asked} if asked else {})}
+
+
+def of_peer(work: Work, peer: dict) -> dict:
+    """Pods by their own labels, and their namespace by its name or by its labels."""
+    pods = of_labels(peer.get("podSelector") or {})
+    if peer.get("namespaceSelector") is None:
+        return with_expressions(pods, [{"key": f"k8s:{NAMESPACE_KEY}", "operator": "In", "values": [work.namespace]}])
+    spaces = of_labels(peer["namespaceSelector"], f"{OWN_PREFIX}namespace.labels.")
+    labels = {**pods.get("matchLabels", {}), **spaces.get("matchLabels", {})}
+    whole = {"matchLabels": labels, "matchExpressions": [*pods.get("matchExpressions", []), *spaces.get("matchExpressions", [])]}
+    return with_expressions(whole, [{"key": f"k8s:{NAMESPACE_KEY}", "operator": "Exists"}])

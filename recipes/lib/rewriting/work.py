@@ -1,0 +1,90 @@
+"""What the steps of a rewriting share: the policy, the state that it is judged in, and what was found so far."""
+from __future__ import annotations
+
+import dataclasses
+import typing
+
+from ..policies import requirements
+from .results import Names, Rewritten, Unsure
+
+MARKS = ("L7", "auth", "nodes")
+
+
+class Refused(Exception):
+    """Why Cilium, or the API server before it, refuses a policy: what is wrong, with the path."""
+
+
+@dataclasses.dataclass
+class Entry:
+    """An entry of a section, with its number as it was written."""
+
+    number: int
+    value: dict
+    marks: typing.Tuple[str, ...] = ()
+    # The label without which a pod of the subject isn't meant: it has a port of some name and number.
+    port_label: str = ""
+
+
+@dataclasses.dataclass
+class Rule:
+    """A rule, with its number as it was written."""
+
+    number: int
+    selector: dict
+    sections: typing.Dict[str, typing.List[Entry]]
+    # Its other members, which are as they were.
+    rest: dict
+
+    def document(self) -> dict:
+        sections = {name: [it.value for it in entries] for name, entries in self.sections.items()}
+        return {"endpointSelector": self.selector, **sections, **self.rest}
+
+
+@dataclasses.dataclass
+class Work:
+    """A rewriting that goes on."""
+
+    policy: object
+    state: object
+    found: Rewritten
+    # The place of the entry that is being rewritten, its direction, whether it denies, and what its subject asks.
+    place: str = ""
+    path: str = ""
+    direction: str = ""
+    denies: bool = False
+    subject: typing.Optional[dict] = None
+
+    @property
+    def namespace(self) -> str:
+        """The policy's namespace, empty where it is cluster-wide."""
+        return self.policy.namespace
+
+    def asked(self) -> typing.Optional[tuple]:
+        """What the subject asks of labels, or None where it can't be told."""
+        if self.subject is None:
+            return None
+        return tuple((*it[:3], tuple(it[3])) for it in requirements(self.subject, self.namespace))
+
+    def is_unsure(self, what: str, path: str, **how):
+        """Notes what isn't read."""
+        how = {"namespace": self.namespace, "asked": self.asked(), **how}
+        self.found.unsure.append(Unsure(self.policy.name, what, path, **how))
+
+    def entry_is_unsure(self, what: str, path: str = ""):
+        """Notes what isn't read of the entry that is being rewritten."""
+        directions = frozenset((self.direction,))
+        self.is_unsure(what, path or self.path, directions=directions, allows=not self.denies, denies=self.denies)
+
+    def names(self, names: typing.Sequence[str], ports: dict):
+        """Notes addresses that nobody knows here."""
+        self.found.names.append(Names(self.place, self.direction, tuple(names), ports, self.asked() or ()))
+
+    def lacks(self, what: str):
+        text = f"{self.policy.name}: {what}"
+        if text not in self.found.lacking:
+            self.found.lacking.append(text)
+
+
+def with_expressions(selector: dict, more: typing.Sequence[dict]) -> dict:
+    """A selector that asks for more."""
+    return {**selector, "matchExpressions": [*(selector.get("matchExpressions") or []), *more]}
