@@ -28,6 +28,13 @@ class Answer:
         self.is_allowed = self.word == "allowed"
         self.denies, self.allows = (() if it == "-" else tuple(it.split(",")) for it in (denies, allows))
 
+    def with_names(self, places):
+        """It where the addresses of names are meant that these entries open."""
+        found = Answer.__new__(Answer)
+        found.word, found.is_allowed = "allowed", True
+        found.denies, found.allows = self.denies, (*self.allows, *places)
+        return found
+
     def is_free(self):
         """Whether nothing speaks of the packet and it passes: its direction isn't enforced."""
         return self.is_allowed and not self.denies and not self.allows
@@ -64,45 +71,28 @@ class Asker:
         it = self.sets[at]
         return line_of("", {"op": "endpoint", "name": str(at), "labels": it.labels, "address": it.address})
 
-    def enforced_by(self, policies):
-        """For each policy by itself, the endpoints and directions in which it lets pass only what some entry allows; and
-        what policyd answered to those that it refused.
-
-        A packet from or to a number that nobody has is asked about, with no other policy in force: it passes without a
-        reason exactly where no rule of the policy selects the endpoint with a section of that direction.
-        """
-        found, refused = [set() for _ in policies], {}
-        for chunk in chunks(range(len(self.sets)), ENDPOINTS_MOST):
-            lines, places = [self.endpoint(at) for at in chunk], {}
-            for number, policy in enumerate(policies):
-                places[len(lines)] = (number, None)
-                lines.append(policy.line)
-                for asked in [(at, direction) for at in chunk for direction in sorted(policy.directions())]:
-                    places[len(lines)] = (number, asked)
-                    lines.append(query((*asked, NOBODY, "TCP", 0)))
-                lines.append(policy.deletion())
-            answers = self.play(lines)
-            for place, (number, asked) in places.items():
-                if asked is not None and not Answer(answers[place]).is_free():
-                    found[number].add(asked)
-                elif asked is None and answers[place].startswith("refused"):
-                    refused[number] = answers[place].split(" ", 2)[2]
-        return found, refused
-
     def both(self, before, change, asked):
-        """The answer to each question with the policies that are in force, and the one with the change."""
-        found = {}
-        for batch in chunks(sorted(asked, key=lambda it: it[0]), LINES_MOST):
+        """The answers to questions with the policies that are in force, and to questions with the change.
+
+        `asked` is a pair of sets of questions. The answers are by when, 0 or 1, and question; and what policyd said of each
+        line of a policy that it refused.
+        """
+        found, refused = {}, {}
+        ordered = [(when, it) for when in (0, 1) for it in sorted(asked[when], key=lambda it: it[0])]
+        for batch in chunks(ordered, LINES_MOST):
             lines = [*self.identities(), *before]
-            places = [self.asked(lines, batch)]
+            policies = list(range(len(self.sets), len(lines)))
+            places = {(0, it): at for it, at in self.asked(lines, [it for when, it in batch if not when]).items()}
+            policies += range(len(lines), len(lines) + len(change))
             lines += change
-            places.append(self.asked(lines, batch))
+            places.update({(1, it): at for it, at in self.asked(lines, [it for when, it in batch if when]).items()})
             answers = self.play(lines)
             for at in range(len(self.sets)):
                 if not answers[at].endswith(f" identity {FIRST + at}"):
                     raise NoAnswer(f"policyd answered {answers[at]!r} where identity {FIRST + at} was due")
-            found.update({it: tuple(Answer(answers[place[it]]) for place in places) for it in batch})
-        return found
+            refused.update({lines[at]: answers[at].split(" ", 2)[2] for at in policies if answers[at].startswith("refused")})
+            found.update({it: Answer(answers[at]) for it, at in places.items()})
+        return found, refused
 
     def asked(self, lines, batch):
         """Appends the questions of a batch, with their endpoints; where each of them stands."""

@@ -1,78 +1,49 @@
-"""A change of policies: what is applied and what is removed, and what was in force before."""
-from . import network
-from .policies import CLUSTER_WIDE, NAMESPACED, POLICY_KINDS, Policy
-from .reading import Bad, objects, text_of
+"""A change from one state to another: which policies come, go and are replaced, and what policyd is told of it."""
+from __future__ import annotations
 
-SHORT = {"cnp": NAMESPACED, "ccnp": CLUSTER_WIDE, "netpol": network.KIND}
-KINDS = (*POLICY_KINDS, network.KIND)
+import typing
+
+from . import manifests
+from .reading import Bad
+from .state import State
 
 
 class Change:
-    """The policies before, those that come and those that go."""
+    """Two states, and what lies between them."""
 
-    def __init__(self, cluster, added, removed):
-        self.before = {it.key: it for it in cluster.policies}
-        self.new = {}
-        for name in added:
-            policies = list(policies_of(name))
-            if not policies:
-                raise Bad(f"--add {name}: no policy is in it")
-            for policy in policies:
-                if policy.key in self.new:
-                    raise Bad(f"{policy.place}: {policy.name} comes twice, and one of them alone can be meant")
-                if policy.key in self.before:
-                    must_be_read(self.before[policy.key], f"{policy.place}: in the state ")
-                self.new[policy.key] = policy
-        self.gone = []
-        for it in removed:
-            policy = self.removed(it)
-            if policy in self.gone:
-                raise Bad(f"--remove {it}: {policy.name} goes twice")
-            must_be_read(policy, f"--remove {it}: ")
-            self.gone.append(policy)
-        self.lines = [*(it.deletion() for it in self.gone), *(it.line for it in self.new.values())]
+    def __init__(self, before: State, after: State, skipped: typing.Sequence[str] = ()):
+        self.states, self.skipped = (before, after), list(skipped)
+        self.before, self.after = before, after
+        # What each state applies, by its keys.
+        self.applied = tuple({part.key: part for part in it.parts()} for it in self.states)
+        old, new = self.applied
+        self.lines = [part.deletion() for key, part in old.items() if key not in new]
+        self.lines += [part.line for key, part in new.items() if key not in old or old[key].line != part.line]
 
-    def removed(self, text):
-        kind, *names = text.split("/")
-        kind = {**SHORT, **{it.lower(): it for it in KINDS}}.get(kind.lower())
-        key = (kind, *(["", *names] if kind == CLUSTER_WIDE else names))
-        if kind is None or len(key) != 3:
-            raise Bad(f"--remove {text}: it is {NAMESPACED}/NAMESPACE/NAME, {CLUSTER_WIDE}/NAME or {network.KIND}/NAMESPACE/NAME; cnp, ccnp and netpol do for the kinds")
-        if key not in self.before:
-            names = sorted("/".join(it for it in key[1:] if it) for key in self.before if key[0] == kind)
-            raise Bad(f"--remove {text}: the state has no such policy; of its kind it has {', '.join(names) or 'none'}")
-        return self.before[key]
+    def before_lines(self) -> typing.List[str]:
+        return [part.line for part in self.applied[0].values()]
 
-    def versions(self):
-        """Each policy that is there before or after, as often as it has another document."""
-        return [*self.before.values(), *(it for it in self.new.values() if not self.is_as_before(it))]
+    def coming(self) -> list:
+        """The policies that come or are replaced by others, as they are written."""
+        old = self.before.policies
+        return [it for key, it in self.after.policies.items() if key not in old or old[key].line != it.line]
 
-    def is_as_before(self, policy):
-        old = self.before.get(policy.key)
-        return old is not None and old.line == policy.line
+    def changed(self) -> typing.Set[tuple]:
+        """The keys of the policies that come, go or are replaced."""
+        return {it.key for it in self.coming()} | {*self.before.policies} - {*self.after.policies}
 
-    def changed(self):
-        """The versions that are in force before or after alone."""
-        new = [it for it in self.new.values() if not self.is_as_before(it)]
-        return [*self.gone, *(self.before[it.key] for it in new if it.key in self.before), *new]
+    def changes(self) -> bool:
+        """Whether anything is another: a policy that policyd is given, or a pod's labels."""
+        old, new = ({it.name: it.labels for it in state.ends} for state in self.states)
+        return bool(self.lines) or old != new
 
 
-def policies_of(name):
-    """The policies of a file, each of which policyd has to read."""
-    for place, value in objects(text_of(name), name, f"{name}: document"):
-        api, kind = value["apiVersion"], value["kind"]
-        if (api, kind) == (network.API, network.KIND):
-            policy = network.NetworkPolicy(place, value)
-        elif api == "cilium.io/v2" and kind in POLICY_KINDS:
-            policy = Policy(place, value)
-        else:
-            raise Bad(f"{place}: a {kind} of {api}, and --add takes {NAMESPACED} and {CLUSTER_WIDE} of cilium.io/v2, and {network.KIND} of {network.API}")
-        must_be_read(policy, f"{place}: ")
-        yield policy
-
-
-def must_be_read(policy, front):
-    """A policy that isn't read is in force neither before nor after, so nothing of it would show."""
-    why = policy.why_unread()
-    if why:
-        raise Bad(f"{front}{policy.name} isn't read: {why[0]} at {why[1]}. Nothing can be said of it")
+def of_files(before: State, added: typing.Sequence[str], removed: typing.Sequence[str]) -> Change:
+    """The change by the manifests of files and by the policies that texts such as `cnp/pay/web` name."""
+    read = manifests.Manifests(added)
+    found = Change(before, manifests.after(before, read, manifests.removed(before, removed)), list(read.said()))
+    for key in read.objects:
+        refused = found.after.rewritten[key].refused if key in found.after.rewritten else None
+        if refused:
+            raise Bad(f"{read.objects[key][0]}: {found.after.policies[key].name} can't come: Cilium refuses it: {refused}")
+    return found

@@ -192,10 +192,9 @@ def counted(count, one, many):
 
 def left_out(cluster, come=False):
     """What is said of what the verdicts lack, but for policies; where pods that come count, they aren't left out."""
-    coming = {it.name for it in cluster.coming} if come else ()
-    known = {name for it in cluster.templates for name in [it.name]} if come else ()
+    coming = {it.name for it in cluster.pods.values() if it.comes()} if come else ()
     for reason, names in cluster.left_out.items():
-        names = [it for it in names if it not in coming and not (come and is_known(cluster, it, known))]
+        names = [it for it in names if it not in coming]
         more = ", .." if len(names) > NAMED_MOST else ""
         if names:
             yield f"left out: {reason}: {len(names)} ({', '.join(names[:NAMED_MOST])}{more})"
@@ -203,12 +202,6 @@ def left_out(cluster, come=False):
         yield f"left out: objects of a kind that isn't read: {count} {kind} ({api})"
     for name in sorted({it.namespace for it in cluster.live} - {*cluster.namespaces}):
         yield f"note: the namespace {name} isn't in the input, so its pods have none of its labels"
-
-
-def is_known(cluster, name, known):
-    """Whether a pod that isn't there is one of a workload that has ends."""
-    pod = cluster.pods[name]
-    return pod.is_owned and bool(pod.comes())
 
 
 def lacks(cluster):

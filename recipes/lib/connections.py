@@ -1,12 +1,12 @@
-"""Which connections a change of policies opens and shuts.
+"""Which connections a change opens and shuts.
 
 A connection from pod to pod has two halves, what its source may send and what its target may receive, and passes where
-both allow it; one with a node or an address outside the cluster has one half. A half can change only where a policy that
-comes or goes selects its endpoint in that direction: all other rules are in force before and after. So the halves of
-those endpoints are asked first, at each stretch of ports, and where one changes, the other half. Halves of one direction
-whose endpoints the same rules select have the same verdicts, so one of them is asked for all.
+both allow it; one with a node or an address outside the cluster has one half. A half can change only where a rule that
+comes or goes selects its endpoint in that direction, or where a label at one of its ends is another: all else is in force
+before and after. So those halves are asked first, at each stretch of ports, and where one changes, the other half. Halves
+of one direction whose endpoints the same rules select have the same verdicts, so one of them is asked for all.
 """
-from . import ports, regions
+from . import ports, regions, unsure
 from .reading import Bad
 
 OPPOSITE = {"ingress": "egress", "egress": "ingress"}
@@ -17,126 +17,176 @@ class Connections:
 
     def __init__(self, sides, change, asker):
         self.sides, self.change, self.asker = sides, change, asker
-        self.versions, self.answers, self.refused = change.versions(), {}, {}
-        self.selecting, self.touched, self.first, self.kept = {}, set(), {}, {}
+        self.answers, self.refused = {}, {}
+        self.selecting, self.touched, self.first, self.kept, self.doubts = [], set(), {}, {}, {}
+        self.moved = [it.at for it in sides.pairs if it.sets[0] != it.sets[1]]
 
     def find(self, say):
         """Asks all that has to be asked, and gives the rows of connections that change and of halves that do so alone."""
-        if not self.change.changed():
+        self.select()
+        if not self.change.changes():
             return []
-        say(f"asking which of {len(self.sides.sets)} sets of labels each of {len(self.versions)} policies selects ..")
-        self.probe()
-        before = [it.line for it in self.change.before.values()]
-        asked = [it for half in sorted(self.touched) for it in self.questions(half)]
-        say(f"asking about {len(set(map(self.stand_in, asked)))} packets, before and after ..")
-        self.ask(before, asked)
+        asked = [it for half in sorted(self.halves()) for it in self.questions(half)]
+        say(f"asking about {len({one for it in asked for one in self.of_sets(it)})} packets, before and after ..")
+        self.ask(asked)
         changed = [it for it in asked if self.changes(it)]
-        others = [it for it in map(self.other, changed) if it and self.stand_in(it) not in self.answers]
+        others = [it for it in map(self.other, changed) if it and not self.is_answered(it)]
         if others:
-            say(f"asking about the other halves of {len(set(map(self.stand_in, others)))} ..")
-            self.ask(before, others)
+            say(f"asking about the other halves of {len({one for it in others for one in self.of_sets(it)})} ..")
+            self.ask(others)
         return self.rows(changed)
 
-    def ask(self, before, asked):
-        asked = set(map(self.stand_in, asked)) - {*self.answers}
-        self.answers.update(self.asker.both(before, self.change.lines, asked) if asked else {})
+    def halves(self):
+        """The halves that are asked first."""
+        return self.first if self.moved else self.touched
 
-    def probe(self):
-        """Which rules select whom: each policy is applied by itself, and each rule of one that has several."""
-        parts = [part for policy in self.versions for part in policy.parts()]
-        asked = [*parts, *(it for it in self.versions if it not in parts)]
-        found, refused = self.asker.enforced_by(asked)
-        self.refused = {asked[number].whole: why for number, why in refused.items()}
-        changed = self.change.changed()
-        for part, halves in zip(parts, found):
-            for half in halves if part.whole not in self.refused else ():
-                self.selecting.setdefault(half, []).append(part)
-                if part.whole in changed:
-                    self.touched.add(half)
+    def of_sets(self, asked):
+        """The question before and after, of the sets of labels that its ends then have."""
+        at, direction, (name, value), protocol, port = self.stand_in(asked)
+        for when in (0, 1):
+            if name == "pair":
+                remote = self.asker.remote(self.sides.pairs[value].sets[when])
+            else:
+                remote = self.world(asked[:2]) if name == "name" else (name, value)
+            yield self.sides.pairs[at].sets[when], direction, remote, protocol, port
+
+    def is_answered(self, asked):
+        return all((when, it) in self.answers for when, it in enumerate(self.of_sets(asked)))
+
+    def ask(self, asked):
+        new = [set(), set()]
+        for it in asked:
+            for when, one in enumerate(self.of_sets(it)):
+                if (when, one) not in self.answers:
+                    new[when].add(one)
+        if new[0] or new[1]:
+            found, refused = self.asker.both(self.change.before_lines(), self.change.lines, new)
+            self.answers.update(found)
+            self.refused.update(refused)
+
+    def select(self):
+        """Which rules select whom, before and after: by labels, as a policy is read."""
+        known = {}
+        for when in (0, 1):
+            parts = [known.setdefault((part.whole.name, part.line), part) for one in self.change.states[when].parts() for part in one.parts()]
+            self.selecting.append({})
+            for at in {it.sets[when] for it in self.sides.pairs}:
+                labels = self.sides.sets[at].labels
+                for part in parts:
+                    for direction in part.directions() if part.selects(labels) else ():
+                        self.selecting[when].setdefault((at, direction), []).append(part)
         alike = {}
-        for half in [(at, direction) for at in range(len(self.sides.sets)) for direction in OPPOSITE]:
-            self.first[half] = alike.setdefault(self.selected_by(half), half)[0]
+        for half in [(it.at, direction) for it in self.sides.pairs for direction in OPPOSITE]:
+            key = self.selected_by(half)
+            self.first[half] = alike.setdefault(key, half)[0]
+            if key[1] != key[2] or half[0] in self.moved:
+                self.touched.add(half)
 
     def unforeseen(self):
         """What is said of policies that policyd refused for another reason than one that is seen beforehand."""
-        for policy, why in self.refused.items():
-            if policy in self.change.changed():
-                raise Bad(f"{policy.name} isn't read: {why}. Nothing can be said of it")
-            if not policy.why_unread():
-                yield f"{policy.name} isn't in force: policyd refused it: {why}"
-
-    def idle(self):
-        """What is said of each policy that comes and speaks of no pod, so that nothing of it shows."""
-        at_work = {part.whole for parts in self.selecting.values() for part in parts}
-        for it in self.change.new.values():
-            if it in at_work or it in self.refused or self.change.is_as_before(it):
-                continue
-            if not it.directions():
-                yield f"{it.name} has no section that isn't empty, so it changes nothing"
-            elif it.namespace and it.namespace not in self.sides.namespaces:
-                yield f"{it.name} selects nobody: no pod of the state is in the namespace {it.namespace}"
-            else:
-                yield f"{it.name} selects no pod of the state"
-
-    def unreached(self):
-        """What is said of each prefix of one address that a policy which comes names, and that isn't outside the cluster."""
-        for it in self.change.new.values():
-            listed = [] if self.change.is_as_before(it) else sorted(regions.listed(entry for _, entry in it.entries()))
-            for prefix in listed:
-                whose = self.sides.whose(str(prefix.network_address)) if prefix.prefixlen == 32 else None
-                if whose:
-                    yield f"{it.name}: the prefix {prefix} does nothing: it is {whose}"
+        parts = {part.line: part for state in self.change.states for part in state.parts()}
+        told = {}
+        for line, why in self.refused.items():
+            if line in parts:
+                told[parts[line].whole.name] = (parts[line].whole.key, why)
+        for name, (key, why) in told.items():
+            if key in self.change.changed():
+                raise Bad(f"{name} isn't read: {why}. Nothing can be said of it")
+            yield f"{name} isn't in force: policyd refused it: {why}"
 
     def stand_in(self, asked):
         """The question that is asked in the place of this one: of the first endpoint that the same rules select."""
         return (self.first[asked[:2]], *asked[1:])
 
     def answer(self, asked):
-        return self.answers[self.stand_in(asked)]
+        """The answers before and after; an entry of names opens their addresses too."""
+        found = [self.answers[when, it] for when, it in enumerate(self.of_sets(asked))]
+        if asked[2][0] == "name":
+            found = [self.named(asked, when, it) for when, it in enumerate(found)]
+        return tuple(found)
+
+    def named(self, asked, when, answer):
+        places = [it.place for it in self.names(asked[:2], when) if asked[2][1] in it.names and has_port(it.ports, *asked[3:])]
+        return answer.with_names(places) if places and answer.word != "denied-by-rule" else answer
+
+    def names(self, half, when):
+        """The unknown addresses that the pods of a half may reach, or be reached from."""
+        return self.of_state(half, when, "names")
+
+    def of_state(self, half, when, what):
+        """What a state says of the pods of a half, made once."""
+        at = self.sides.pairs[half[0]].sets[when]
+        if (what, when, at, half[1]) not in self.doubts:
+            self.doubts[what, when, at, half[1]] = getattr(self.change.states[when], what)(self.sides.sets[at].labels, half[1])
+        return self.doubts[what, when, at, half[1]]
 
     def selected_by(self, half):
-        """A half's direction, and the rules that select its endpoint and have a section of that direction."""
-        return half[1], tuple(self.selecting.get(half, []))
+        """A half's direction, and the rules that select its endpoint and have a section of that direction, before and after."""
+        sets, direction = self.sides.pairs[half[0]].sets, half[1]
+        return (direction, *(tuple(self.selecting[when].get((sets[when], direction), [])) for when in (0, 1)))
 
     def once(self, make, *which):
         """What is made of the entries of halves, made once for all halves of the same rules."""
         if (make, which) not in self.kept:
-            entries = [entry for direction, policies in which for it in policies for way, entry in it.entries() if way == direction]
+            rules = {(direction, it): None for direction, *both in which for rules in both for it in rules}
+            entries = [entry for direction, it in rules for way, entry in it.entries() if way == direction]
             self.kept[make, which] = make(entries)
         return self.kept[make, which]
 
     def stretches(self, half, peer):
         """The stretches of ports of a half, and of the half of the pods at its other side."""
         other = [self.selected_by((peer, OPPOSITE[half[1]]))] if peer is not None else []
-        return self.once(ports.stretches, self.selected_by(half), *other)
+        named = [it.ports for when in (0, 1) for it in self.names(half, when)]
+        if not named:
+            return self.once(ports.stretches, self.selected_by(half), *other)
+        key = (str(named), self.selected_by(half), *other)
+        if key not in self.kept:
+            self.kept[key] = ports.stretches([*self.once(list, self.selected_by(half), *other), *named])
+        return self.kept[key]
+
+    def listed_names(self, half):
+        """The names that a half has unknown addresses of."""
+        return list(dict.fromkeys(name for when in (0, 1) for it in self.names(half, when) for name in it.names))
 
     def outer(self, half):
         """What isn't a pod at the other side of a half."""
-        return self.once(self.sides.outer, self.selected_by(half))
+        found, prefixes = self.once(self.sides.outer, self.selected_by(half))
+        names = self.listed_names(half) if ("region", regions.WORLD) in found else []
+        return {**found, **{("name", it): ("name", it) for it in names}}, prefixes
+
+    def world(self, half):
+        """How a query of a half names the world."""
+        return self.outer(half)[0]["region", regions.WORLD]
 
     def questions(self, half):
         """What is asked of a half: each other side, protocol and stretch of ports."""
         at, direction = half
-        peers = [(self.asker.remote(it), it) for it in range(len(self.sides.sets))]
-        outer, _ = self.outer(half)
-        for remote, peer in [*peers, *((it, None) for it in outer.values())]:
+        peers = [(("pair", it.at), it.at) for it in self.sides.pairs]
+        if half not in self.touched:
+            peers = [it for it in peers if it[1] in self.moved]
+        else:
+            peers += [(it, None) for it in self.outer(half)[0].values()]
+        for remote, peer in peers:
             for protocol, (stretches, _) in self.stretches(half, peer).items():
                 yield from ((at, direction, remote, protocol, port) for port in stretches)
 
     def changes(self, asked):
+        """Whether a half changes, or may for what isn't read."""
         before, after = self.answer(asked)
-        return before.is_allowed != after.is_allowed
+        if before.is_allowed != after.is_allowed:
+            return True
+        doubt = any(self.of_state(asked[:2], when, "unsure") for when in (0, 1))
+        return doubt and (before.word, before.is_free()) != (after.word, after.is_free())
 
     def peer(self, asked):
-        """The set of labels at the other side, or None."""
+        """The pair at the other side, or None."""
         name, value = asked[2]
-        at = value - self.asker.remote(0)[1] if name == "identity" else -1
-        return at if 0 <= at < len(self.sides.sets) else None
+        return value if name == "pair" else None
 
     def other(self, asked):
         """The question of the other half, or None where there is none."""
         peer = self.peer(asked)
-        return None if peer is None else (peer, OPPOSITE[asked[1]], self.asker.remote(asked[0]), *asked[3:])
+        return None if peer is None else (peer, OPPOSITE[asked[1]], ("pair", asked[0]), *asked[3:])
 
     def rows(self, asked):
         """For each changed packet, its two ends, its stretch of ports and its halves: pairs of before and after."""
@@ -161,11 +211,38 @@ class Row:
         stretches, self.protocols = found.stretches(half, peer)[self.protocol]
         self.stretch = (port, stretches[port])
         self.is_allowed = [all(it[at].is_allowed for it in halves.values()) for at in (0, 1)]
+        self.unsure = self.doubts(found)
+        self.names = self.names_beside(found, half)
 
     def changes(self):
         return self.is_allowed[0] != self.is_allowed[1]
+
+    def is_shown(self):
+        """Whether the connection changes, or may for what isn't read."""
+        return self.changes() or bool(self.unsure)
 
     def word(self, at):
         """The verdict on the connection: allowed, or that of the half that doesn't allow it."""
         words = [it[at].word for it in self.halves.values() if not it[at].is_allowed]
         return min(words, key=lambda it: it != "denied-by-rule", default="allowed")
+
+    def doubts(self, found):
+        """The names of what isn't read and may turn a verdict of the connection."""
+        at = {"egress": self.ends[0], "ingress": self.ends[1]}
+        told = []
+        for when in (0, 1):
+            halves = [(both[when], found.of_state((at[way], way), when, "unsure")) for way, both in self.halves.items()]
+            told += [it.policy for it in unsure.of_connection(halves)]
+        return tuple(dict.fromkeys(told))
+
+    def names_beside(self, found, half):
+        """The names whose addresses are reached beside the world, where the row is of the world."""
+        if self.remote != found.outer(half)[0].get(("region", regions.WORLD)):
+            return ()
+        listed = [it for when in (0, 1) for it in found.names(half, when) if has_port(it.ports, self.protocol, self.stretch[0])]
+        return tuple(dict.fromkeys(name for it in listed for name in it.names))
+
+
+def has_port(entry, protocol, port):
+    """Whether an entry that has ports alone covers one."""
+    return not entry.get("toPorts") or any(low <= port <= high for low, high in ports.ranges(entry)[protocol])

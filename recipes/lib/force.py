@@ -1,25 +1,43 @@
-"""What is said of policies that aren't in force, since policyd doesn't read them."""
+"""What is said of policies that aren't in force, or not as they are written: not read, refused, rewritten but for something."""
 from .cluster import NAMED_MOST
 
 
-def said(policies, pods, answers):
-    """The summary, and for each such policy which endpoints, and which answers by their lines, lack it."""
-    unread = [(it, it.why_unread()) for it in policies]
-    unread = [(it, why) for it, why in unread if why]
-    if not unread:
-        return
-    each = "; ".join(f"{it.name}: {what} at {path}" for it, (what, path) in unread)
-    is_one = len(unread) == 1
-    yield f"{len(unread)} of {len(policies)} policies {'is' if is_one else 'are'}n't in force: {each}"
-    for it, _ in unread:
-        names = [pod.name for pod in pods if it.selects(pod.labels)]
-        numbers = sorted(number for name in names for number in answers.get(name, []))
+def said(state, answers, pods):
+    """The summary of what isn't read, and which endpoints, and which answers by their lines, it may change."""
+    unread = {}
+    for it in state.all_unsure:
+        unread.setdefault(it.policy, []).append(it)
+    if unread:
+        each = "; ".join(str(it) for listed in unread.values() for it in listed)
+        yield f"{counted(len(unread))} {'is' if len(unread) == 1 else 'are'}n't read whole: {each}"
+    for name, listed in unread.items():
+        names = [pod.name for pod in pods if any(it.touches(pod.labels, way) for it in listed for way in it.directions)]
+        numbers = sorted(number for one in names for number in answers.get(one, []))
         if names:
-            told = f"; answer{'s' * (len(numbers) != 1)} {listed(numbers)} too" if numbers else ""
-            yield f"the verdicts of {listed(names)} lack {it.name}, which selects {'it' if len(names) == 1 else 'them'}{told}"
+            told = f"; answer{'s' * (len(numbers) != 1)} {some(numbers)} too" if numbers else ""
+            yield f"the verdicts of {some(names)} may be others by {name}, which selects {'it' if len(names) == 1 else 'them'}{told}"
 
 
-def listed(values):
+def beside(state):
+    """What is said of policies that Cilium refuses too, and of what was left out or is lacking where one is rewritten."""
+    for it in state.rewritten.values():
+        if it.refused:
+            yield f"{it.policy.name} is never in force: Cilium refuses it: {it.refused}"
+    total = {}
+    for it in state.rewritten.values():
+        for what, count in it.counted.items():
+            total[what] = total.get(what, 0) + count
+    for what, count in sorted(total.items()):
+        yield f"left out: {what}: {count}"
+    for it in state.rewritten.values():
+        yield from it.lacking
+
+
+def counted(count):
+    return f"{count} {'policy' if count == 1 else 'policies'}"
+
+
+def some(values):
     """Some of the values, and how many there are if they are many."""
     more = f" and {len(values) - NAMED_MOST} more" if len(values) > NAMED_MOST else ""
     return ", ".join(map(str, values[:NAMED_MOST])) + more

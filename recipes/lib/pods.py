@@ -74,7 +74,9 @@ class Pod:
 
     def add_labels(self, more):
         """Labels of the bridge's own, which no selector of a user's names."""
-        self.labels = tuple(sorted({*self.labels, *(f"k8s:{key}={value}" for key, value in more.items())}))
+        if more:
+            listed = {*self.labels, *(f"k8s:{key}={value}" for key, value in more.items())}
+            self.labels = tuple(sorted(listed, key=lambda it: it.partition("=")[0]))
 
 
 def ports_of(place, spec):

@@ -74,8 +74,9 @@ class Queries:
         if address in self.cluster.services:
             service = self.cluster.services[address]
             raise Bad(f"{place}: {address} is the ClusterIP of the Service {service}, which is a pod's address before policies are asked: name the pod")
-        if address in self.cluster.nodes:
-            return "identity", self.cluster.node_number(self.cluster.nodes[address], endpoint.node)
+        number = self.cluster.number_of(address, endpoint.node)
+        if number is not None:
+            return "identity", number
         if address not in self.own and not self.cluster.has_services:
             self.notes = ["note: no Service is in the input, so that the ClusterIP of one would be taken for the world's"]
         return "address", address

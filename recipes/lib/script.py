@@ -29,11 +29,8 @@ def numbers_of(cluster, pods):
 
 def lines_about(cluster, pods):
     """The lines of endpoints and of the other pods' identities."""
-    lines, seen, addresses = [], set(), {}
+    lines, seen = [], set()
     for pod in pods:
-        other = addresses.setdefault(pod.address, pod)
-        if other is not pod:
-            raise Bad(f"{pod.place}: its address {pod.address} is that of {other.name} too")
         seen.add(pod.labels)
         lines.append(line_of(pod.place, {"op": "endpoint", "name": pod.name, "labels": pod.labels, "address": pod.address}))
     for pod in cluster.live:

@@ -74,3 +74,14 @@ def of_deciding(found) -> Unsure:
 def read(text: str, choice, cluster: str = "default", whole: str = "standard input", part: str = "document") -> State:
     """The state of a text that kubectl printed; Bad where an object of it is bad."""
     return State(Cluster(text, choice, cluster, whole, part))
+
+
+def after(before: State, added: typing.Sequence[str], removed: typing.Sequence[str]) -> State:
+    """The state with the manifests of files, which replace what has their names, and without what is named.
+
+    `added` has names of files, `removed` texts such as `cnp/pay/web`. Bad where one of them doesn't fit the state. The
+    pods of the state before are told apart by the ports that the policies which come ask about, too.
+    """
+    from . import change
+
+    return change.of_files(before, added, removed).after

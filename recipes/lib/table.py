@@ -12,7 +12,7 @@ class Line:
 
     def __init__(self, froms, tos, stretches, rest):
         self.froms, self.tos, self.stretches = froms, tos, stretches
-        self.before, self.after, self.reasons = rest
+        self.before, self.after, self.reasons, self.names, self.unsure = rest
 
 
 def lines(found, rows, node):
@@ -20,7 +20,7 @@ def lines(found, rows, node):
     by_ports = {}
     for row in rows:
         for ends in pairs(found, row, node):
-            key = (*ends, row.word(0), row.word(1), reasons(found, row))
+            key = (*ends, row.word(0), row.word(1), reasons(found, row), row.names, row.unsure)
             for protocol in row.protocols:
                 by_ports.setdefault(key, {}).setdefault(protocol, []).append(row.stretch)
     by_from, by_to = {}, {}
@@ -58,6 +58,8 @@ def pairs(found, row, node):
 def outside(found, row):
     """What isn't a pod in a row; a region with the prefixes among which it is one."""
     half = (next(it for it in row.ends if it is not None), row.direction)
+    if row.remote[0] == "name":
+        return row.remote
     outer, prefixes = found.outer(half)
     kind, value = next(it for it, remote in outer.items() if remote == row.remote)
     return (kind, value, frozenset(prefixes)) if kind == "region" else (kind, value)
@@ -78,7 +80,14 @@ def side(found, ends, other):
     """An end, written."""
     entities = {it[1] for it in ends if isinstance(it, tuple) and it[0] == "entity"}
     named = ", ".join(name for number, name in ENTITIES.items() if number in entities)
-    return [*found.sides.names(of_pods(ends), of_pods(other)), *regions.written(of_regions(ends)), *([named] if named else [])]
+    names = ", ".join(of_names(ends))
+    pods = found.sides.names(of_pods(ends), of_pods(other))
+    return [*pods, *regions.written(of_regions(ends)), *([named] if named else []), *([f"names: {names}"] if names else [])]
+
+
+def of_names(ends):
+    """The names whose addresses are an end."""
+    return sorted(it[1] for it in ends if isinstance(it, tuple) and it[0] == "name")
 
 
 # The reasons.
@@ -89,15 +98,19 @@ def reasons(found, row):
     told = []
     for direction, (before, after) in row.halves.items():
         if after.is_allowed and row.is_allowed[1]:
-            told.append((direction, places(after.allows) or free(before)))
+            told.append((direction, places(found, after.allows) or free(before)))
         elif not after.is_allowed:
-            told.append((direction, places(after.denies) or unlisted(found, row, direction, before)))
+            told.append((direction, places(found, after.denies) or unlisted(found, row, direction, before)))
     return tuple(f"{direction}: {it}" for direction, it in sorted(told) if it)
 
 
-def places(listed):
-    """Entries by their places; a cluster-wide policy has no namespace before its name."""
-    return ", ".join(it.removeprefix("/") for it in listed)
+def places(found, listed, when=1):
+    """Entries by their places as they were written, with their marks; a cluster-wide policy has no namespace before its
+    name."""
+    state = found.change.states[when]
+    written = dict.fromkeys(state.place(it) for it in listed)
+    marks = ((it, state.marks(it)) for it in written)
+    return ", ".join(it.removeprefix("/") + (f" ({', '.join(more)})" if more else "") for it, more in marks)
 
 
 def free(before):
@@ -109,11 +122,11 @@ def unlisted(found, row, direction, before):
     if not before.is_allowed:
         return "no entry allows it"
     if before.allows:
-        return f"no entry allows it without {places(before.allows)}"
+        return f"no entry allows it without {places(found, before.allows, 0)}"
     at = row.ends[0] if direction == "egress" else row.ends[1]
-    selecting = [it.whole for it in found.selecting.get((at, direction), [])]
-    new = [it.name for it in found.change.new.values() if it in selecting]
-    return f"no entry allows it; enforced by {', '.join(new)}"
+    _, old, new = found.selected_by((at, direction))
+    names = dict.fromkeys(it.whole.whole.name for it in new if it not in old and direction in it.isolates())
+    return f"no entry allows it; enforced by {', '.join(names)}" if names else "no entry allows it"
 
 
 # Writing.
@@ -127,12 +140,18 @@ def written_ports(stretches):
             yield f"{' and '.join(protocols)} {ports.written(ranges)}"
 
 
+def decided(line):
+    """What decides, and beside it the names whose addresses nobody knows, and what isn't read."""
+    names = [f"and names: {', '.join(line.names)}"] if line.names else []
+    return [*line.reasons, *names, *([f"unsure: {', '.join(line.unsure)} isn't read whole"] if line.unsure else [])]
+
+
 def table(found, made):
     """The table's text; each cell has a line for each of its parts, and an empty line stands between rows."""
     cells = [[[it] for it in HEADS]]
     for it in made:
         ends = side(found, it.froms, it.tos), side(found, it.tos, it.froms)
-        cells.append([*ends, list(written_ports(it.stretches)), [it.before], [it.after], list(it.reasons)])
+        cells.append([*ends, list(written_ports(it.stretches)), [it.before], [it.after], decided(it)])
     widths = [max(len(part) for row in cells for part in row[at]) if made else 0 for at in range(len(HEADS))]
     parts = []
     for row in cells if made else []:
@@ -145,11 +164,13 @@ def table(found, made):
 
 
 def listed(found, ends):
-    """An end for JSON: each pod, entity and prefix."""
+    """An end for JSON: each pod, what stands for pods that come, prefix, entity and name."""
     entities = sorted(it[1] for it in ends if isinstance(it, tuple) and it[0] == "entity")
-    pods = sorted(it.name for it in of_pods(ends))
+    pods = sorted(it.name for it in of_pods(ends) if not it.stands_for)
+    others = sorted((it.name, it.stands_for) for it in of_pods(ends) if it.stands_for)
     pairs = [{"cidr": str(whole), "except": list(map(str, but))} for whole, but in of_regions(ends)]
-    return [*({"pod": it} for it in pods), *pairs, *({"entity": ENTITIES[it]} for it in entities)]
+    more = [*({"entity": ENTITIES[it]} for it in entities), *({"name": it} for it in of_names(ends))]
+    return [*({"pod": it} for it in pods), *({"pods": name, "stands_for": kind} for name, kind in others), *pairs, *more]
 
 
 def as_json(found, made):
@@ -157,7 +178,8 @@ def as_json(found, made):
     for it in made:
         ranges = [{"protocols": list(protocols), "ranges": [list(pair) for pair in pairs]} for protocols, pairs in it.stretches]
         ends = {"from": listed(found, it.froms), "to": listed(found, it.tos)}
-        rows.append({**ends, "ports": ranges, "before": it.before, "after": it.after, "decided_by": list(it.reasons)})
+        more = {name: list(value) for name, value in (("names", it.names), ("unsure", it.unsure)) if value}
+        rows.append({**ends, "ports": ranges, "before": it.before, "after": it.after, "decided_by": list(it.reasons), **more})
     return json.dumps(rows, indent=2) + "\n"
 
 
