@@ -11,12 +11,12 @@ import sys
 import tempfile
 
 import compare
-from play_checks import YAML
 
 RECIPES = compare.TOP / "recipes"
 sys.path.insert(0, str(RECIPES))
-from lib.change import Change  # noqa: E402
+from lib import change, lint, state as states  # noqa: E402
 from lib.cluster import Cluster  # noqa: E402
+from lib.asking import Answer  # noqa: E402
 from lib.connections import Connections  # noqa: E402
 from lib.labels import Filter  # noqa: E402
 from lib.reading import Bad  # noqa: E402
@@ -161,7 +161,8 @@ def labels_that_count(wrong):
         # a pattern with ! that matches nothing of a key undoes those before it
         (["--labels", "!x*"], [*(f"{key}={value}" for key, value in OWN.items()), *DERIVED]),
         (["--labels", "!x* !app"], [*(f"{key}={value}" for key, value in OWN.items() if not key.startswith("app")), "app.kubernetes.io/name=web", *DERIVED]),
-        (["--cluster-name", "east"], [*kept, DERIVED[0], "io.cilium.k8s.policy.cluster=east", DERIVED[2]]),
+        # policyd calls every cluster so, whatever its name is
+        (["--cluster-name", "east"], [*kept, *DERIVED]),
     ):
         _, out, _ = call("from-kubectl", words, [namespace, pod("shop", "web", "n1", "10.0.0.1", OWN)])
         told(wrong, f"the labels with {words}", json.loads(out.splitlines()[0])["labels"], [f"k8s:{it}" for it in sorted(wanted, key=lambda it: it.split("=")[0])])
@@ -169,37 +170,37 @@ def labels_that_count(wrong):
         told(wrong, f"the status with {words}", call("from-kubectl", words, PODS)[0::2][0], 1)
 
 
-DNS = policy("dns", {"endpointSelector": {"matchLabels": {"app": "web"}}, "egress": [{"toFQDNs": [{"matchName": "a.example"}]}]})
+NEWS = policy("news", {"endpointSelector": {"matchLabels": {"app": "web"}}, "egress": [{"toNews": [{}]}]})
 FINE = policy("fine", {"endpointSelector": {}, "ingress": [{}]})
-L7 = policy("l7", {"endpointSelector": {}, "ingress": [{}, {"toPorts": [{"ports": [{"port": "80"}], "rules": {"http": []}}]}]})
+MORE = policy("more", {"endpointSelector": {}, "ingress": [{}, {"toPorts": [{"ports": [{"port": "80"}], "news": 1}]}]})
+BOTH = policy("both", {"endpointSelector": {}, "ingress": [{"fromEndpoints": [{}], "fromEntities": ["all"]}]})
 
 
-def policies_that_are_not_in_force(wrong):
-    """They are told with the member and its place, and with whom they select."""
-    summary = "from-kubectl: 2 of 3 policies aren't in force: shop/dns: toFQDNs at spec.egress[0]; shop/l7: rules at spec.ingress[1].toPorts[0]"
-    given = [NAMESPACE, *PODS, DNS, FINE, L7]
+def policies_that_are_not_read_whole(wrong):
+    """They are told with the member and its place, and with whom they select; one that Cilium refuses too is never in force."""
+    summary = "from-kubectl: 2 policies aren't read whole: shop/news: unknown-member at spec.egress[0].toNews; shop/more: unknown-member at spec.ingress[1].toPorts[0].news"
+    given = [NAMESPACE, *PODS, NEWS, FINE, MORE, BOTH]
     status, out, err = call("from-kubectl", [], given)
     told(wrong, "the status", status, 0)
     told(wrong, "the policies in the script", out.count('"op":"apply"'), 3)
-    told(wrong, "what is said at last", err.splitlines()[-3:], [summary, "from-kubectl: the verdicts of shop/web lack shop/dns, which selects it", "from-kubectl: the verdicts of shop/web, shop/cart lack shop/l7, which selects them"])
+    told(wrong, "what isolates", '{"endpointSelector":{"matchLabels":{"app":"web"}},"egress":[{}]}' in out, True)
+    told(wrong, "what is said at last", err.splitlines()[-4:], [
+        "from-kubectl: shop/both is never in force: Cilium refuses it: combining fromEndpoints and fromEntities at spec.ingress[0]",
+        summary,
+        "from-kubectl: the verdicts of shop/web may be others by shop/news, which selects it",
+        "from-kubectl: the verdicts of shop/web, shop/cart may be others by shop/more, which selects them",
+    ])
     with tempfile.NamedTemporaryFile("w") as file:
         file.write('{"op":"verdict","endpoint":"shop/cart","direction":"ingress","identity":2,"protocol":"TCP","port":80}\n' * 2)
         file.flush()
         _, _, err = call("from-kubectl", ["--ask", file.name], given)
         # two endpoints, three policies and the sync stand before them
-        told(wrong, "the answers", err.splitlines()[-1], "from-kubectl: the verdicts of shop/web, shop/cart lack shop/l7, which selects them; answers 7, 8 too")
+        told(wrong, "the answers", err.splitlines()[-1], "from-kubectl: the verdicts of shop/web, shop/cart may be others by shop/more, which selects them; answers 7, 8 too")
     status, out, err = call("from-kubectl", ["--strict"], given)
     told(wrong, "with --strict", (status, out, err.splitlines()[0]), (1, "", summary))
     told(wrong, "the status of --strict where all are read", call("from-kubectl", ["--strict"], [NAMESPACE, *PODS, FINE])[0], 0)
-    _, _, err = call("from-kubectl", [], [NAMESPACE, *PODS, DNS])
-    told(wrong, "of one", err.splitlines()[-2], "from-kubectl: 1 of 1 policies isn't in force: shop/dns: toFQDNs at spec.egress[0]")
-
-
-def entity_of_another_cluster(wrong):
-    given = [NAMESPACE, *PODS, policy("in", {"endpointSelector": {}, "ingress": [{"fromEntities": ["cluster"]}]})]
-    note = "policyd's entity `cluster` means pods of the cluster `default`, so it selects no pod here; it is in shop/in"
-    told(wrong, "with another name", note in call("from-kubectl", ["--cluster-name", "east"], given)[2], True)
-    told(wrong, "with the name", note in call("from-kubectl", [], given)[2], False)
+    _, _, err = call("from-kubectl", [], [NAMESPACE, *PODS, NEWS])
+    told(wrong, "of one", err.splitlines()[-2], "from-kubectl: 1 policy isn't read whole: shop/news: unknown-member at spec.egress[0].toNews")
 
 
 def unread_as_the_cases_say(wrong):
@@ -264,6 +265,7 @@ def names_of_pods(wrong):
 
 NETWORK = {"apiVersion": "networking.k8s.io/v1", "kind": "NetworkPolicy", "metadata": {"name": "open", "namespace": "shop"}, "spec": {"podSelector": {}}}
 EMPTY = {"apiVersion": "v1", "kind": "List", "items": []}
+NODE = {"apiVersion": "v1", "kind": "Node", "metadata": {"name": "n1"}}
 
 
 def faults_of_changes(wrong):
@@ -275,39 +277,28 @@ def faults_of_changes(wrong):
             folder.joinpath(name).write_text(value if isinstance(value, str) else json.dumps(value))
             return str(folder / name)
 
-        state = written("state.json", {"apiVersion": "v1", "kind": "List", "items": [NAMESPACE, *PODS, FINE, L7]})
+        state = written("state.json", {"apiVersion": "v1", "kind": "List", "items": [NAMESPACE, *PODS, FINE, MORE]})
         fine = written("fine.json", FINE)
-        twice = written("twice.json", {"apiVersion": "v1", "kind": "List", "items": [pod("shop", it, "n1", "10.0.0.1", {}) for it in "ab"]})
         for words, what in (
             ([], "nothing to change: --add FILE or --remove KIND/NAMESPACE/NAME"),
-            (["--add", written("dns.json", DNS)], f"{folder}/dns.json: document 1: shop/dns isn't read: toFQDNs at spec.egress[0]. Nothing can be said of it"),
-            (["--add", written("pod.json", PODS[0])], f"{folder}/pod.json: document 1: a Pod of v1, and --add takes CiliumNetworkPolicy and CiliumClusterwideNetworkPolicy of cilium.io/v2, and NetworkPolicy of networking.k8s.io/v1"),
-            (
-                ["--add", written("a.yaml", "apiVersion: cilium.io/v2\nkind: CiliumNetworkPolicy\n")],
-                f"{folder}/a.yaml is YAML, which Python's standard library doesn't read: `kubectl create --dry-run=client -o json -f FILE` prints it as JSON, and so does kubectl get with -o json",
-            ),
+            (["--add", written("both.json", BOTH)], f"{folder}/both.json: document 1: shop/both can't come: Cilium refuses it: combining fromEndpoints and fromEntities at spec.ingress[0]"),
+            (["--add", written("node.json", NODE)], f"--add {folder}/node.json: nothing in it is read; skipped: 1 Node (v1)"),
             (["--add", written("none", "")], f"{folder}/none is empty: it takes what kubectl get .. -o json prints"),
-            (["--add", written("empty.json", EMPTY)], f"--add {folder}/empty.json: no policy is in it"),
+            (["--add", written("empty.json", EMPTY)], f"--add {folder}/empty.json: nothing in it is read; it has no object"),
             (["--add", fine, "--state", written("policies.json", FINE)], f"{folder}/policies.json: no pod is in it, so nothing can be asked about"),
             (["--stat", fine], f"unrecognized arguments: --stat {fine}"),
             (["--add", f"{folder}/lost"], f"{folder}/lost: No such file or directory"),
-            (["--remove", "cnp/shop/lost"], "--remove cnp/shop/lost: the state has no such policy; of its kind it has shop/fine, shop/l7"),
+            (["--remove", "cnp/shop/lost"], "--remove cnp/shop/lost: the state has no such policy; of its kind it has shop/fine, shop/more"),
             (
                 ["--remove", "netpol/shop/lost", "--state", written("net.json", {"apiVersion": "v1", "kind": "List", "items": [*PODS, NETWORK]})],
                 "--remove netpol/shop/lost: the state has no such policy; of its kind it has shop/open",
             ),
             (["--remove", "ccnp/lost"], "--remove ccnp/lost: the state has no such policy; of its kind it has none"),
             (["--remove", "pod/shop/web"], "--remove pod/shop/web: it is CiliumNetworkPolicy/NAMESPACE/NAME, CiliumClusterwideNetworkPolicy/NAME or NetworkPolicy/NAMESPACE/NAME; cnp, ccnp and netpol do for the kinds"),
-            (["--add", fine, "--state", twice], f"{twice}: document 1, item 2: Pod shop/b: its address 10.0.0.1 is that of shop/a too"),
             (["--add", fine, "--add", fine], f"{fine}: document 1: shop/fine comes twice, and one of them alone can be meant"),
             (["--remove", "cnp/shop/fine", "--remove", "CiliumNetworkPolicy/shop/fine"], "--remove CiliumNetworkPolicy/shop/fine: shop/fine goes twice"),
-            (["--remove", "cnp/shop/l7"], "--remove cnp/shop/l7: shop/l7 isn't read: rules at spec.ingress[1].toPorts[0]. Nothing can be said of it"),
-            (
-                ["--add", written("l7.json", policy("l7", {"endpointSelector": {}, "ingress": [{}]}))],
-                f"{folder}/l7.json: document 1: in the state shop/l7 isn't read: rules at spec.ingress[1].toPorts[0]. Nothing can be said of it",
-            ),
             (["--add", fine, "--node", "n9"], "--node n9: no pod of the state is on it; there are n1, n2"),
-            (["--add", fine, "--strict"], "1 of 2 policies isn't in force: shop/l7: rules at spec.ingress[1].toPorts[0]"),
+            (["--add", fine, "--strict"], "1 policy isn't read whole: shop/more: unknown-member at spec.ingress[1].toPorts[0].news"),
         ):
             status, out, err = call("what-if", words if "--state" in words else ["--state", state, *words])
             told(wrong, f"with {words}", (status, out, err.splitlines()[0]), (1, "", f"what-if: {what}"))
@@ -318,12 +309,10 @@ def faults_of_changes(wrong):
             told(wrong, f"the usage with {words} alone", err.splitlines()[1].startswith(usage), True)
         told(wrong, "another format", call("what-if", ["--state", state, "--format", "yaml"])[2].startswith("what-if: argument --format: invalid choice: 'yaml'"), True)
         told(wrong, "help", [call("what-if", ["--help"])[0], call("what-if", ["--help"])[1].startswith(usage)], [0, True])
-        for text in YAML:
-            told(wrong, f"what is said of {text!r}", "is YAML" in call("from-kubectl", [], text)[2], True)
         # the same policy once more is no change, so that nothing is asked
         status, out, err = call("what-if", ["--state", state, "--add", fine])
         told(wrong, "where nothing changes", (status, out, err.splitlines()[-1]), (0, "", "what-if: no connection changes"))
-        told(wrong, "what isn't in force", "1 of 2 policies isn't in force: shop/l7" in err, True)
+        told(wrong, "what isn't read", "1 policy isn't read whole: shop/more" in err, True)
 
 
 def words_that_do_not_fit(wrong):
@@ -346,69 +335,60 @@ def words_that_do_not_fit(wrong):
         told(wrong, f"with {words}", call("what-if", words)[2].splitlines()[0], f"what-if: {words[0]} stands twice")
 
 
-class OfNobody:
-    """In the place of policyd: no rule speaks of anybody."""
+def read(items):
+    return states.read(json.dumps({"apiVersion": "v1", "kind": "List", "items": items}), Filter())
 
-    def enforced_by(self, policies):
-        return [set() for _ in policies], {}
+
+def changed(before, added=(), removed=()):
+    """The change of a state by objects that come and policies that go."""
+    with tempfile.NamedTemporaryFile("w", suffix=".json") as file:
+        file.write(json.dumps({"apiVersion": "v1", "kind": "List", "items": list(added)}))
+        file.flush()
+        return change.of_files(before, [file.name] if added else [], removed)
 
 
 def policies_that_select_nobody(wrong):
     """A policy that comes and changes nothing since it selects no pod, as by a slip in a name, is told."""
-    state = json.dumps({"apiVersion": "v1", "kind": "List", "items": [NAMESPACE, *PODS, FINE]})
     section = {"endpointSelector": {"matchLabels": {"app": "wbe"}}, "ingress": [{}]}
-    with tempfile.NamedTemporaryFile("w", suffix=".json") as file:
-        added = [policy("slip", section), policy("slip", section, "shpo"), policy("empty", {"endpointSelector": {}, "ingress": []}), FINE]
-        file.write(json.dumps({"apiVersion": "v1", "kind": "List", "items": added}))
-        file.flush()
-        cluster = Cluster(state, Filter())
-        found = Connections(Sides(cluster, None), Change(cluster, [file.name], []), OfNobody())
-    told(wrong, "the rows", list(found.find(lambda text: None)), [])
-    told(wrong, "what is said", [*found.idle()], [
-        "shop/slip selects no pod of the state",
+    added = [policy("slip", section), policy("slip", section, "shpo"), policy("empty", {"endpointSelector": {}, "ingress": []}), FINE]
+    made = changed(read([NAMESPACE, *PODS, FINE]), added)
+    found = lint.slips(made.after, {it.key for it in made.coming()})
+    told(wrong, "what is said", [it.text for it in found], [
+        "shop/slip selects no pod of the state: app=wbe is one letter off app=web",
         "shpo/slip selects nobody: no pod of the state is in the namespace shpo",
         "shop/empty has no section that isn't empty, so it changes nothing",
     ])
 
 
 class Refusing:
-    """In the place of policyd: it refuses the first policy."""
+    """In the place of policyd: it refuses a policy."""
 
-    def enforced_by(self, policies):
-        return [set() for _ in policies], {0: "14 unsupported news"}
+    def __init__(self, line):
+        self.line = line
+
+    def remote(self, at):
+        return "identity", 256 + at
+
+    def both(self, before, change, asked):
+        return {(when, it): Answer("trace allowed at 0 remote 2 denies - allows -") for when in (0, 1) for it in asked[when]}, {self.line: "14 unsupported news"}
 
 
 def refusals_that_were_not_foreseen(wrong):
     """A policy that is there before and after is named; of one that comes or goes nothing can be said."""
-    state = Cluster(json.dumps({"apiVersion": "v1", "kind": "List", "items": [NAMESPACE, *PODS, FINE, policy("gone", FINE["spec"])]}), Filter())
+    before = read([NAMESPACE, *PODS, FINE, policy("gone", FINE["spec"])])
+    fine = next(it for it in before.parts() if it.name == "shop/fine")
     for removed, wanted in (
         (["cnp/shop/gone"], ["shop/fine isn't in force: policyd refused it: 14 unsupported news"]),
         (["cnp/shop/fine"], "shop/fine isn't read: 14 unsupported news. Nothing can be said of it"),
     ):
-        found = Connections(Sides(state, None), Change(state, [], removed), Refusing())
+        made = changed(before, (), removed)
+        found = Connections(Sides(made.before.cluster, None, made.after.cluster), made, Refusing(fine.line))
         told(wrong, f"the rows without {removed}", list(found.find(lambda text: None)), [])
         try:
             said = [*found.unforeseen()]
         except Bad as bad:
             said = str(bad)
         told(wrong, f"what is said without {removed}", said, wanted)
-
-
-def prefixes_of_what_is_inside(wrong):
-    """A prefix that is a ClusterIP, a node's address or a pod's is told, since no packet has that address outside."""
-    state = json.dumps({"apiVersion": "v1", "kind": "List", "items": [NAMESPACE, SERVICE, *PODS, FINE]})
-    sets = [{"cidr": "10.96.0.10/32"}, {"cidr": "10.96.0.0/12", "except": ["10.96.0.10/32"]}, {"cidr": "192.168.0.2/32"}]
-    section = {"endpointSelector": {}, "egress": [{"toCIDRSet": sets}, {"toCIDR": ["10.0.0.2", "10.0.0.3/32"]}]}
-    with tempfile.NamedTemporaryFile("w", suffix=".json") as file:
-        file.write(json.dumps(policy("dns", section)))
-        file.flush()
-        cluster = Cluster(state, Filter())
-        found = Connections(Sides(cluster, None), Change(cluster, [file.name], []), OfNobody())
-    told(wrong, "what is said", [*found.unreached()], [
-        "shop/dns: the prefix 10.0.0.2/32 does nothing: it is the address of the pod shop/cart; name it by its labels",
-        "shop/dns: the prefix 10.96.0.10/32 does nothing: it is the ClusterIP of the Service shop/dns, which is a pod's address before policies are asked; name the pods by their labels",
-        "shop/dns: the prefix 192.168.0.2/32 does nothing: it is the address of the node n2; name it by the entity `host` or `remote-node`",
-    ])
 
 
 def ends_without_a_trace(wrong):
@@ -459,9 +439,9 @@ def run(check):
 
 
 def checks():
-    names = (faults_of_queries, other_sides_of_queries, labels_that_count, policies_that_are_not_in_force, entity_of_another_cluster)
+    names = (faults_of_queries, other_sides_of_queries, labels_that_count, policies_that_are_not_read_whole)
     names += (unread_as_the_cases_say, names_of_pods, faults_of_changes, policies_that_select_nobody)
     names += (words_that_do_not_fit,)
-    names += (refusals_that_were_not_foreseen, prefixes_of_what_is_inside)
+    names += (refusals_that_were_not_foreseen,)
     names += (ends_without_a_trace, the_readme_tells_what_is_left_out)
     return [(f"recipes {it.__name__.replace('_', ' ')}", lambda it=it: run(it)) for it in names]

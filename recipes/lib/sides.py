@@ -77,15 +77,7 @@ class Sides:
 
     def whose(self, address):
         """Whose an address is, where it is no address outside the cluster; or None."""
-        cluster = self.after
-        if address in cluster.services:
-            return f"the ClusterIP of the Service {cluster.services[address]}, which is a pod's address before policies are asked; name the pods by their labels"
-        if address in cluster.api_addresses or cluster.nodes.get(address) in cluster.api_nodes:
-            return "the address of the API server; name it by the entity `kube-apiserver`"
-        if address in cluster.nodes:
-            return f"the address of the node {cluster.nodes[address]}; name it by the entity `host` or `remote-node`"
-        pod = next((it for it in cluster.live if it.address == address), None)
-        return pod and f"the address of the pod {pod.name}; name it by its labels"
+        return whose(self.after, address)
 
     def outer(self, entries):
         """What isn't a pod, as far as the entries tell it apart: each with how a query names it."""
@@ -128,6 +120,20 @@ class Sides:
         elif spaces:
             more = f" and {len(spaces) - NAMED_MOST} more" if len(spaces) > NAMED_MOST else ""
             yield f"any other pod of {', '.join(spaces[:NAMED_MOST])}{more}"
+
+
+def whose(cluster, address):
+    """Whose an address is, where it is no address outside the cluster; or None."""
+    if address in cluster.services:
+        return f"the ClusterIP of the Service {cluster.services[address]}, which is a pod's address before policies are asked; name the pods by their labels"
+    if address in cluster.balancers:
+        return f"the load balancer's address of the Service {cluster.balancers[address]}, which is a pod's address before policies are asked; name the pods by their labels"
+    if address in cluster.api_addresses or cluster.nodes.get(address, "") in cluster.api_nodes:
+        return "the address of the API server; name it by the entity `kube-apiserver`"
+    if address in cluster.nodes:
+        return f"the address of the node {cluster.nodes[address]}; name it by the entity `host` or `remote-node`"
+    pod = next((it for it in cluster.live if it.address == address), None)
+    return pod and f"the address of the pod {pod.name}; name it by its labels"
 
 
 def matched(before, after):

@@ -1,8 +1,17 @@
-"""Slips: what a policy says that is read, and that its writer can hardly mean."""
+"""Slips: what a policy says that is read, and that its writer can hardly mean.
+
+`slips` is asked about a whole state, or about the policies that come. Nothing here judges a packet: labels and prefixes
+are compared, as docs/RULES.md has it.
+"""
 from __future__ import annotations
 
 import dataclasses
 import typing
+
+from . import covered, peers, prefixes, subjects
+from .ground import Ground
+
+KINDS = ("peer-matches-none", "subject-selects-none", "deny-denies-none", "prefix-means-none", "entry-changes-nothing", "policy-without-effect")
 
 
 @dataclasses.dataclass(frozen=True)
@@ -16,9 +25,19 @@ class Slip:
     text: str
 
 
-KINDS = ("peer-matches-none", "subject-selects-none", "deny-denies-none", "prefix-means-none", "entry-changes-nothing", "policy-without-effect")
-
-
-def slips(state, only=None) -> typing.List[Slip]:
+def slips(state, only: typing.Optional[typing.Collection[tuple]] = None) -> typing.List[Slip]:
     """The slips of the state's policies, in the order of the policies; `only` has the keys of those that are asked about."""
-    return []
+    ground, found = Ground(state), []
+    for key, policy in state.policies.items():
+        if (only is None or key in only) and not state.rewritten[key].refused:
+            found += [Slip(kind, policy.name, place, text) for kind, place, text in of_policy(ground, policy)]
+    return found
+
+
+def of_policy(ground: Ground, policy) -> typing.List[tuple]:
+    """The slips of one policy, as triples of kind, place and text."""
+    whole = list(subjects.of_policy(ground, policy))
+    if any(kind == "policy-without-effect" for kind, _, _ in whole):
+        return whole
+    found = [*whole, *peers.of_policy(ground, policy), *prefixes.of_policy(ground, policy)]
+    return [*found, *covered.of_policy(ground, policy)]

@@ -1,0 +1,130 @@
+"""Entries that change nothing, since another one allows or denies all of it already, and policies of such entries."""
+from __future__ import annotations
+
+import dataclasses
+import typing
+
+from .. import ports
+from ..policies import requirements
+from ..unread import ENTITIES, SECTIONS, prefix
+from .ground import Ground
+
+Found = typing.Iterator[typing.Tuple[str, str, str]]
+WORLD = "world"
+
+
+@dataclasses.dataclass
+class Cover:
+    """What an entry covers: pods of its subject, their peers by sets of labels, entities and prefixes, and ports."""
+
+    place: str
+    order: int
+    policy: str
+    direction: str
+    denies: bool
+    subject: frozenset
+    is_every: bool
+    sets: frozenset
+    entities: frozenset
+    prefixes: tuple
+    ranges: dict
+    is_marked: bool
+
+    def has(self, other: "Cover") -> bool:
+        """Whether all that the other covers is covered."""
+        if self.direction != other.direction or not other.subject <= self.subject or not self.has_ports(other):
+            return False
+        if self.is_every:
+            return True
+        if other.is_every or not (other.sets <= self.sets and other.entities <= self.entities):
+            return False
+        return WORLD in self.entities or all(any(holds_prefix(one, it) for one in self.prefixes) for it in other.prefixes)
+
+    def has_ports(self, other: "Cover") -> bool:
+        for protocol in ports.PROTOCOLS:
+            mine = ports.merged(self.ranges[protocol])
+            if not all(any(low <= start and end <= high for low, high in mine) for start, end in ports.merged(other.ranges[protocol])):
+                return False
+        return True
+
+
+def holds_prefix(mine: tuple, other: tuple) -> bool:
+    """Whether a prefix without its exceptions has all of another one without its own."""
+    whole, out = mine
+    inner, inner_out = other
+    return inner.subnet_of(whole) and all(not it.overlaps(inner) or any(it.subnet_of(one) for one in inner_out) for it in out)
+
+
+def of_policy(ground: Ground, policy) -> Found:
+    """The entries of a policy that another one covers, and the policy where that is so of all of them."""
+    listed = covers(ground)
+    mine = [it for it in listed if it.policy == policy.name]
+    told = [(it, other) for it in mine for other in [other_of(listed, it)] if other]
+    for it, other in told:
+        word = "denies" if other.denies else "allows"
+        yield "entry-changes-nothing", it.place, f"{it.place} changes nothing: {other.place} {word} it already"
+    is_whole = len(mine) == sum(1 for _ in ground.entries(policy)) and not ground.state.rewritten[policy.key].unsure
+    if mine and is_whole and len(told) == len(mine) and all(other.policy != policy.name for _, other in told):
+        yield "policy-without-effect", policy.name, f"{policy.name} changes nothing: each of its entries is covered by another policy's"
+
+
+def other_of(listed: typing.List[Cover], mine: Cover) -> typing.Optional[Cover]:
+    """The first other entry that covers all of one: a deny covers an allow too."""
+    for it in listed:
+        if it is mine or mine.denies and not it.denies or it.is_marked and not it.denies or not it.has(mine):
+            continue
+        is_same = it.denies == mine.denies and mine.has(it)
+        if not is_same or it.order < mine.order:
+            return it
+    return None
+
+
+def covers(ground: Ground) -> typing.List[Cover]:
+    """What the entries of the state cover, as policyd is given them; one that became several is left out."""
+    if not hasattr(ground, "covers"):
+        found: typing.Dict[str, typing.List[Cover]] = {}
+        for whole in ground.state.rewritten.values():
+            marked = {*whole.marks, *(it.place for it in whole.names)}
+            for part in whole.parts:
+                for place, cover in of_part(ground, whole, part, marked, len(found)):
+                    found.setdefault(place, []).append(cover)
+        ground.covers = [it[0] for it in found.values() if len(it) == 1 and it[0].subject]
+    return ground.covers
+
+
+def of_part(ground: Ground, whole, part, marked: typing.Container[str], order: int) -> typing.Iterator[tuple]:
+    front = "" if part.namespace else "/"
+    for number, rule in enumerate(rules_of(ground, part)):
+        subject = ground.matching(requirements(rule["endpointSelector"], part.namespace))
+        for section in SECTIONS:
+            for at, entry in enumerate(rule.get(section) or []):
+                answer = f"{front}{part.name}#{number}.{section}[{at}]"
+                place = whole.places.get(answer, answer.lstrip("/"))
+                value = {name: it for name, it in entry.items() if name}
+                order += 1
+                yield place, cover_of(ground, part, place, order, whole.policy.name, section, subject, value, place in marked)
+
+
+def rules_of(ground: Ground, part) -> typing.List[dict]:
+    """The rules of a policy that policyd is given, a NetworkPolicy's in Cilium's terms."""
+    if part.document.get("apiVersion") == "cilium.io/v2":
+        return part.rules()
+    return [rule for _, rule in ground.rules(part)]
+
+
+def cover_of(ground, part, place, order, policy, section, subject, value, is_marked) -> Cover:
+    word = "from" if section.startswith("ingress") else "to"
+    peers = [name for name in value if name.startswith(word) and name != "toPorts"]
+    sets = frozenset().union(*(ground.matching(ground.peer(part, it)[0]) for it in value.get(f"{word}Endpoints") or []))
+    entities = value.get(f"{word}Entities") or []
+    is_nothing = not peers and not value.get("toPorts")
+    if "cluster" in entities:
+        sets, entities = frozenset(range(len(ground.sets))), [*entities, *(it for it in ENTITIES if it not in ("all", "world", "cluster"))]
+    prefixes = [(prefix(it), ()) for it in value.get(f"{word}CIDR") or []]
+    prefixes += [(prefix(it["cidr"]), tuple(map(prefix, it.get("except") or []))) for it in value.get(f"{word}CIDRSet") or []]
+    ranges = ports.ranges(value) if value.get("toPorts") else {it: [(0, ports.LAST)] for it in ports.PROTOCOLS}
+    is_every = "all" in entities or not peers and not is_nothing
+    named = frozenset(it for it in entities if it not in ("all", "cluster"))
+    # (an entry that covers nothing is no slip here: it isolates)
+    subject = frozenset() if is_nothing or not (is_every or sets or named or prefixes) else subject
+    return Cover(place, order, policy, section.replace("Deny", ""), section.endswith("Deny"), subject, is_every, sets, named, tuple(prefixes), ranges, is_marked)
