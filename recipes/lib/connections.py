@@ -213,6 +213,7 @@ class Row:
         self.is_allowed = [all(it[at].is_allowed for it in halves.values()) for at in (0, 1)]
         self.unsure = self.doubts(found)
         self.names = self.names_beside(found, half)
+        self.marks = self.marks_of(found)
 
     def changes(self):
         return self.is_allowed[0] != self.is_allowed[1]
@@ -234,6 +235,14 @@ class Row:
             halves = [(both[when], found.of_state((at[way], way), when, "unsure")) for way, both in self.halves.items()]
             told += [it.policy for it in unsure.of_connection(halves)]
         return tuple(dict.fromkeys(told))
+
+    def marks_of(self, found):
+        """The marks of what lets the connection pass, where no entry without a mark does."""
+        marked = []
+        for _, after in self.halves.values() if self.is_allowed[1] else ():
+            each = [found.change.after.marks(found.change.after.place(it)) for it in after.allows]
+            marked += [one for it in each for one in it] if all(each) else []
+        return tuple(dict.fromkeys(marked))
 
     def names_beside(self, found, half):
         """The names whose addresses are reached beside the world, where the row is of the world."""

@@ -12,7 +12,7 @@ class Line:
 
     def __init__(self, froms, tos, stretches, rest):
         self.froms, self.tos, self.stretches = froms, tos, stretches
-        self.before, self.after, self.reasons, self.names, self.unsure = rest
+        self.before, self.after, self.reasons, self.names, self.unsure, self.marks = rest
 
 
 def lines(found, rows, node):
@@ -20,7 +20,7 @@ def lines(found, rows, node):
     by_ports = {}
     for row in rows:
         for ends in pairs(found, row, node):
-            key = (*ends, row.word(0), row.word(1), reasons(found, row), row.names, row.unsure)
+            key = (*ends, row.word(0), row.word(1), reasons(found, row), row.names, row.unsure, row.marks)
             for protocol in row.protocols:
                 by_ports.setdefault(key, {}).setdefault(protocol, []).append(row.stretch)
     by_from, by_to = {}, {}
@@ -178,7 +178,7 @@ def as_json(found, made):
     for it in made:
         ranges = [{"protocols": list(protocols), "ranges": [list(pair) for pair in pairs]} for protocols, pairs in it.stretches]
         ends = {"from": listed(found, it.froms), "to": listed(found, it.tos)}
-        more = {name: list(value) for name, value in (("names", it.names), ("unsure", it.unsure)) if value}
+        more = {name: list(value) for name, value in (("names", it.names), ("unsure", it.unsure), ("marks", it.marks)) if value}
         rows.append({**ends, "ports": ranges, "before": it.before, "after": it.after, "decided_by": list(it.reasons), **more})
     return json.dumps(rows, indent=2) + "\n"
 

@@ -17,6 +17,7 @@ from .work import Entry, Refused, Rule, Work, with_expressions
 
 NAME = re.compile(r"(?=.*[a-z])[a-z0-9]+(-[a-z0-9]+)*")
 PROTOCOLS = ("TCP", "UDP", "SCTP")
+OF_NO_POD = "ports by name of peers that are no pods, which have none"
 # The entities that have pods among them.
 OF_PODS = ("all", "cluster")
 
@@ -71,26 +72,29 @@ def of_name(work: Work, entry: Entry, word: str, port: dict) -> typing.Iterator[
     numbers = sorted({(it[1], it[2]) for pod in work.state.cluster.ends for it in pod.ports if it[0] == name and it[1] in asked})
     if not numbers:
         work.lacks(f"no pod of the state has a port of the name {name}")
+    if numbers and word == "to" and not has_pods(entry.value):
+        work.found.counted[OF_NO_POD] += 1
+        numbers = []
     for protocol, number in numbers:
         value = {**entry.value, "toPorts": [{"ports": [{"port": str(number), "protocol": protocol}]}]}
         if word == "from":
             yield dataclasses.replace(entry, value=value, port_label=label(name, protocol, number))
         else:
-            yield dataclasses.replace(entry, value=with_port(work, value, label(name, protocol, number)))
+            yield dataclasses.replace(entry, value=with_port(value, label(name, protocol, number)))
 
 
-def with_port(work: Work, value: dict, key: str) -> dict:
+def has_pods(value: dict) -> bool:
+    """Whether there are pods among the peers of an entry of egress: where it lists pods, or nobody at all."""
+    is_every = not any(name.startswith("to") and name != "toPorts" for name in value)
+    return is_every or bool(value.get("toEndpoints")) or any(it in OF_PODS for it in value.get("toEntities") or [])
+
+
+def with_port(value: dict, key: str) -> dict:
     """An entry of egress whose peers are the pods among them with a port."""
     has = {"key": f"k8s:{key}", "operator": "Exists"}
-    peers, entities = value.get("toEndpoints"), value.get("toEntities")
-    if peers:
-        return {**value, "toEndpoints": [with_expressions(it, [has]) for it in peers]}
-    rest = {name: it for name, it in value.items() if name == "toPorts"}
-    is_every = not any(name.startswith("to") and name != "toPorts" for name in value)
-    if is_every or any(it in OF_PODS for it in entities or []):
-        return {**rest, "toEndpoints": [{"matchExpressions": [has, {"key": f"k8s:{NAMESPACE_KEY}", "operator": "Exists"}]}]}
-    work.found.counted["ports by name of peers that are no pods, which have none"] += 1
-    return {}
+    any_pod = {"key": f"k8s:{NAMESPACE_KEY}", "operator": "Exists"}
+    peers = [with_expressions(it, [has]) for it in value.get("toEndpoints") or []]
+    return {"toPorts": value["toPorts"], "toEndpoints": peers or [{"matchExpressions": [has, any_pod]}]}
 
 
 def by_subject(rule: Rule) -> typing.List[Rule]:

@@ -4,9 +4,10 @@ from __future__ import annotations
 import dataclasses
 import typing
 
+from .. import unread
 from ..unread import Unread
-from .refusals import Refused
-from .work import Entry, Work
+from . import named_ports
+from .work import Entry, Refused, Work
 
 MEMBERS = ("toFQDNs", "toGroups", "fromGroups")
 
@@ -17,11 +18,23 @@ def rewrite(work: Work, entry: Entry, word: str) -> typing.List[Entry]:
     lists = {it: value.pop(it) for it in MEMBERS if it in value}
     if not any(lists.values()):
         return [dataclasses.replace(entry, value={f"{word}Endpoints": [], **value} if lists else value)]
+    ports = numbers(work, value.get("toPorts") or [], word)
     for member, listed in lists.items():
-        if listed:
-            ports = {"toPorts": value["toPorts"]} if value.get("toPorts") else {}
+        if listed and ports is not None:
             work.names([written(work, member, at, it) for at, it in enumerate(listed)], ports)
     return [dataclasses.replace(entry, value={})]
+
+
+def numbers(work: Work, items: typing.List[dict], word: str) -> typing.Optional[dict]:
+    """The ports of an entry by number: an address outside has none by name. None where it has no other."""
+    kept = [{**item, "ports": left} for item in items for left in [[it for it in item["ports"] if not named_ports.is_named(it.get("port"))]] if left]
+    found = {"toPorts": kept} if kept else {}
+    unread.walk(found, word, work.path)
+    unread.judge_entry(found, work.path)
+    if items and not kept:
+        work.found.counted[named_ports.OF_NO_POD] += 1
+        return None
+    return found
 
 
 def written(work: Work, member: str, at: int, item: dict) -> str:

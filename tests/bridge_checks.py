@@ -1,0 +1,18 @@
+"""The checks of tests/bridge, for tests/run."""
+from bridge import rewriting_checks, rows_checks, state_checks
+
+
+def run(check):
+    wrong = []
+
+    def told(name, got, wanted):
+        if got != wanted:
+            wrong.append(f"{name}: {got!r}, and not {wanted!r}")
+
+    check(told)
+    return wrong
+
+
+def checks():
+    listed = [it for module in (rows_checks, rewriting_checks, state_checks) for it in module.checks()]
+    return [(f"bridge {it.__name__.replace('_', ' ')}", lambda it=it: run(it)) for it in listed]
