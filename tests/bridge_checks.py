@@ -1,5 +1,5 @@
 """The checks of tests/bridge, for tests/run."""
-from bridge import rewriting_checks, rows_checks, state_checks
+from bridge import lint_checks, made_checks, rewriting_checks, rows_checks, state_checks
 
 
 def run(check):
@@ -14,5 +14,5 @@ def run(check):
 
 
 def checks():
-    listed = [it for module in (rows_checks, rewriting_checks, state_checks) for it in module.checks()]
+    listed = [it for module in (rows_checks, rewriting_checks, state_checks, lint_checks, made_checks) for it in module.checks()]
     return [(f"bridge {it.__name__.replace('_', ' ')}", lambda it=it: run(it)) for it in listed]

@@ -3,7 +3,9 @@
 Each expected rule was worked out by hand from that table; `SAME` stands for the rule as it was written.
 """
 from . import judged
+from .documented import FORTY
 from .objects import app, behind, group, namespace, network, pod, policy, ports, service
+from lib import unread
 
 STATE = [
     namespace("pay", team="finance"),
@@ -270,5 +272,16 @@ def what_is_not_read(told):
     told("whom it touches", [one.touches(*it) for it in ((pay, "ingress"), (pay, "egress"), (shop, "ingress"))], [True, False, False])
 
 
+def forty_policies_are_read(told):
+    """Each form that is documented is read, and has the word beside it that the table says; nothing of it is unsure."""
+    told("how many", len(FORTY), 40)
+    for name, rule, word in FORTY:
+        state = read(policy("pay/p", rule))
+        found = state.rewritten["CiliumNetworkPolicy", "pay", "p"]
+        marks = [one for it in found.marks.values() for one in it] + ["names" for it in found.names]
+        told(name, (found.refused, [str(it) for it in found.unsure], marks or ["read"]), (None, [], [word]))
+        told(f"{name}: what policyd is given", [unread.why_unread(it.document) for it in found.parts], [None])
+
+
 def checks():
-    return [members_become, the_same_object, marks_and_names, places_lead_back, policies_of_hosts, what_is_required, the_clusters_own_name, network_policies, what_is_lacking, what_cilium_refuses_too, what_is_not_read]
+    return [forty_policies_are_read, members_become, the_same_object, marks_and_names, places_lead_back, policies_of_hosts, what_is_required, the_clusters_own_name, network_policies, what_is_lacking, what_cilium_refuses_too, what_is_not_read]

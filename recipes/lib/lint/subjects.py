@@ -28,7 +28,7 @@ def of_policy(ground: Ground, policy) -> Found:
         yield "policy-without-effect", policy.name, text
         return
     for number, asked in none:
-        text = f"{policy.name}: its rule {number} selects no pod of the state: {written(asked)}{behind(ground, policy, asked)}"
+        text = f"{policy.name}#{number}: its rule selects no pod of the state: {written(asked)}{behind(ground, policy, asked)}"
         yield "subject-selects-none", f"{policy.name}#{number}", text
 
 
