@@ -64,11 +64,14 @@ class Filter:
         self.is_off = is_off
         more = [Pattern(it) for it in listed.split()]
         self.patterns = [*(Pattern(it) for it in DEFAULT), *more]
-        self.is_closed = any(not it.is_out for it in more)
+        self.is_closed, self.known = any(not it.is_out for it in more), {}
 
     def counts(self, key, source="k8s"):
-        if self.is_off:
-            return True
+        if (source, key) not in self.known:
+            self.known[source, key] = self.is_off or self.is_counted(key, source)
+        return self.known[source, key]
+
+    def is_counted(self, key, source):
         taken = out = 0
         for it in self.patterns:
             length = it.length(source, key)

@@ -18,6 +18,7 @@ class State:
         self.cluster = cluster
         # The policies as they are written, by their keys.
         self.policies = {it.key: it for it in cluster.policies}
+        self.has_own_labels = False
         self.settle(names)
 
     def settle(self, names: typing.Iterable[str]):
@@ -25,11 +26,12 @@ class State:
         self.names_of_ports = named_ports.asked_by(self.policies.values()) | {*names}
         self.requirements = requires.gather(self.policies.values())
         self.required: typing.Set[str] = set()
-        for pod in self.cluster.ends:
+        for pod in self.cluster.ends if self.has_own_labels or self.names_of_ports or self.requirements else ():
             self.cluster.derive(pod)
             required = requires.label_of(self.requirements, pod.labels)
             self.required.update(required.values())
             pod.add_labels({**named_ports.labels_of(pod, self.names_of_ports), **required})
+        self.has_own_labels = bool(self.names_of_ports or self.requirements)
         self.rewritten = {key: rewriting.rewrite(it, self) for key, it in self.policies.items()}
         self.places, self.all_marks, self.all_unsure, self.all_names = {}, {}, [], []
         for it in self.rewritten.values():
