@@ -1,0 +1,75 @@
+"""What the questions about connections share: a universe, the halves, names, and the reasons of a stretch."""
+from __future__ import annotations
+
+from typing import Iterable, Optional, Sequence
+
+from .connections import Stretch, stretches, wanted
+from .core import Core
+from .ends import End, Universe
+from .halves import Halves, Segment
+from .naming import Names
+from .programs import Program
+from .progress import Progress
+from .reasons import of_half
+from .resolving import EVERY_PORT, PortRange
+from .selecting import Half
+from .states import States
+
+# Protocol, first and last port, verdict, and the segments of the halves.
+Piece = tuple
+
+
+class Asked:
+    """A question's states, and the way to answers about them."""
+
+    def __init__(self, states: States, program: Program, progress: Progress, node: Optional[str] = None):
+        self.states, self.progress = states, progress
+        self.universe = Universe(states.ends(), node)
+        self.halves = Halves(self.universe, Core(program, self.universe.sets, progress), states.phases())
+        self.names = Names(self.universe.groups)
+
+    def about(self, pairs: Iterable[tuple[End, End]], ports: PortRange = EVERY_PORT, phase: int = 0, is_open: Optional[bool] = None) -> "About":
+        """What is so between ends at some ports; where `is_open` is given, only what is open, or only what isn't."""
+        return About(self, list(pairs), ports, phase, is_open)
+
+    def notes(self) -> list[str]:
+        """What is said of what answers lack."""
+        found = [f"{name} isn't in force: policyd refused it: {why}" for name, why in self.halves.unforeseen.items()]
+        return [*self.states.notes(), *found]
+
+    def why(self, half: Half, segment: Segment) -> str:
+        return of_half(half, self.halves.why(segment), self.states.written)
+
+
+class About:
+    """Connections of one state with their stretches, each asked and explained."""
+
+    def __init__(self, asked: Asked, pairs: Sequence[tuple[End, End]], ports: PortRange, phase: int, is_open: Optional[bool]):
+        self.asked, self.pairs, self.ports, self.phase, self.is_open = asked, pairs, ports, phase, is_open
+        self.kept: dict[tuple, list[Stretch]] = {}
+        halves = asked.halves
+        halves.ask((it for pair in pairs for it in wanted(*pair, phase)), "asking about connections")
+        found = {id(it): it for pair in pairs for it in self.stretches(*pair)}
+        halves.explain((segment for it in found.values() for _, segment in self.deciding(it)), "asking for reasons")
+
+    def stretches(self, source: End, target: End) -> list[Stretch]:
+        """The stretches of a connection that are asked for, made once for all that are judged alike."""
+        halves = self.asked.halves
+        keys = tuple((halves.half(*it[:3]), halves.alike(halves.half(*it[:3]), it[3])) for it in wanted(source, target, self.phase))
+        if keys not in self.kept:
+            self.kept[keys] = list(self.cut(stretches(halves, source, target, self.phase)))
+        return self.kept[keys]
+
+    def cut(self, found: Iterable[Stretch]) -> Iterable[Stretch]:
+        for it in found:
+            part = self.ports.cut(it.protocol, it.low, it.high)
+            if part and self.is_open in (None, it.is_allowed):
+                yield it._replace(low=part[0], high=part[1])
+
+    def deciding(self, it: Stretch) -> list[tuple[str, Segment]]:
+        """The halves that decide a stretch: both where it is allowed, and else those that deny."""
+        return [half for half in it.halves if it.is_allowed or not half[1].is_allowed]
+
+    def reasons(self, it: Stretch) -> tuple[str, ...]:
+        halves = self.asked.halves
+        return tuple(f"{direction}: {self.asked.why(halves.half_of(segment), segment)}" for direction, segment in sorted(self.deciding(it), key=lambda half: half[0]))

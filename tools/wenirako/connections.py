@@ -1,0 +1,72 @@
+"""Connections: from an end to another one, by what its source may send and what its target may receive.
+
+One from pod to pod has two halves, and passes where both allow it; one with a node, an entity or an address outside the
+cluster has one.
+"""
+from __future__ import annotations
+
+from typing import Iterable, NamedTuple, Optional, Sequence
+
+from .core import ALLOWED, BY_RULE
+from .ends import End, Group
+from .halves import Halves, Profile, Segment, Side, joined
+from .selecting import EGRESS, INGRESS
+
+# A half as it is asked for: its phase, its endpoint's set of labels, its direction and the other side.
+Wanted = tuple
+
+
+class Stretch(NamedTuple):
+    """A stretch of ports of a protocol, in which a connection has one verdict, with the segments of its halves."""
+
+    protocol: str
+    low: int
+    high: int
+    halves: tuple[tuple[str, Segment], ...]
+
+    @property
+    def is_allowed(self) -> bool:
+        return all(it.is_allowed for _, it in self.halves)
+
+    @property
+    def word(self) -> str:
+        """The verdict: allowed, or that of the half that doesn't allow it."""
+        words = [it.word for _, it in self.halves if not it.is_allowed]
+        return min(words, key=lambda it: it != BY_RULE, default=ALLOWED)
+
+
+def side(end: End, phase: int) -> Side:
+    """An end as the other side of a half."""
+    return end.at(phase) if isinstance(end, Group) else end
+
+
+def wanted(source: End, target: End, phase: int) -> list[Wanted]:
+    """The halves of a connection."""
+    found = []
+    if isinstance(source, Group):
+        found.append((phase, source.at(phase), EGRESS, side(target, phase)))
+    if isinstance(target, Group):
+        found.append((phase, target.at(phase), INGRESS, side(source, phase)))
+    return found
+
+
+def profiles(halves: Halves, asked: Sequence[Wanted]) -> Optional[list[Profile]]:
+    """What was answered of halves; None where no packet has such an end."""
+    found = [halves.profile(*it) for it in asked]
+    return None if None in found else found
+
+
+def stretches(halves: Halves, source: End, target: End, phase: int) -> Iterable[Stretch]:
+    """A connection's stretches, once its halves have been asked about."""
+    asked = wanted(source, target, phase)
+    found = profiles(halves, asked)
+    for protocol, low, high, segments in joined(found) if found else ():
+        yield Stretch(protocol, low, high, tuple((it[2], segment) for it, segment in zip(asked, segments)))
+
+
+def pairs_with(source: End, target: End, is_noded: bool) -> bool:
+    """Whether a connection between two ends is told of: not that of a pod to itself, and with a node's pod where one is named."""
+    ends = [it for it in (source, target) if isinstance(it, Group)]
+    if source is target and len(source.pods) == 1:
+        return False
+    return not is_noded or any(it.is_local for it in ends)

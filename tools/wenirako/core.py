@@ -1,0 +1,250 @@
+"""Asks the core what it says of packets, in as few runs as may be.
+
+This is the one place that knows which program judges packets: `policyd`, which is given scripts. A program that gives
+whole connections would be asked here in its place, by another `Core` with the same `verdicts` and `reasons`.
+"""
+from __future__ import annotations
+
+import concurrent.futures
+import os
+import re
+from typing import Callable, Iterable, NamedTuple, Sequence
+
+from lib.reading import line_of
+
+from . import children
+from .programs import Program
+from .progress import Progress
+
+ENDPOINTS_MOST, FIRST = 256, 256
+# How many endpoints, and how many questions, a run is given at least and at most where several run at once.
+ENDPOINTS_LEAST, QUESTIONS_LEAST, QUESTIONS_MOST, WORKERS_MOST = 24, 200, 50_000, 4
+TRACE = re.compile(r"trace (\S+) at \d+ remote \d+ denies (\S+) allows (\S+)")
+VERDICT = re.compile(r"(allowed|denied-by-rule|denied-by-default) at (\d+)")
+ALLOWED, BY_RULE, BY_DEFAULT = "allowed", "denied-by-rule", "denied-by-default"
+SYNC = line_of("", {"op": "sync"})
+
+# How a question names the other side: ("set", NUMBER), ("identity", NUMBER) or ("address", TEXT).
+Remote = tuple
+
+
+class NoAnswer(Exception):
+    """Why the core gave no answers."""
+
+
+class Misjudged(Exception):
+    """The core refuses other policies than was foreseen: what it answered to all that it refused, by their lines."""
+
+    def __init__(self, refused: dict[str, str]):
+        super().__init__(refused)
+        self.refused = refused
+
+
+class Question(NamedTuple):
+    """A packet of an endpoint that stands for a set of labels, with the policies before (0) or after (1) a change."""
+
+    phase: int
+    at: int
+    direction: str
+    remote: Remote
+    protocol: str
+    port: int
+
+
+class Answer(NamedTuple):
+    """A verdict with the entries that deny and that allow."""
+
+    word: str
+    denies: tuple
+    allows: tuple
+
+    @property
+    def is_allowed(self) -> bool:
+        return self.word == ALLOWED
+
+    def is_free(self) -> bool:
+        """Whether nothing speaks of the packet and it passes: its direction isn't enforced."""
+        return self.is_allowed and not self.denies and not self.allows
+
+
+def answer_of(text: str) -> Answer:
+    found = TRACE.fullmatch(text)
+    if not found:
+        raise NoAnswer(f"policyd answered {text!r} to a trace")
+    word, *places = found.groups()
+    return Answer(word, *(() if it == "-" else tuple(it.split(",")) for it in places))
+
+
+class Core:
+    """Answers questions about sets of labels, each with an address of its own, by policyd.
+
+    `phases` has the lines of the policies before a change, and those that make it. `refused` has those of them that are
+    thought to be refused: where the core says otherwise, `Misjudged` tells what it refuses.
+    """
+
+    def __init__(self, program: Program, sets: Sequence, progress: Progress):
+        self.program, self.sets, self.progress = program, sets, progress
+        self.phases: Sequence[Sequence[str]] = ()
+        self.refused: set[str] = set()
+        self.runs = self.lines = 0
+
+    def verdicts(self, questions: Iterable[Question], what: str) -> dict[Question, str]:
+        """The word of each question, with all policies in force."""
+        return self.each(batches(sorted(set(questions))), self.judged, what)
+
+    def reasons(self, questions: Iterable[Question], policies: Callable[[Question], tuple], what: str) -> dict[Question, Answer]:
+        """Each question's answer with its entries, where the policies that select its endpoint are in force by themselves.
+
+        An explanation looks at every rule that is in force, so this is asked with as few as may be.
+        """
+        return self.each(batches(sorted(set(questions))), lambda batch: self.explained(batch, policies), what)
+
+    def each(self, batches: Sequence[Sequence[Question]], ask: Callable[[Sequence[Question]], dict], what: str) -> dict:
+        """What is answered to all batches, some of which run at once."""
+        self.progress.begin(what, sum(map(len, batches)))
+        found: dict = {}
+        with concurrent.futures.ThreadPoolExecutor(workers()) as pool:
+            futures = {pool.submit(ask, batch): len(batch) for batch in batches}
+            try:
+                waiting = set(futures)
+                while waiting:
+                    done, waiting = concurrent.futures.wait(waiting, children.TICK, concurrent.futures.FIRST_COMPLETED)
+                    self.progress.tick()
+                    for it in done:
+                        found.update(it.result())
+                        self.progress.step(futures[it])
+            except BaseException:
+                for it in futures:
+                    it.cancel()
+                children.end_all()
+                raise
+        self.progress.end()
+        return found
+
+    # Verdicts: one script for a batch, whose endpoints are live at once.
+
+    def judged(self, batch: Sequence[Question]) -> dict[Question, str]:
+        numbers = numbers_of(batch)
+        lines, policies = self.identities(numbers), {}
+        places: dict[Question, tuple[int, int]] = {}
+        for phase, of_phase in enumerate(self.phases):
+            policies.update((len(lines) + at, line) for at, line in enumerate(of_phase))
+            lines += of_phase
+            lines += [] if phase else [self.endpoint(at) for at in sorted({it.at for it in batch})]
+            synced = len(lines)
+            lines.append(SYNC)
+            for it in batch:
+                if it.phase == phase:
+                    places[it] = len(lines), synced
+                    lines.append(query("verdict", it, numbers))
+        said = self.play(lines, numbers)
+        refused = {line: said[at].split(" ", 2)[2] for at, line in policies.items() if said[at].startswith("refused")}
+        if {*refused} != self.refused & {*policies.values()}:
+            raise Misjudged(refused)
+        found = {it: word_of(said[place], said[synced]) for it, (place, synced) in places.items()}
+        late = [it for it, word in found.items() if word is None]
+        return {**found, **self.traced(late)}
+
+    def traced(self, questions: Sequence[Question]) -> dict[Question, str]:
+        """The words of questions about endpoints whose map is too large to be kept up to date."""
+        if not questions:
+            return {}
+        numbers = numbers_of(questions)
+        lines, places = self.identities(numbers), {}
+        for phase, of_phase in enumerate(self.phases):
+            lines += [*of_phase, *([] if phase else [self.endpoint(at) for at in sorted({it.at for it in questions})])]
+            for it in questions:
+                if it.phase == phase:
+                    places[it] = len(lines)
+                    lines.append(query("trace", it, numbers))
+        said = self.play(lines, numbers)
+        return {it: answer_of(said[place]).word for it, place in places.items()}
+
+    # Reasons: in the same script, for each set of policies after another.
+
+    def explained(self, batch: Sequence[Question], policies: Callable[[Question], tuple]) -> dict[Question, Answer]:
+        numbers = numbers_of(batch)
+        lines, places = self.identities(numbers), {}
+        by_policies: dict[tuple, list[Question]] = {}
+        for it in batch:
+            by_policies.setdefault(policies(it), []).append(it)
+        for those, questions in by_policies.items():
+            ends = sorted({it.at for it in questions})
+            lines += [*(it.line for it in those), *map(self.endpoint, ends)]
+            for it in questions:
+                places[it] = len(lines)
+                lines.append(query("trace", it, numbers))
+            lines += [*map(removal, ends), *(it.deletion() for it in those)]
+        said = self.play(lines, numbers)
+        return {it: answer_of(said[place]) for it, place in places.items()}
+
+    # Lines.
+
+    def identities(self, numbers: dict[int, int]) -> list[str]:
+        return [line_of("", {"op": "identity", "name": f"i{at}", "labels": self.sets[at].labels}) for at in numbers]
+
+    def endpoint(self, at: int) -> str:
+        return line_of("", {"op": "endpoint", "name": str(at), "labels": self.sets[at].labels, "address": self.sets[at].address})
+
+    def play(self, lines: Sequence[str], numbers: dict[int, int]) -> list[str]:
+        """The answers to a script that begins with identities, one a line."""
+        # (one session alone asks, so maps that are made while it waits gain nothing)
+        done = children.run([*self.program.command, "--workers", "0"], "".join(f"{it}\n" for it in lines).encode())
+        said = done.out.decode().splitlines()
+        self.runs, self.lines = self.runs + 1, self.lines + len(lines)
+        if done.status not in (0, 1) or len(said) != len(lines):
+            why = done.err.decode(errors="replace").strip()
+            raise NoAnswer(f"policyd ended with the status {done.status}" + (f": {why[-1000:]}" if why else ""))
+        for number, at in enumerate(numbers):
+            if not said[number].endswith(f" identity {numbers[at]}"):
+                raise NoAnswer(f"policyd answered {said[number]!r} where identity {numbers[at]} was due")
+        return said
+
+
+def workers() -> int:
+    """How many runs go on at once."""
+    return max(1, min(WORKERS_MOST, len(os.sched_getaffinity(0))))
+
+
+def batches(questions: Sequence[Question]) -> list[list[Question]]:
+    """Questions in parts for runs of their own; those about one endpoint stay together as far as may be."""
+    by_end: dict[int, list[Question]] = {}
+    for it in questions:
+        by_end.setdefault(it.at, []).append(it)
+    ends = min(ENDPOINTS_MOST, max(ENDPOINTS_LEAST, -(-len(by_end) // workers())))
+    most = min(QUESTIONS_MOST, max(QUESTIONS_LEAST, -(-len(questions) // workers())))
+    found: list[list[Question]] = []
+    count = ends
+    for listed in by_end.values():
+        for at in range(0, len(listed), QUESTIONS_MOST):
+            part = listed[at : at + QUESTIONS_MOST]
+            if count >= ends or len(found[-1]) >= most:
+                found.append([])
+                count = 0
+            found[-1] += part
+            count += 1
+    return found
+
+
+def numbers_of(questions: Iterable[Question]) -> dict[int, int]:
+    """The sets of labels at either side of questions, with the numbers that policyd gives them, in the order of the lines."""
+    found = {it.at for it in questions} | {it.remote[1] for it in questions if it.remote[0] == "set"}
+    return {at: FIRST + number for number, at in enumerate(sorted(found))}
+
+
+def word_of(text: str, synced: str) -> "str | None":
+    """The word of a verdict, or None where it is older than the synchronisation before it."""
+    found = VERDICT.fullmatch(text)
+    if not found:
+        raise NoAnswer(f"policyd answered {text!r} to a verdict")
+    return found[1] if int(found[2]) >= int(synced.split()[1]) else None
+
+
+def query(operation: str, it: Question, numbers: dict[int, int]) -> str:
+    """The line of a question."""
+    name, value = ("identity", numbers[it.remote[1]]) if it.remote[0] == "set" else it.remote
+    return line_of("", {"op": operation, "endpoint": str(it.at), "direction": it.direction, name: value, "protocol": it.protocol, "port": it.port})
+
+
+def removal(at: int) -> str:
+    return line_of("", {"op": "remove-endpoint", "name": str(at)})

@@ -1,0 +1,148 @@
+"""The ends of connections: pods that are judged alike, nodes and other entities, and addresses outside the cluster."""
+from __future__ import annotations
+
+import ipaddress
+from typing import Iterable, NamedTuple, Optional, Sequence, Union
+
+from lib import regions
+
+from .selecting import Half
+
+ENTITIES = {1: "host", 6: "remote-node", 7: "kube-apiserver", 8: "ingress", 4: "health", 5: "init", 3: "unmanaged"}
+# Addresses that stand for sets of labels whose pods have none of their own are taken from here.
+SPARE = int(ipaddress.ip_address("255.255.0.0"))
+
+
+class LabelSet(NamedTuple):
+    """Labels that pods have, the namespace that they name, and an address that nobody else here has."""
+
+    labels: tuple
+    namespace: str
+    address: str
+
+
+class Group:
+    """Pods whose labels were the same before and are the same after, so that they are judged alike.
+
+    `before` and `after` are the numbers of their sets of labels, None where they aren't there. Where a node is named,
+    the pods that are on it and those that aren't are two groups.
+    """
+
+    def __init__(self, before: Optional[int], after: Optional[int], pods: Sequence, is_local: bool):
+        self.before, self.after, self.pods, self.is_local = before, after, list(pods), is_local
+
+    def at(self, phase: int) -> Optional[int]:
+        return self.after if phase else self.before
+
+
+class Outside(NamedTuple):
+    """What isn't a pod: an entity by its number, one address, or the region of a prefix without those of `prefixes` in it."""
+
+    kind: str
+    value: object
+    prefixes: frozenset
+
+    def remote(self, taken: Iterable[str]) -> Optional[tuple]:
+        """How a question names it, or None where no address is left of it."""
+        if self.kind == "entity":
+            return "identity", self.value
+        if self.kind == "address":
+            return "address", str(self.value)
+        address = regions.representative(self.value, self.prefixes, taken)
+        return None if address is None else ("address", address)
+
+
+End = Union[Group, Outside]
+
+
+class Universe:
+    """The pods of one state, or of two, by their labels."""
+
+    def __init__(self, states: Sequence, node: Optional[str] = None):
+        self.states, self.node = states, node
+        self.sets: list[LabelSet] = []
+        self.numbers: dict[tuple, int] = {}
+        self.taken = sorted({it for state in states for it in addresses(state)})
+        self.groups: list[Group] = []
+        # Pods that one of two states lacks, and whose workload gives no other pod in their place: by the state's number.
+        self.alone: tuple[list, list] = ([], [])
+        pairs = matched(states[0].ends, states[-1].ends)
+        used: set[str] = set()
+        for pair in pairs:
+            for pod in filter(None, pair):
+                self.add(pod, used)
+        self.taken = sorted({*self.taken, *used})
+        self.group(pairs)
+        self.of_set: tuple[dict, dict] = ({}, {})
+        for it in self.groups:
+            for phase in (0, 1):
+                self.of_set[phase].setdefault(it.at(phase), []).append(it)
+
+    def add(self, pod, used: set[str]) -> None:
+        """Gives a pod's labels a number, and an address that no other set has."""
+        if pod.labels in self.numbers:
+            return
+        at = self.numbers[pod.labels] = len(self.sets)
+        address = pod.address if pod.address and pod.address not in used else str(ipaddress.ip_address(SPARE + at))
+        used.add(address)
+        self.sets.append(LabelSet(pod.labels, pod.namespace, address))
+
+    def more(self, labels: tuple, namespace: str) -> int:
+        """The number of a set of labels that no pod of the states has."""
+        if labels not in self.numbers:
+            at = self.numbers[labels] = len(self.sets)
+            self.sets.append(LabelSet(labels, namespace, str(ipaddress.ip_address(SPARE + at))))
+            self.taken.append(self.sets[at].address)
+        return self.numbers[labels]
+
+    def group(self, pairs: Sequence[tuple]) -> None:
+        found: dict[tuple, list] = {}
+        for before, after in pairs:
+            pod = after or before
+            if before is None or after is None:
+                self.alone[1 if before is None else 0].append(pod)
+            key = (*(it and self.numbers[it.labels] for it in (before, after)), self.node is None or pod.node == self.node)
+            found.setdefault(key, []).append(pod)
+        self.groups = [Group(before, after, pods, is_local) for (before, after, is_local), pods in found.items()]
+
+    def outside(self, halves: Iterable[Half]) -> list[Outside]:
+        """What isn't a pod at the other side of halves, as far as their entries tell it apart."""
+        return [*map(entity, ENTITIES), *inside(halves, regions.WORLD)]
+
+
+def entity(number: int) -> Outside:
+    return Outside("entity", number, frozenset())
+
+
+def inside(halves: Iterable[Half], whole: ipaddress.IPv4Network) -> list[Outside]:
+    """The regions of a prefix, as far as the entries of halves tell them apart."""
+    prefixes = frozenset({*regions.named(entry for it in halves for entry in it.entries()), whole})
+    return [Outside("region", it, prefixes) for it in sorted(prefixes) if it.subnet_of(whole)]
+
+
+def addresses(state) -> Iterable[str]:
+    """The addresses that are inside a cluster: of pods, nodes and Services."""
+    yield from (it.address for it in state.ends if it.address)
+    yield from state.cluster.nodes
+    yield from state.cluster.services
+
+
+def matched(before: Sequence, after: Sequence) -> list[tuple]:
+    """The pods of two states in pairs: by their names, else by their workload where it has one set of labels in each state."""
+    if before is after:
+        return [(it, it) for it in before]
+    old = {it.name: it for it in before}
+    new = {it.name: it for it in after}
+    pairs = [(old.get(name), it) for name, it in new.items()]
+    left = [it for name, it in old.items() if name not in new]
+    by_workload: dict[tuple, set] = {}
+    for pod in left:
+        by_workload.setdefault((pod.namespace, pod.workload), set()).add(pod.labels)
+    first = {(it.namespace, it.workload): it for it in left}
+    replaced: set[tuple] = set()
+    for at, (one, pod) in enumerate(pairs):
+        key = (pod.namespace, pod.workload)
+        if one is None and len(by_workload.get(key, ())) == 1:
+            pairs[at] = (first[key], pod)
+            replaced.add(key)
+    return [*pairs, *((it, None) for it in left if (it.namespace, it.workload) not in replaced)]

@@ -1,0 +1,206 @@
+"""What the core says of halves of connections: an endpoint's direction, towards each kind of other side, for every port.
+
+Endpoints that the same rules select are judged alike in a direction, so one is asked for all. So are other sides that
+differ in no label that these rules speak of. And from a port where some range of their entries begins, or where one has
+just ended, to the next such port no verdict changes. So few questions give each half whole, and exactly.
+
+Verdicts are asked with all policies in force, reasons with those of the half by themselves: the two have to agree.
+"""
+from __future__ import annotations
+
+from typing import Callable, Iterable, NamedTuple, Optional, Sequence, Union
+
+from lib import ports
+
+from .core import ALLOWED, Answer, Core, Misjudged, NoAnswer, Question
+from .ends import Outside, Universe
+from .mentions import Mentions
+from .selecting import Half, Selection
+
+# A number that nobody has.
+NOBODY = ("identity", 4_294_967_295)
+
+# The other side of a half: the number of a set of labels, or what isn't a pod.
+Side = Union[int, Outside]
+
+
+class Segment(NamedTuple):
+    """A stretch of ports with the word that is that of each packet in it, and the question that was asked for all."""
+
+    low: int
+    high: int
+    word: str
+    question: Question
+
+    @property
+    def is_allowed(self) -> bool:
+        return self.word == ALLOWED
+
+
+# The segments of each protocol, in the order of ports.
+Profile = dict
+
+
+class Halves:
+    """Asks about halves, and keeps what was answered."""
+
+    def __init__(self, universe: Universe, core: Core, phases: Sequence[Sequence]):
+        """`phases` has the policies that are given to the core, before and after a change, or those of one state."""
+        self.universe, self.core, self.policies = universe, core, phases
+        self.unforeseen: dict[str, str] = {}
+        core.phases = [[it.line for it in phases[0]], *(changing(phases[0], it) for it in phases[1:])]
+        self.documents = {it.line: it for phase in phases for it in phase}
+        self.select({line for line, it in self.documents.items() if it.why_unread()})
+
+    def select(self, refused: set[str]) -> None:
+        """Works out who selects whom, where the core refuses these policies."""
+        self.core.refused = refused
+        self.selections = [Selection(self.universe.sets, it, refused) for it in self.policies]
+        self.profiles: dict[tuple, Profile] = {}
+        self.pending: dict[tuple, dict] = {}
+        self.stand_ins: dict[Half, tuple[int, int]] = {}
+        self.answers: dict[Question, Answer] = {}
+        self.kept: dict[tuple, object] = {}
+
+    def reselect(self) -> None:
+        """To be called where the universe has more sets of labels than before."""
+        self.select(self.core.refused)
+
+    def half(self, phase: int, at: int, direction: str) -> Half:
+        return self.selections[phase].half(at, direction)
+
+    def foreseen(self, work: Callable[[], object]):
+        """Does the work, once more where the core refuses other policies than was foreseen; and what came of it."""
+        for _ in range(3):
+            try:
+                return work()
+            except Misjudged as found:
+                more = {line: why for line, why in found.refused.items() if line not in self.core.refused and line in self.documents}
+                self.unforeseen.update({self.documents[line].name: why for line, why in more.items()})
+                self.select({*self.core.refused, *more} if more else {*found.refused})
+        raise NoAnswer("policyd refuses other policies each time")
+
+    # Asking for verdicts.
+
+    def ask(self, wanted: Iterable[tuple[int, int, str, Side]], what: str) -> None:
+        """Asks about halves, each given by its phase, its endpoint's set of labels, its direction and the other side."""
+        asked: set[Question] = set()
+        for phase, at, direction, side in wanted:
+            half = self.half(phase, at, direction)
+            key = (half, self.alike(half, side))
+            if key in self.profiles or key in self.pending:
+                continue
+            remote = self.remote(side)
+            if remote is not None:
+                phase, at = self.stand_ins.setdefault(half, (phase, at))
+                self.pending[key] = {
+                    protocol: [(low, high, Question(phase, at, direction, remote, protocol, low)) for low, high in cuts.items()]
+                    for protocol, (cuts, _) in self.stretches(half).items()
+                }
+                asked.update(it for each in self.pending[key].values() for _, _, it in each)
+                asked.add(Question(phase, at, direction, NOBODY, "TCP", 0))
+        if asked:
+            self.take(self.core.verdicts(asked, what))
+
+    def take(self, words: dict[Question, str]) -> None:
+        for it, word in words.items():
+            if it.remote == NOBODY and word != ALLOWED and not self.half(it.phase, it.at, it.direction).rules:
+                raise NoAnswer(f"something isolates {self.universe.sets[it.at].labels} ({it.direction}), and no policy was thought to select these labels")
+        for (half, alike), questions in self.pending.items():
+            profile: Profile = {}
+            for protocol, each in questions.items():
+                segments = [Segment(low, high, words[it], it) for low, high, it in each]
+                for like in self.stretches(half)[protocol][1]:
+                    profile[like] = segments
+            self.profiles[half, alike] = profile
+        self.pending = {}
+
+    def profile(self, phase: int, at: int, direction: str, side: Side) -> Optional[Profile]:
+        """What was answered of a half; None where no packet can have that other side."""
+        half = self.half(phase, at, direction)
+        return self.profiles.get((half, self.alike(half, side)))
+
+    # Asking for reasons.
+
+    def explain(self, segments: Iterable[Segment], what: str) -> None:
+        """Asks for the reasons of segments."""
+        asked = {it.question: it.word for it in segments if it.question not in self.answers}
+        if not asked:
+            return
+        found = self.core.reasons(asked, self.in_force, what)
+        for it, answer in found.items():
+            if answer.word != asked[it]:
+                raise NoAnswer(f"{self.universe.sets[it.at].labels} was thought to be selected by other policies ({it.direction}): {asked[it]}, and {answer.word} with these alone")
+        self.answers.update(found)
+
+    def in_force(self, it: Question) -> tuple:
+        """The policies that select a question's endpoint and speak of its direction, as the core is given them."""
+        rules = self.half(it.phase, it.at, it.direction).rules
+        return tuple({rule.part.whole.line: rule.part.whole for rule in rules}.values())
+
+    def why(self, segment: Segment) -> Answer:
+        return self.answers[segment.question]
+
+    def half_of(self, segment: Segment) -> Half:
+        it = segment.question
+        return self.half(it.phase, it.at, it.direction)
+
+    # What is alike.
+
+    def once(self, make: Callable, half: Half):
+        """What is made of a half, made once."""
+        key = (make, half)
+        if key not in self.kept:
+            self.kept[key] = make(half)
+        return self.kept[key]
+
+    def stretches(self, half: Half) -> dict:
+        return self.once(stretches_of, half)
+
+    def alike(self, half: Half, side: Side):
+        """What a half's rules can tell of an other side: sides of which they can tell the same are judged alike."""
+        if isinstance(side, Outside):
+            return side
+        key = (half, side)
+        if key not in self.kept:
+            self.kept[key] = self.once(Mentions, half).seen(self.universe.sets[side].labels)
+        return self.kept[key]
+
+    def remote(self, side: Side) -> Optional[tuple]:
+        if not isinstance(side, Outside):
+            return "set", side
+        key = ("remote", side)
+        if key not in self.kept:
+            self.kept[key] = side.remote(self.universe.taken)
+        return self.kept[key]
+
+    def outside(self, *halves: Half) -> list[Outside]:
+        """What isn't a pod, as far as halves tell it apart, and as far as a packet can have it at its other side."""
+        if halves not in self.kept:
+            self.kept[halves] = [it for it in self.universe.outside(halves) if self.remote(it) is not None]
+        return self.kept[halves]
+
+
+def changing(before: Sequence, after: Sequence) -> list[str]:
+    """The lines that make one state of policies another."""
+    old, new = ({(it.key, it.line): it for it in phase} for phase in (before, after))
+    kept = {key for key, _ in new}
+    gone = [it.deletion() for (key, _), it in old.items() if key not in kept]
+    return [*gone, *(it.line for key, it in new.items() if key not in old)]
+
+
+def stretches_of(half: Half) -> dict:
+    return ports.stretches(half.entries())
+
+
+def joined(profiles: Sequence[Profile]) -> Iterable[tuple[str, int, int, list[Segment]]]:
+    """The stretches in which each of several halves has one answer, with their segments, by protocol."""
+    for protocol in ports.PROTOCOLS:
+        parts = [it[protocol] for it in profiles]
+        places, low = [0] * len(parts), 0
+        while low <= ports.LAST:
+            here = [part[at] for part, at in zip(parts, places)]
+            high = min(it.high for it in here)
+            yield protocol, low, high, here
+            places = [at + (it.high == high) for at, it in zip(places, here)]
+            low = high + 1

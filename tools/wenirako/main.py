@@ -1,0 +1,150 @@
+"""The command: which question is asked, of what state, and in which form its answer is written."""
+from __future__ import annotations
+
+import argparse
+import pathlib
+import sys
+from typing import Callable, Optional, Sequence
+
+from lib import labels, state as bridge
+from lib.reading import Bad, decoded, text_of
+from lib.writing import put
+
+from . import check, children, diffing, drawing, kubectl, lint, listing, page, play, programs, replay, why, words as lines_of, writing
+from .asked import Asked
+from .core import NoAnswer
+from .programs import NoProgram
+from .progress import Progress
+from .report import Report
+from .states import States, changed, with_pods
+from .statuses import BAD, BAD_WORDS, NO_ANSWER, NOTHING
+
+
+class Run:
+    """A question that is asked, with its words."""
+
+    def __init__(self, command: str, name: str, words: argparse.Namespace):
+        self.command, self.name, self.words = command, name, words
+        self.progress = Progress(command, words.quiet)
+        self.notes: list[str] = []
+
+    def say(self, text: str) -> None:
+        self.progress.end()
+        for line in text.split("\n"):
+            print(f"{self.command}: {line}", file=sys.stderr, flush=True)
+
+    def option(self, name: str):
+        return getattr(self.words, name, None)
+
+    # What is asked about.
+
+    def text(self, name: str) -> str:
+        """The text of a file, or of standard input where that is a dash."""
+        return decoded("standard input", sys.stdin.buffer.read()) if name == "-" else text_of(name)
+
+    def state(self, name: Optional[str]) -> bridge.State:
+        """A state of a file, or of kubectl where none is named."""
+        words = self.words
+        if name is None:
+            text, self.notes = kubectl.asked(words.context, self.progress)
+            if words.save:
+                kubectl.saved(text, words.save)
+            return with_pods(bridge.read(text, labels.choice(words), words.cluster_name, "kubectl", "kubectl: document"), "kubectl")
+        return with_pods(bridge.read(self.text(name), labels.choice(words), words.cluster_name, name, f"{name}: document"), name)
+
+    def states(self) -> States:
+        before = self.state(self.words.state)
+        added, removed, after = self.option("add") or [], self.option("remove") or [], self.option("state_after")
+        states = changed(before, added, removed) if added or removed else States(before, self.state(after)) if after else States(before)
+        if self.option("strict") and states.unread():
+            raise Bad("\n".join(states.unread()))
+        nodes = sorted({it.node for it in states.before.ends})
+        if self.option("node") is not None and self.words.node not in nodes:
+            raise Bad(f"--node {self.words.node}: no pod of the state is on it; there are {', '.join(nodes) or 'none'}")
+        return states
+
+    # The answer.
+
+    def report(self) -> Report:
+        states = self.states()
+        if self.name == "lint":
+            return lint.report(states)
+        # (what is asked of the state after a change alone needs no other)
+        if self.name in ("list", "check"):
+            states = States(states.after)
+        asked = lambda: Asked(states, programs.found(self.say, self.progress), self.progress, self.option("node"))
+        return self.made(asked)
+
+    def made(self, asked: Callable[[], Asked]) -> Report:
+        words = self.words
+        if self.name == "diff":
+            return diffing.report(asked())
+        if self.name == "list":
+            return listing.report(asked(), getattr(words, "from"), words.to, words.port, words.by)
+        if self.name == "why":
+            return why.report(asked(), getattr(words, "from"), words.to, words.protocol_port)
+        name = words.expectations if self.name == "check" else words.flows
+        text = self.text(name)
+        return check.report(asked(), text, name) if self.name == "check" else replay.report(asked(), text, name)
+
+    def written(self, report: Report) -> str:
+        form = self.words.format
+        if form == "json":
+            standing = None if self.name == "lint" else programs.there()
+            return writing.as_json(report, programs.commit(), bool(standing and standing.is_proved))
+        return {"table": writing.table, "markdown": writing.markdown, "dot": drawing.dot, "html": page.html}[form](report)
+
+
+def answer(command: str, name: str, words: Sequence[str]) -> int:
+    """Asks a question, and gives the status."""
+    run = Run(command, name, lines_of.parsed(command, name, words))
+    try:
+        report = run.report()
+        report.notes[:0] = run.notes
+        text = run.written(report)
+    except (Bad, NoAnswer, NoProgram) as wrong:
+        run.say(str(wrong))
+        return BAD if isinstance(wrong, Bad) else NO_ANSWER
+    for it in report.notes:
+        run.say(it)
+    put(text)
+    if run.words.format == "table":
+        run.say(report.summary)
+    return report.status
+
+
+def main(words: Sequence[str], command: str = "wenirako") -> int:
+    """Runs the command with its words, and gives the status."""
+    children.heed_signals()
+    try:
+        return asked_for(list(words), command)
+    except children.Ended as ended:
+        return ended.status
+    finally:
+        children.end_all()
+
+
+def asked_for(words: list[str], command: str) -> int:
+    first = words[0] if words else "--help"
+    if first in lines_of.QUESTIONS:
+        return answer(command, first, words[1:])
+    if first == "play":
+        return play.main(words[1:], command)
+    if first in ("--help", "-h", "help"):
+        put(lines_of.help_text() + "\n")
+        return NOTHING if words else BAD_WORDS
+    if first == "--version":
+        put(programs.version() + "\n")
+        return NOTHING
+    if words == ["completion", "bash"]:
+        put(lines_of.completion())
+        return NOTHING
+    print(f"{command}: {first}: no question is called so", file=sys.stderr)
+    print(lines_of.help_text(), file=sys.stderr)
+    return BAD_WORDS
+
+
+def name_of(path: str) -> str:
+    """The command's name: as a plugin, kubectl says it in two words."""
+    name = pathlib.Path(path).name
+    return "kubectl wenirako" if name == "kubectl-wenirako" else name

@@ -1,0 +1,78 @@
+"""How ends are written: all pods of a namespace or all but few, all replicas of a workload, single pods, and what is no pod."""
+from __future__ import annotations
+
+from typing import Iterable
+
+from lib import regions
+
+from .ends import ENTITIES, End, Group, Outside
+
+
+class Names:
+    """Names for the pods of groups."""
+
+    def __init__(self, groups: Iterable[Group]):
+        self.workload_of: dict[str, str] = {}
+        self.workloads: dict[tuple[str, str], set[str]] = {}
+        self.namespaces: dict[str, set[str]] = {}
+        self.kept: dict[tuple, list[str]] = {}
+        for group in groups:
+            for pod in group.pods:
+                self.workload_of[pod.name] = pod.workload
+                self.workloads.setdefault((pod.namespace, pod.workload), set()).add(pod.name)
+                self.namespaces.setdefault(pod.namespace, set()).add(pod.name)
+        self.counts = {it: sum(key[0] == it for key in self.workloads) for it in self.namespaces}
+
+    def side(self, ends: frozenset, other: frozenset = frozenset()) -> list[str]:
+        """An end, written, in parts. A pod's own connection to itself never meets a policy: where `other` is that pod alone, it counts as listed."""
+        alone = [pod.name for it in other if isinstance(it, Group) for pod in it.pods]
+        key = (ends, alone[0] if len(alone) == 1 else None)
+        if key not in self.kept:
+            self.kept[key] = [*self.pods(ends, key[1]), *outer(ends)]
+        return self.kept[key]
+
+    def pods(self, ends: Iterable[End], alone: object) -> Iterable[str]:
+        by_namespace: dict[str, set[str]] = {}
+        for it in ends:
+            for pod in it.pods if isinstance(it, Group) else ():
+                by_namespace.setdefault(pod.namespace, set()).add(pod.name)
+        for namespace, mine in sorted(by_namespace.items()):
+            others = self.namespaces[namespace] - mine
+            missing = sorted(others - {alone})
+            if self.counts[namespace] > 2 and len(mine) > 3 * len(missing) and len(missing) < 4:
+                yield f"{namespace}/* ({how_many(len(mine), missing, others != {*missing})})"
+            else:
+                yield from self.single(namespace, mine)
+
+    def single(self, namespace: str, names: set[str]) -> list[str]:
+        """Pods by their names, or by their workload where all its replicas are there."""
+        found: dict[str, None] = {}
+        for name in sorted(names):
+            whole = self.workloads[namespace, self.workload_of[name]]
+            if len(whole) > 1 and whole <= names:
+                name = f"{namespace}/{self.workload_of[name]} ({len(whole)} pods)"
+            found[name] = None
+        return list(found)
+
+
+def how_many(count: int, missing: list[str], is_of_others: bool) -> str:
+    if missing:
+        return f"{count} pods, all {'others ' if is_of_others else ''}but {', '.join(missing)}"
+    return f"{'its other' if is_of_others else 'all'} {count} pods"
+
+
+def outer(ends: Iterable[End]) -> list[str]:
+    """What is no pod, written."""
+    ends = list(ends)
+    entities = {it.value for it in ends if isinstance(it, Outside) and it.kind == "entity"}
+    named = ", ".join(name for number, name in ENTITIES.items() if number in entities)
+    return [*regions.written(of_regions(ends)), *([named] if named else [])]
+
+
+def of_regions(ends: Iterable[End]) -> list[tuple]:
+    """The regions, joined, as pairs of a prefix and its exceptions."""
+    by_prefixes: dict[frozenset, set] = {}
+    for it in ends:
+        if isinstance(it, Outside) and it.kind == "region":
+            by_prefixes.setdefault(it.prefixes, set()).add(it.value)
+    return sorted(pair for prefixes, values in by_prefixes.items() for pair in regions.joined(values, prefixes))

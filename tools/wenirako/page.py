@@ -1,0 +1,2 @@
+"""html: later"""
+def html(report): return ""

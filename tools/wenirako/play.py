@@ -1,0 +1,1 @@
+def main(words, command): return 70

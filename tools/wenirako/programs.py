@@ -1,0 +1,115 @@
+"""Which program answers: the one of an archive, a proved build of the sources, or a build without proof.
+
+In an archive that `tools/release` made, `MANIFEST.json` stands beside the command, and `bin/policyd` answers, where its
+sum is that of the manifest. In a repository `tests/program.py` knows whether a proved build of the present sources is
+there, and `tests/unproved.py` whether one without proof is; where there is neither, one without proof is built and kept.
+"""
+from __future__ import annotations
+
+import hashlib
+import importlib
+import json
+import pathlib
+import sys
+from typing import Callable, NamedTuple, Optional
+
+from . import children
+from .progress import Progress
+
+TOP = pathlib.Path(__file__).resolve().parent.parent.parent
+MANIFEST, NAME = TOP / "MANIFEST.json", "policyd"
+NOT_PROVED = "NOT PROVED: this build was checked by no proof. ./play --prove proves it, and .ci/run all crates with their tests"
+
+
+class NoProgram(Exception):
+    """Why there is no program to ask."""
+
+
+class Program(NamedTuple):
+    """A program that answers scripts: its command, whether it is proved, and where it comes from, in words."""
+
+    command: list[str]
+    is_proved: bool
+    origin: str
+
+
+def of_tests(name: str):
+    """A module of tests/, which an archive doesn't have."""
+    if str(TOP / "tests") not in sys.path:
+        sys.path.insert(0, str(TOP / "tests"))
+    return importlib.import_module(name)
+
+
+def manifest() -> Optional[dict]:
+    """What is known of the archive that this stands in, or None where it is a repository."""
+    return json.loads(MANIFEST.read_text()) if MANIFEST.is_file() else None
+
+
+def of_archive(told: dict) -> Program:
+    path, wanted = TOP / "bin" / NAME, told["files"].get(f"bin/{NAME}")
+    if not path.is_file():
+        raise NoProgram(f"{path} isn't there, and {MANIFEST} names it: unpack the archive once more")
+    if hashlib.sha256(path.read_bytes()).hexdigest() != wanted:
+        raise NoProgram(f"{path} isn't the program that {MANIFEST} names: its sum is another one. Unpack the archive once more")
+    return Program([str(path)], told["proved"], f"of the archive of {told['commit']}")
+
+
+def there() -> Optional[Program]:
+    """The program that stands, without building one; None where none does."""
+    told = manifest()
+    if told is not None:
+        return of_archive(told)
+    program, unproved = of_tests("program"), of_tests("unproved")
+    if program.is_proved():
+        return Program([str(program.PROGRAM)], True, "a proved build of the sources")
+    if unproved.is_kept():
+        return Program([str(unproved.KEPT)], False, "a build without proof, which is kept")
+    return None
+
+
+def found(say: Callable[[str], None], progress: Progress) -> Program:
+    """The program that answers. Where none stands, one is built without proof, and that is said once."""
+    standing = there()
+    if standing is not None:
+        return standing
+    build(say, progress)
+    # (a kit that lays its work out otherwise keeps no program, and builds one for each script)
+    return there() or Program([str(TOP / "play"), "-"], False, "a build without proof for each script")
+
+
+def build(say: Callable[[str], None], progress: Progress) -> None:
+    """Builds the program without proof."""
+    say(NOT_PROVED)
+    say("building it once, in half a minute to three minutes; it is kept until a source changes ..")
+    progress.begin("building policyd without proof")
+    done = children.run([sys.executable, str(TOP / "tests" / "unproved.py")], tick=progress.tick)
+    progress.end()
+    if done.status:
+        raise NoProgram(done.err.decode(errors="replace").rstrip() or f"the build ended with the status {done.status}")
+
+
+def version() -> str:
+    """What `--version` says: the commit, the kit, and what the program is."""
+    told = manifest()
+    try:
+        standing = there()
+        what = standing.origin if standing else "not built yet: the first question builds it without proof"
+        is_proved = bool(standing and standing.is_proved)
+    except NoProgram as wrong:
+        what, is_proved = str(wrong), False
+    return f"wenirako {commit()}\npolicyd: {what}\n{'PROVED' if is_proved else 'NOT PROVED'}"
+
+
+def commit() -> str:
+    """The commit that this is of."""
+    told = manifest()
+    return told["commit"] if told else commit_of(TOP)
+
+
+def commit_of(folder: pathlib.Path) -> str:
+    """The commit that a repository stands at, with a plus where files of it are changed."""
+    try:
+        done = children.run(["git", "-C", str(folder), "describe", "--always", "--abbrev=12", "--dirty=+", "--exclude=*"])
+    except OSError:
+        return "of no known commit"
+    return done.out.decode().strip() if done.status == 0 else "of no known commit"

@@ -1,0 +1,42 @@
+"""Why a half is as it is, in words: the entries that decide, and where no entry does, the policies that isolate."""
+from __future__ import annotations
+
+from typing import Callable, Iterable, Optional
+
+from .core import Answer
+from .selecting import Half
+
+# An answer's place of an entry to that in the policy as it was written, with its marks.
+Places = Callable[[str], str]
+
+
+def places(listed: Iterable[str], written: Places) -> str:
+    """Entries by their places; a cluster-wide policy has no namespace before its name."""
+    return ", ".join(dict.fromkeys(written(it).removeprefix("/") for it in listed))
+
+
+def isolating(half: Half) -> str:
+    """The policies that isolate an endpoint in a direction: those that select it and say something of that direction."""
+    return ", ".join(dict.fromkeys(it.policy.name for it in half.rules))
+
+
+def of_half(half: Half, answer: Answer, written: Places) -> str:
+    """Why a half is allowed or denied."""
+    if answer.denies:
+        return places(answer.denies, written)
+    if answer.is_allowed:
+        return places(answer.allows, written) or ("no policy isolates it" if not half.rules else "it always passes")
+    return f"no entry allows it; isolated by {isolating(half)}"
+
+
+def of_change(before: Answer, after: Answer, is_allowed: bool, new: Iterable[str], written: Places) -> Optional[str]:
+    """Why a half is as it is after a change, where that decides its connection, which then is allowed or isn't."""
+    if after.is_allowed:
+        return (places(after.allows, written) or ("" if before.is_free() else "no rule limits it any more")) if is_allowed else None
+    if after.denies:
+        return places(after.denies, written)
+    if not before.is_allowed:
+        return "no entry allows it"
+    if before.allows:
+        return f"no entry allows it without {places(before.allows, written)}"
+    return f"no entry allows it; enforced by {', '.join(new)}"

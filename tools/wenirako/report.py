@@ -1,0 +1,33 @@
+"""An answer as a question gives it, before it is written in some form."""
+from __future__ import annotations
+
+import dataclasses
+from typing import Optional
+
+from .naming import Names
+from .rows import Line
+from .statuses import NOTHING
+
+
+@dataclasses.dataclass
+class Report:
+    """What is answered: a line that sums it up, a table, the same for programs, and what is said beside it.
+
+    `cells` has a text for each of `heads`; `rows` has the same for programs, in the form of docs/answer.schema.json.
+    Where the answer is about connections, `lines` has them for the forms that draw them, with how their ends are named.
+    """
+
+    question: str
+    summary: str
+    heads: tuple[str, ...]
+    cells: list[list[str]]
+    rows: list[dict]
+    notes: list[str] = dataclasses.field(default_factory=list)
+    status: int = NOTHING
+    lines: Optional[list[Line]] = None
+    names: Optional[Names] = None
+    more: dict = dataclasses.field(default_factory=dict)
+
+
+def counted(count: int, one: str, many: str) -> str:
+    return f"{count} {one if count == 1 else many}"

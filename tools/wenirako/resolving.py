@@ -1,0 +1,166 @@
+"""Names of ends and of ports, as people write them.
+
+An end is `NAMESPACE/POD`, `NAMESPACE/WORKLOAD`, `NAMESPACE/*`, `NAMESPACE/KEY=VALUE`, `*` for every pod, a workload's name
+in whatever namespace, an entity such as `host`, `world`, an IPv4 address or a prefix.
+"""
+from __future__ import annotations
+
+import ipaddress
+import re
+from typing import Callable, Iterable, NamedTuple, Optional, Union
+
+from lib import ports, regions
+from lib.reading import Bad
+
+from .ends import ENTITIES, End, Group, Outside, Universe, entity, inside
+from .halves import Halves
+from .selecting import EGRESS, INGRESS, Half
+
+NUMBERS = {name: number for number, name in ENTITIES.items()}
+# What isn't a pod, named: an entity, an address, or a prefix whose regions depend on the half at the other side.
+Outer = Union[Outside, ipaddress.IPv4Network]
+
+
+class Named(NamedTuple):
+    """The ends that a text names."""
+
+    text: str
+    groups: list[Group]
+    outer: list[Outer]
+
+    def outside(self, *halves: Half) -> list[Outside]:
+        """What isn't a pod of these, as far as halves at the other side tell it apart."""
+        found: list[Outside] = []
+        for it in self.outer:
+            found += [it] if isinstance(it, Outside) else inside(halves, it)
+        return found
+
+
+def everything(universe: Universe) -> Named:
+    """Every end that there is."""
+    return Named("everything", universe.groups, [*map(entity, ENTITIES), regions.WORLD])
+
+
+def named(universe: Universe, text: str, place: str) -> Named:
+    """The ends that a text names; Bad where it names nothing."""
+    if text in NUMBERS:
+        return Named(text, [], [entity(NUMBERS[text])])
+    if text == "world":
+        return Named(text, [], [regions.WORLD])
+    network = network_of(text)
+    if network is not None:
+        return of_addresses(universe, text, network, place)
+    groups = restricted(universe.groups, wanted(text))
+    if not groups:
+        raise Bad(f"{place}: {text} names nobody: {close_to(universe, text)}")
+    return Named(text, groups, [])
+
+
+def network_of(text: str) -> Optional[ipaddress.IPv4Network]:
+    try:
+        return ipaddress.IPv4Network(text) if re.fullmatch(r"[0-9./]+", text) else None
+    except ValueError:
+        return None
+
+
+def of_addresses(universe: Universe, text: str, network: ipaddress.IPv4Network, place: str) -> Named:
+    """A prefix, or an address, which may be a pod's or a node's."""
+    if network.prefixlen < 32:
+        return Named(text, [], [network])
+    address = str(network.network_address)
+    groups = restricted(universe.groups, lambda pod: pod.address == address)
+    if groups:
+        return Named(text, groups, [])
+    cluster = universe.states[-1].cluster
+    if address in cluster.services:
+        raise Bad(f"{place}: {address} is the ClusterIP of the Service {cluster.services[address]}, which is a pod's address before policies are asked: name the pod")
+    if address in cluster.nodes:
+        raise Bad(f"{place}: {address} is the address of the node {cluster.nodes[address]}: name it `host` or `remote-node`")
+    return Named(text, [], [Outside("address", address, frozenset())])
+
+
+def restricted(groups: Iterable[Group], fits: Callable[[object], bool]) -> list[Group]:
+    """The groups with those of their pods that fit."""
+    found = []
+    for it in groups:
+        pods = [pod for pod in it.pods if fits(pod)]
+        if len(pods) == len(it.pods):
+            found.append(it)
+        elif pods:
+            found.append(Group(it.before, it.after, pods, it.is_local))
+    return found
+
+
+def wanted(text: str) -> Callable[[object], bool]:
+    """Whether a pod is one that a text names."""
+    namespace, slash, name = text.rpartition("/")
+    # (a key of a label may have a slash too)
+    if "=" in text:
+        namespace, slash, name = text.partition("/") if "/" in text.partition("=")[0] else ("", "", text)
+        pairs = [it.partition("=")[::2] for it in name.split(",")]
+        return lambda pod: (not slash or pod.namespace == namespace) and all(pod.own.get(key) == value for key, value in pairs)
+    return lambda pod: (not slash or pod.namespace == namespace) and name in ("*", pod.workload, pod.name.rpartition("/")[2])
+
+
+def close_to(universe: Universe, text: str) -> str:
+    """What there is where a text names nobody."""
+    namespaces = sorted({pod.namespace for it in universe.groups for pod in it.pods})
+    namespace = text.partition("/")[0]
+    if "/" in text and namespace not in namespaces:
+        return f"there are the namespaces {', '.join(namespaces)}"
+    workloads = sorted({f"{pod.namespace}/{pod.workload}" for it in universe.groups for pod in it.pods if "/" not in text or pod.namespace == namespace})
+    return f"there are {', '.join(workloads[:8])}{' ..' if len(workloads) > 8 else ''}"
+
+
+class PortRange(NamedTuple):
+    """Ports of some protocols."""
+
+    protocols: tuple[str, ...]
+    low: int
+    high: int
+
+    def cut(self, protocol: str, low: int, high: int) -> Optional[tuple[int, int]]:
+        """What of a stretch lies in it, or None."""
+        low, high = max(low, self.low), min(high, self.high)
+        return (low, high) if protocol in self.protocols and low <= high else None
+
+
+EVERY_PORT = PortRange(ports.PROTOCOLS, 0, ports.LAST)
+
+
+def port_range(text: str, place: str) -> PortRange:
+    """`TCP/8443`, `8443/TCP`, `UDP/8000-8100`, `8443` of every protocol, `TCP`, or `any`."""
+    words = [it for it in re.split(r"[/\s]+", text.strip()) if it]
+    protocols = [it.upper() for it in words if re.fullmatch("[A-Za-z]+", it)]
+    numbers = [it for it in words if re.fullmatch(r"\d{1,5}(-\d{1,5})?", it)]
+    if not words or len(protocols) > 1 or len(numbers) > 1 or len(protocols) + len(numbers) != len(words):
+        raise Bad(f"{place}: {text!r} is no port: it is PROTOCOL/PORT, such as TCP/8443 or UDP/8000-8100, or a part of that")
+    if protocols and protocols[0] not in (*ports.PROTOCOLS, "ANY"):
+        raise Bad(f"{place}: {protocols[0]} is no protocol that policies are asked about: there are TCP, UDP and SCTP")
+    low, _, high = (numbers[0] if numbers else f"0-{ports.LAST}").partition("-")
+    bounds = int(low), int(high or low)
+    if not bounds[0] <= bounds[1] <= ports.LAST:
+        raise Bad(f"{place}: {text!r} is no port: ports are 0 to {ports.LAST}")
+    return PortRange(ports.PROTOCOLS if not protocols or protocols[0] == "ANY" else (protocols[0],), *bounds)
+
+
+def one_port(text: str, place: str) -> PortRange:
+    found = port_range(text, place)
+    if len(found.protocols) != 1 or found.low != found.high:
+        raise Bad(f"{place}: {text!r} is no single port: it is PROTOCOL/PORT, such as TCP/8443")
+    return found
+
+
+def pairs(halves: Halves, sources: Named, targets: Named, phase: int = 0) -> Iterable[tuple[End, End]]:
+    """The connections between two ends: those between pods, and those of pods with what is none."""
+    there = [it for it in targets.groups if it.at(phase) is not None]
+    for source in (it for it in sources.groups if it.at(phase) is not None):
+        for target in there:
+            if len(source.pods) > 1 or len(target.pods) > 1 or source.pods[0].name != target.pods[0].name:
+                yield source, target
+        at = source.at(phase)
+        yield from ((source, it) for it in targets.outside(halves.half(phase, at, EGRESS)))
+    for target in there:
+        at = target.at(phase)
+        yield from ((it, target) for it in sources.outside(halves.half(phase, at, INGRESS)))
+

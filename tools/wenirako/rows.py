@@ -1,0 +1,78 @@
+"""Connections that are told alike, as few lines as may be."""
+from __future__ import annotations
+
+from typing import Iterable, NamedTuple
+
+from lib import ports
+
+from .ends import ENTITIES, End, Group, Outside
+from .naming import Names, of_regions
+
+# Protocols that have the same ranges of ports, with these.
+Ports = tuple[tuple[tuple[str, ...], tuple[tuple[int, int], ...]], ...]
+
+
+class Told(NamedTuple):
+    """What a line says of its connections: a verdict before and after, and what decides, a text for each half."""
+
+    before: str
+    after: str
+    reasons: tuple[str, ...]
+    marks: tuple[str, ...] = ()
+
+
+class Line(NamedTuple):
+    """Connections that are told alike: each of `froms` with each of `tos`, on each of the ports."""
+
+    froms: frozenset
+    tos: frozenset
+    ports: Ports
+    told: Told
+
+
+class Rows:
+    """Packets between two ends, joined: by their ports, then by what they come from, then by where they go."""
+
+    def __init__(self) -> None:
+        self.by_ports: dict[tuple, dict[str, list]] = {}
+
+    def add(self, source: End, target: End, protocol: str, low: int, high: int, told: Told) -> None:
+        self.by_ports.setdefault((source, target, told), {}).setdefault(protocol, []).append((low, high))
+
+    def lines(self, names: Names) -> list[Line]:
+        by_from: dict[tuple, set] = {}
+        by_to: dict[tuple, set] = {}
+        for (source, target, told), stretches in self.by_ports.items():
+            by_from.setdefault((target, alike(stretches), told), set()).add(source)
+        for (target, of_ports, told), sources in by_from.items():
+            by_to.setdefault((frozenset(sources), of_ports, told), set()).add(target)
+        made = [Line(froms, frozenset(tos), of_ports, told) for (froms, of_ports, told), tos in by_to.items()]
+        return sorted(made, key=lambda it: (names.side(it.tos, it.froms), names.side(it.froms, it.tos), it.ports, it.told))
+
+
+def alike(stretches: dict[str, list]) -> Ports:
+    """Protocols with the stretches that they have; those that have the same stand together."""
+    found: dict[tuple, list[str]] = {}
+    for protocol in ports.PROTOCOLS:
+        if protocol in stretches:
+            found.setdefault(ports.merged(stretches[protocol]), []).append(protocol)
+    return tuple((tuple(protocols), ranges) for ranges, protocols in found.items())
+
+
+def written_ports(stretches: Ports) -> str:
+    parts = []
+    for protocols, ranges in stretches:
+        if len(protocols) == len(ports.PROTOCOLS):
+            parts.append("every protocol and port" if ranges == ((0, ports.LAST),) else f"every protocol, {ports.written(ranges)}")
+        else:
+            parts.append(f"{' and '.join(protocols)} {ports.written(ranges)}")
+    return "; ".join(parts)
+
+
+def listed(ends: Iterable[End]) -> list[dict]:
+    """Ends for a program: each pod, prefix and entity."""
+    ends = list(ends)
+    pods = sorted(pod.name for it in ends if isinstance(it, Group) for pod in it.pods)
+    prefixes = [{"cidr": str(whole), "except": list(map(str, but))} for whole, but in of_regions(ends)]
+    entities = sorted(it.value for it in ends if isinstance(it, Outside) and it.kind == "entity")
+    return [*({"pod": it} for it in pods), *prefixes, *({"entity": ENTITIES[it]} for it in entities)]

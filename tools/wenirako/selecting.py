@@ -1,0 +1,80 @@
+"""Which rules select which sets of labels.
+
+It is worked out from the labels alone, once for a state, and held against the core: `halves` asks of each half whether
+something isolates it, and each entry that an answer names must be of a rule that was thought to select.
+"""
+from __future__ import annotations
+
+from typing import Iterable, NamedTuple, Sequence
+
+EGRESS, INGRESS = "egress", "ingress"
+DIRECTIONS = (EGRESS, INGRESS)
+OPPOSITE = {INGRESS: EGRESS, EGRESS: INGRESS}
+
+
+class Rule(NamedTuple):
+    """A rule of a policy: rules with equal lines say the same, whatever state they are of."""
+
+    line: str
+    part: object
+
+    @property
+    def policy(self):
+        """The policy as it was written."""
+        found = self.part
+        while found.whole is not found:
+            found = found.whole
+        return found
+
+    def sections(self, direction: str) -> list:
+        """What it says of a direction, as its document has it."""
+        document = self.part.document
+        rules = [document.get("spec"), *(document.get("specs") or [])]
+        return [it[name] for it in rules if isinstance(it, dict) for name in (direction, f"{direction}Deny") if it.get(name)]
+
+    def __eq__(self, other: object) -> bool:
+        return isinstance(other, Rule) and self.line == other.line and self.part.whole.line == other.part.whole.line
+
+    def __hash__(self) -> int:
+        return hash(self.line)
+
+
+class Half(NamedTuple):
+    """A direction with the rules that select an endpoint and say something of it: endpoints of one half are judged alike."""
+
+    direction: str
+    rules: tuple[Rule, ...]
+
+    def entries(self) -> list[dict]:
+        """What its rules say of the direction: ports and prefixes."""
+        return [entry for rule in self.rules for way, entry in rule.part.entries() if way == self.direction]
+
+
+class Selection:
+    """The rules of one state of policies, and the sets of labels that each selects."""
+
+    def __init__(self, sets: Sequence, policies: Iterable, refused: set[str]):
+        self.rules = [Rule(part.line, part) for it in policies if it.line not in refused for part in it.parts()]
+        self.by_namespace: dict[str, list[int]] = {}
+        for at, it in enumerate(sets):
+            self.by_namespace.setdefault(it.namespace, []).append(at)
+        selecting: dict[tuple[int, str], list[Rule]] = {}
+        for rule in self.rules:
+            ways = rule.part.directions()
+            for at in self.candidates(rule, len(sets)):
+                if ways and rule.part.selects(sets[at].labels):
+                    for direction in ways:
+                        selecting.setdefault((at, direction), []).append(rule)
+        self.halves = {key: Half(key[1], tuple(found)) for key, found in selecting.items()}
+
+    def candidates(self, rule: Rule, count: int) -> Iterable[int]:
+        """The sets that it may select: a policy of a namespace selects nobody of another one."""
+        namespace = rule.part.namespace
+        return self.by_namespace.get(namespace, ()) if namespace else range(count)
+
+    def half(self, at: int, direction: str) -> Half:
+        return self.halves.get((at, direction)) or Half(direction, ())
+
+    def at_work(self) -> set[str]:
+        """The lines of the policies that select somebody."""
+        return {rule.policy.line for half in self.halves.values() for rule in half.rules}

@@ -1,0 +1,54 @@
+"""`why`: whether a packet passes, and what allows or denies each half of its connection."""
+from __future__ import annotations
+
+from .asked import Asked
+from .ends import End
+from .report import Report
+from .resolving import Named, named, one_port, pairs
+from .rows import listed
+from .selecting import EGRESS
+from .statuses import NOTHING, TELLS
+
+HEADS = ("FROM", "TO", "PORT", "VERDICT", "HALF", "IS", "SINCE")
+
+
+def report(asked: Asked, source: str, target: str, port: str) -> Report:
+    """Why a packet passes from one end to another, or doesn't."""
+    ends = [named(asked.universe, text, place) for place, text in (("FROM", source), ("TO", target))]
+    ports = one_port(port, "PROTOCOL/PORT")
+    phase = 0 if asked.states.is_one else 1
+    return asked.halves.foreseen(lambda: told(asked, ends, ports, phase))
+
+
+def told(asked: Asked, ends: list[Named], ports, phase: int) -> Report:
+    cells: list[list[str]] = []
+    rows: list[dict] = []
+    listed_pairs = list(pairs(asked.halves, *ends, phase))
+    about = asked.about(listed_pairs, ports, phase)
+    before = asked.about(listed_pairs, ports, 0) if phase else about
+    asked.halves.explain((segment for pair in listed_pairs for it in about.stretches(*pair) for _, segment in it.halves), "asking for reasons")
+    seen: dict[tuple, list[tuple[End, End]]] = {}
+    for pair in listed_pairs:
+        for it in about.stretches(*pair):
+            was = next(iter(before.stretches(*pair)), it).word if phase else it.word
+            seen.setdefault((it, was), []).append(pair)
+    words = set()
+    for (it, was), alike in seen.items():
+        froms, tos = (frozenset(pair[at] for pair in alike) for at in (0, 1))
+        halves = {direction: (segment, asked.why(asked.halves.half_of(segment), segment)) for direction, segment in it.halves}
+        words.add(it.word)
+        written = [", ".join(asked.names.side(froms, tos)), ", ".join(asked.names.side(tos, froms)), f"{it.protocol} {it.low}"]
+        verdict = it.word if was == it.word else f"{it.word}, and {was} before"
+        cells += [[*written, verdict, of_whom(direction, written), segment.word, why] for direction, (segment, why) in sorted(halves.items())]
+        parts = [{"direction": direction, "verdict": segment.word, "reason": why} for direction, (segment, why) in sorted(halves.items())]
+        rows.append({"from": listed(froms), "to": listed(tos), "protocol": it.protocol, "port": it.low, "before": was, "verdict": it.word, "halves": parts})
+    return Report("why", summary(ends, ports, words), HEADS, cells, rows, asked.notes(), NOTHING if words == {"allowed"} else TELLS)
+
+
+def of_whom(direction: str, written: list[str]) -> str:
+    return f"{direction} of {written[0 if direction == EGRESS else 1]}"
+
+
+def summary(ends: list[Named], ports, words: set[str]) -> str:
+    verdict = "no such packet" if not words else next(iter(words)) if len(words) == 1 else f"it depends: {', '.join(sorted(words))}"
+    return f"{ends[0].text} to {ends[1].text}, {ports.protocols[0]} {ports.low}: {verdict}"
