@@ -3,14 +3,17 @@ from __future__ import annotations
 
 from typing import Iterable, Optional, Sequence
 
+from lib import regions
+
+from .beside import Plain
 from .connections import Stretch, stretches, wanted
 from .core import Core
-from .ends import End, Universe
+from .ends import End, Outside, Universe
 from .halves import Halves, Segment
 from .naming import Names
 from .programs import Program
 from .progress import Progress
-from .reasons import of_half
+from .reasons import isolating, of_half
 from .resolving import EVERY_PORT, PortRange
 from .selecting import Half
 from .states import States
@@ -24,7 +27,7 @@ class Asked:
 
     def __init__(self, states: States, program: Program, progress: Progress, node: Optional[str] = None):
         self.states, self.progress = states, progress
-        self.universe = Universe(states.ends(), node)
+        self.universe = Universe(states.ends(), node, states.are_whole)
         self.halves = Halves(self.universe, Core(program, self.universe.sets, progress), states.phases())
         self.names = Names(self.universe.groups)
 
@@ -73,3 +76,19 @@ class About:
     def reasons(self, it: Stretch) -> tuple[str, ...]:
         halves = self.asked.halves
         return tuple(f"{direction}: {self.asked.why(halves.half_of(segment), segment)}" for direction, segment in sorted(self.deciding(it), key=lambda half: half[0]))
+
+    def unsure(self, source: End, target: End, it: Stretch) -> tuple[str, ...]:
+        """The names of what isn't read and may turn the verdict on a stretch."""
+        halves = self.asked.halves
+        if not halves.beside.has_doubts:
+            return ()
+        asked = wanted(source, target, self.phase)
+        plain = [Plain(segment.word, segment.is_allowed and not isolating(halves.half(*one[:3]))) for one, (_, segment) in zip(asked, it.halves)]
+        return tuple(dict.fromkeys(halves.beside.doubts((*one[:3], each) for one, each in zip(asked, plain))))
+
+    def names_beside(self, source: End, target: End, it: Stretch) -> tuple[str, ...]:
+        """The names whose addresses are reached beside the world, where a connection is with the world."""
+        halves = self.asked.halves
+        if not halves.beside.has_names or not any(isinstance(end, Outside) and end.kind == "region" and end.value == regions.WORLD for end in (source, target)):
+            return ()
+        return halves.beside.names_at((one[:3] for one in wanted(source, target, self.phase)), it.protocol, it.low)

@@ -1,18 +1,23 @@
 """What a change opens and shuts: connections that are allowed before and not after, or after and not before.
 
 A half can change only where the rules that select its endpoint differ, or the labels at its other side. So those halves
-are asked about first, and where one changes, the other half of its connections.
+are asked about first, and where one changes, the other half of its connections. What may change for what isn't read of a
+policy is shown too, and marked.
 """
 from __future__ import annotations
 
 from typing import Iterable, NamedTuple
 
+from lib import regions
+from lib.reading import Bad
+
+from .beside import Plain
 from .connections import Wanted, pairs_with, profiles, wanted
 from .core import ALLOWED, BY_RULE
-from .ends import End, Group
+from .ends import End, Outside
 from .halves import Halves, Segment, joined
 from .naming import Names
-from .reasons import of_change
+from .reasons import isolating, of_change
 from .rows import Line, Rows, Told
 from .selecting import DIRECTIONS, EGRESS, Half
 from .states import States
@@ -26,23 +31,26 @@ class Changed(NamedTuple):
     protocol: str
     low: int
     high: int
-    halves: tuple[tuple[str, Segment, Segment], ...]
+    halves: tuple[tuple[Wanted, Wanted, Segment, Segment], ...]
+    unsure: tuple[str, ...]
 
     def word(self, phase: int) -> str:
-        words = [it[1 + phase].word for it in self.halves]
+        words = [it[2 + phase].word for it in self.halves]
         return BY_RULE if BY_RULE in words else next((it for it in words if it != ALLOWED), ALLOWED)
 
     @property
-    def changes(self) -> bool:
-        return (self.word(0) == ALLOWED) != (self.word(1) == ALLOWED)
+    def is_shown(self) -> bool:
+        """Whether the connection changes, or may for what isn't read."""
+        return (self.word(0) == ALLOWED) != (self.word(1) == ALLOWED) or bool(self.unsure)
 
 
 class Diff:
     """The connections that change, and those of which a half alone does."""
 
     def __init__(self, states: States, halves: Halves):
-        self.states, self.halves, self.universe = states, halves, halves.universe
+        self.states, self.halves, self.universe, self.beside = states, halves, halves.universe, halves.beside
         self.found: list[Changed] = halves.foreseen(self.find)
+        self.hold_unforeseen()
 
     def find(self) -> list[Changed]:
         self.moved: dict[tuple, bool] = {}
@@ -51,13 +59,18 @@ class Diff:
         moving = [it for it in candidates if self.moves(*it)]
         self.halves.ask((it for pair in moving for phase in (0, 1) for it in wanted(*pair, phase)), "asking about other halves")
         found = [it for pair in moving for it in self.changed(*pair)]
-        self.halves.explain((segment for it in found for half in it.halves for segment in half[1:]), "asking for reasons")
+        self.halves.explain((segment for it in found for half in it.halves for segment in half[2:]), "asking for reasons")
         return found
 
-    # Which connections may change.
+    def hold_unforeseen(self) -> None:
+        """Of a policy that comes or goes and that is refused for an unforeseen reason, nothing can be said."""
+        changed = self.states.change.changed()
+        for state in self.states.ends():
+            for key, it in state.policies.items():
+                if key in changed and it.name in self.halves.unforeseen:
+                    raise Bad(f"{it.name} isn't read: {self.halves.unforeseen[it.name]}. Nothing can be said of it")
 
-    def halves_of(self, group: Group, direction: str) -> tuple[Half, Half]:
-        return tuple(self.halves.half(phase, group.at(phase), direction) for phase in (0, 1))
+    # Which connections may change.
 
     def candidates(self) -> list[tuple[End, End]]:
         """Pairs of a source and a target of which a half may change."""
@@ -66,9 +79,9 @@ class Diff:
         found: dict[tuple[End, End], None] = {}
         for direction in DIRECTIONS:
             for group in groups:
-                halves = self.halves_of(group, direction)
-                others = [*groups, *self.halves.outside(*halves)] if halves[0] != halves[1] else relabelled
-                for other in others:
+                asked = [(phase, group.at(phase), direction) for phase in (0, 1)]
+                is_touched = self.halves.half(*asked[0]) != self.halves.half(*asked[1])
+                for other in [*groups, *self.halves.outer(*asked)] if is_touched else relabelled:
                     pair = (group, other) if direction == EGRESS else (other, group)
                     if pairs_with(*pair, self.universe.node is not None):
                         found[pair] = None
@@ -80,7 +93,8 @@ class Diff:
 
     def key(self, it: Wanted):
         half = self.halves.half(*it[:3])
-        return half, self.halves.alike(half, it[3])
+        names = self.beside.names(*it[:3]) if isinstance(it[3], Outside) and it[3].kind == "name" else []
+        return half, self.halves.alike(half, it[3]), tuple((one.place, one.names) for one in names)
 
     def first(self, candidates: Iterable[tuple[End, End]]) -> Iterable[Wanted]:
         for pair in candidates:
@@ -90,46 +104,68 @@ class Diff:
     # What changes.
 
     def moves(self, source: End, target: End) -> bool:
-        """Whether some packet of a half that may change is allowed before and not after, or after and not before."""
+        """Whether some packet of a half that may change is judged otherwise after, so that its connection may change."""
         return any(self.moves_in(*both) for both in self.touched(source, target))
 
     def moves_in(self, before: Wanted, after: Wanted) -> bool:
-        key = self.key(before), self.key(after)
+        key = self.key(before), self.key(after), self.is_doubted(before, after)
         if key not in self.moved:
             found = profiles(self.halves, (before, after))
-            self.moved[key] = bool(found) and any(one.is_allowed != other.is_allowed for *_, (one, other) in joined(found))
+            self.moved[key] = bool(found) and any(self.is_other(before, after, *pair) for *_, pair in joined(found))
         return self.moved[key]
+
+    def is_doubted(self, *asked: Wanted) -> bool:
+        return any(self.beside.unsure(*it[:3]) for it in asked)
+
+    def is_other(self, before: Wanted, after: Wanted, one: Segment, other: Segment) -> bool:
+        """Whether a half changes, or may for what isn't read."""
+        if one.is_allowed != other.is_allowed:
+            return True
+        return self.is_doubted(before, after) and self.plain(before, one) != self.plain(after, other)
+
+    def plain(self, asked: Wanted, segment: Segment) -> Plain:
+        return Plain(segment.word, segment.is_allowed and not isolating(self.halves.half(*asked[:3])))
 
     def changed(self, source: End, target: End) -> Iterable[Changed]:
         before, after = wanted(source, target, 0), wanted(source, target, 1)
         found = profiles(self.halves, [*before, *after])
         for protocol, low, high, segments in joined(found) if found else ():
-            count = len(before)
-            pairs = [(segments[at], segments[count + at]) for at in range(count)]
-            if any(one.is_allowed != other.is_allowed for one, other in pairs):
-                yield Changed(source, target, protocol, low, high, tuple((it[2], *pair) for it, pair in zip(before, pairs)))
+            halves = tuple(zip(before, after, segments, segments[len(before) :]))
+            if any(self.is_other(*it) for it in halves):
+                yield Changed(source, target, protocol, low, high, halves, self.doubts(halves))
+
+    def doubts(self, halves: tuple) -> tuple[str, ...]:
+        """The names of what isn't read and may turn a verdict of the connection, before or after."""
+        told = [name for at in (0, 1) for name in self.beside.doubts((*it[at][:3], self.plain(it[at], it[2 + at])) for it in halves)]
+        return tuple(dict.fromkeys(told))
 
     # What is told.
 
-    def lines(self, names: Names, is_changing: bool = True) -> list[Line]:
+    def lines(self, names: Names, is_shown: bool = True) -> list[Line]:
         """The connections that change; or those that don't, though a half of them does."""
         rows = Rows()
         for it in self.found:
-            if it.changes == is_changing:
+            if it.is_shown == is_shown:
                 rows.add(it.source, it.target, it.protocol, it.low, it.high, self.told(it))
         return rows.lines(names)
 
     def told(self, it: Changed) -> Told:
         is_allowed = it.word(1) == ALLOWED
         texts = []
-        for direction, before, after in sorted(it.halves, key=lambda half: half[0]):
-            new = self.new(self.halves.half_of(after))
+        for was, asked, before, after in sorted(it.halves, key=lambda half: half[1][2]):
+            new = self.new(self.halves.half(*was[:3]), self.halves.half(*asked[:3]))
             why = of_change(self.halves.why(before), self.halves.why(after), is_allowed, new, self.states.written)
             if why:
-                texts.append(f"{direction}: {why}")
-        return Told(it.word(0), it.word(1), tuple(texts))
+                texts.append(f"{asked[2]}: {why}")
+        return Told(it.word(0), it.word(1), tuple(texts), self.names_beside(it), it.unsure)
 
-    def new(self, half: Half) -> list[str]:
-        """The policies of a half that come, or come in another form."""
-        return list(dict.fromkeys(it.policy.name for it in half.rules if it.policy.line not in self.states.lines_before))
+    def new(self, before: Half, after: Half) -> list[str]:
+        """The policies that isolate after a change and didn't before."""
+        old = {*before.rules}
+        return list(dict.fromkeys(it.policy.name for it in after.rules if it not in old and after.direction in it.part.isolates()))
 
+    def names_beside(self, it: Changed) -> tuple[str, ...]:
+        """The names whose addresses are reached beside the world, where the connection is with the world."""
+        if not any(isinstance(end, Outside) and end.kind == "region" and end.value == regions.WORLD for end in (it.source, it.target)):
+            return ()
+        return self.beside.names_at((one[:3] for half in it.halves for one in half[:2]), it.protocol, it.low)

@@ -36,7 +36,8 @@ class Group:
 
 
 class Outside(NamedTuple):
-    """What isn't a pod: an entity by its number, one address, or the region of a prefix without those of `prefixes` in it."""
+    """What isn't a pod: an entity by its number, one address, the region of a prefix without those of `prefixes` in it, or
+    the unknown addresses of a name, which lie in the world's region among these prefixes."""
 
     kind: str
     value: object
@@ -48,8 +49,12 @@ class Outside(NamedTuple):
             return "identity", self.value
         if self.kind == "address":
             return "address", str(self.value)
-        address = regions.representative(self.value, self.prefixes, taken)
+        address = regions.representative(self.region, self.prefixes, taken)
         return None if address is None else ("address", address)
+
+    @property
+    def region(self) -> ipaddress.IPv4Network:
+        return regions.WORLD if self.kind == "name" else self.value
 
 
 End = Union[Group, Outside]
@@ -58,7 +63,8 @@ End = Union[Group, Outside]
 class Universe:
     """The pods of one state, or of two, by their labels."""
 
-    def __init__(self, states: Sequence, node: Optional[str] = None):
+    def __init__(self, states: Sequence, node: Optional[str] = None, are_whole: bool = False):
+        """Of two states that are whole, pods that one of them lacks aren't compared; in a change they stand in both."""
         self.states, self.node = states, node
         self.sets: list[LabelSet] = []
         self.numbers: dict[tuple, int] = {}
@@ -67,6 +73,7 @@ class Universe:
         # Pods that one of two states lacks, and whose workload gives no other pod in their place: by the state's number.
         self.alone: tuple[list, list] = ([], [])
         pairs = matched(states[0].ends, states[-1].ends)
+        pairs = pairs if are_whole else [(before or after, after or before) for before, after in pairs]
         used: set[str] = set()
         for pair in pairs:
             for pod in filter(None, pair):
@@ -123,8 +130,8 @@ def inside(halves: Iterable[Half], whole: ipaddress.IPv4Network) -> list[Outside
 def addresses(state) -> Iterable[str]:
     """The addresses that are inside a cluster: of pods, nodes and Services."""
     yield from (it.address for it in state.ends if it.address)
-    yield from state.cluster.nodes
-    yield from state.cluster.services
+    for listed in ("nodes", "services", "balancers", "api_addresses"):
+        yield from getattr(state.cluster, listed)
 
 
 def matched(before: Sequence, after: Sequence) -> list[tuple]:

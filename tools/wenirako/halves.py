@@ -10,10 +10,11 @@ from __future__ import annotations
 
 from typing import Callable, Iterable, NamedTuple, Optional, Sequence, Union
 
-from lib import ports
+from lib import ports, regions
 
+from .beside import Beside, named
 from .core import ALLOWED, Answer, Core, Misjudged, NoAnswer, Question
-from .ends import Outside, Universe
+from .ends import Outside, Universe, inside
 from .mentions import Mentions
 from .selecting import Half, Selection
 
@@ -25,12 +26,16 @@ Side = Union[int, Outside]
 
 
 class Segment(NamedTuple):
-    """A stretch of ports with the word that is that of each packet in it, and the question that was asked for all."""
+    """A stretch of ports with the word that is that of each packet in it, and the question that was asked for all.
+
+    `names` has the entries that open the unknown addresses of a name, where the other side is those.
+    """
 
     low: int
     high: int
     word: str
     question: Question
+    names: tuple[str, ...] = ()
 
     @property
     def is_allowed(self) -> bool:
@@ -47,6 +52,7 @@ class Halves:
     def __init__(self, universe: Universe, core: Core, phases: Sequence[Sequence]):
         """`phases` has the policies that are given to the core, before and after a change, or those of one state."""
         self.universe, self.core, self.policies = universe, core, phases
+        self.beside = Beside(universe)
         self.unforeseen: dict[str, str] = {}
         core.phases = [[it.line for it in phases[0]], *(changing(phases[0], it) for it in phases[1:])]
         self.documents = {it.line: it for phase in phases for it in phase}
@@ -59,6 +65,7 @@ class Halves:
         self.profiles: dict[tuple, Profile] = {}
         self.pending: dict[tuple, dict] = {}
         self.stand_ins: dict[Half, tuple[int, int]] = {}
+        self.words: dict[Question, str] = {}
         self.answers: dict[Question, Answer] = {}
         self.kept: dict[tuple, object] = {}
 
@@ -103,6 +110,7 @@ class Halves:
             self.take(self.core.verdicts(asked, what))
 
     def take(self, words: dict[Question, str]) -> None:
+        self.words.update(words)
         for it, word in words.items():
             if it.remote == NOBODY and word != ALLOWED and not self.half(it.phase, it.at, it.direction).rules:
                 raise NoAnswer(f"something isolates {self.universe.sets[it.at].labels} ({it.direction}), and no policy was thought to select these labels")
@@ -118,13 +126,16 @@ class Halves:
     def profile(self, phase: int, at: int, direction: str, side: Side) -> Optional[Profile]:
         """What was answered of a half; None where no packet can have that other side."""
         half = self.half(phase, at, direction)
-        return self.profiles.get((half, self.alike(half, side)))
+        found = self.profiles.get((half, self.alike(half, side)))
+        if found is None or not isinstance(side, Outside) or side.kind != "name":
+            return found
+        return named(found, [it for it in self.beside.names(phase, at, direction) if side.value in it.names])
 
     # Asking for reasons.
 
     def explain(self, segments: Iterable[Segment], what: str) -> None:
         """Asks for the reasons of segments."""
-        asked = {it.question: it.word for it in segments if it.question not in self.answers}
+        asked = {it.question: self.words[it.question] for it in segments if it.question not in self.answers}
         if not asked:
             return
         found = self.core.reasons(asked, self.in_force, what)
@@ -139,7 +150,8 @@ class Halves:
         return tuple({rule.part.whole.line: rule.part.whole for rule in rules}.values())
 
     def why(self, segment: Segment) -> Answer:
-        return self.answers[segment.question]
+        answer = self.answers[segment.question]
+        return answer._replace(word=ALLOWED, allows=(*answer.allows, *segment.names)) if segment.names else answer
 
     def half_of(self, segment: Segment) -> Half:
         it = segment.question
@@ -160,7 +172,7 @@ class Halves:
     def alike(self, half: Half, side: Side):
         """What a half's rules can tell of an other side: sides of which they can tell the same are judged alike."""
         if isinstance(side, Outside):
-            return side
+            return side if side.kind != "name" else Outside("region", side.region, side.prefixes)
         key = (half, side)
         if key not in self.kept:
             self.kept[key] = self.once(Mentions, half).seen(self.universe.sets[side].labels)
@@ -174,11 +186,18 @@ class Halves:
             self.kept[key] = side.remote(self.universe.taken)
         return self.kept[key]
 
-    def outside(self, *halves: Half) -> list[Outside]:
-        """What isn't a pod, as far as halves tell it apart, and as far as a packet can have it at its other side."""
-        if halves not in self.kept:
-            self.kept[halves] = [it for it in self.universe.outside(halves) if self.remote(it) is not None]
-        return self.kept[halves]
+    def outer(self, *asked: tuple[int, int, str], within: Optional[object] = None) -> list[Outside]:
+        """What isn't a pod at the other side of halves, as far as they tell it apart and a packet can have it there: the
+        entities, the regions of prefixes and the names of unknown addresses; or the regions of one prefix alone."""
+        halves = tuple(self.half(*it) for it in asked)
+        key = ("outer", halves, within)
+        if key not in self.kept:
+            listed = inside(halves, within) if within is not None else self.universe.outside(halves)
+            self.kept[key] = [it for it in listed if self.remote(it) is not None]
+        found = self.kept[key]
+        world = next((it for it in found if it.kind == "region" and it.value == regions.WORLD), None)
+        names = self.beside.listed_names(asked) if world is not None else []
+        return [*found, *(world._replace(kind="name", value=name) for name in names)]
 
 
 def changing(before: Sequence, after: Sequence) -> list[str]:

@@ -11,6 +11,7 @@ from .naming import Names, outer
 from .report import Report, counted
 from .resolving import EVERY_PORT, everything, named, pairs, port_range
 from .rows import Line, Rows, Told, alike, listed, written_ports
+from .statuses import NOTHING, UNSURE
 
 BY = ("pod", "workload", "namespace")
 HEADS = ("FROM", "TO", "PORTS", "ALLOWED BY")
@@ -24,9 +25,14 @@ def report(asked: Asked, source: Optional[str], target: Optional[str], port: Opt
     lines = asked.halves.foreseen(lambda: found(asked, list(pairs(asked.halves, *ends)), ports))
     cells = by_line(asked.names, lines) if by == "pod" else coarse(lines, by)
     heads = HEADS if by == "pod" else ("FROM", "TO", "PORTS", "BETWEEN")
-    rows = [{"from": listed(it.froms), "to": listed(it.tos), "ports": for_programs(it.ports), "verdict": it.told.after, "decided_by": list(it.told.reasons)} for it in lines]
+    rows = [{"from": listed(it.froms), "to": listed(it.tos), "ports": for_programs(it.ports), "verdict": it.told.after, **it.told.for_programs()} for it in lines]
     summary = f"{counted(len(cells), 'line', 'lines')} of open connections" if cells else "nothing is open"
-    return Report("list", summary, heads, cells, rows, asked.notes(), lines=lines, names=asked.names)
+    return Report("list", summary, heads, cells, rows, asked.notes(), unsure_or(NOTHING, lines), lines=lines, names=asked.names)
+
+
+def unsure_or(status: int, lines: Iterable[Line]) -> int:
+    """The status where something may be otherwise for what isn't read, and else another one."""
+    return UNSURE if any(it.told.unsure for it in lines) else status
 
 
 def found(asked: Asked, listed_pairs: list[tuple[End, End]], ports) -> list[Line]:
@@ -36,7 +42,8 @@ def found(asked: Asked, listed_pairs: list[tuple[End, End]], ports) -> list[Line
         for it in about.stretches(*pair):
             if id(it) not in told:
                 told[id(it)] = Told(it.word, it.word, about.reasons(it))
-            rows.add(*pair, it.protocol, it.low, it.high, told[id(it)])
+            more = {"names": about.names_beside(*pair, it), "unsure": about.unsure(*pair, it)}
+            rows.add(*pair, it.protocol, it.low, it.high, told[id(it)]._replace(**more) if any(more.values()) else told[id(it)])
     return rows.lines(asked.names)
 
 
@@ -45,7 +52,7 @@ def by_line(names: Names, lines: Iterable[Line]) -> list[list[str]]:
     cells = []
     for it in lines:
         sources = ", ".join(names.side(it.froms, it.tos))
-        cells += [[sources, target, written_ports(it.ports), "; ".join(it.told.reasons)] for target in names.side(it.tos, it.froms)]
+        cells += [[sources, target, written_ports(it.ports), it.told.written()] for target in names.side(it.tos, it.froms)]
     return sorted(cells, key=lambda it: (it[1], it[0], it[2]))
 
 

@@ -55,10 +55,10 @@ class Run:
     def states(self) -> States:
         before = self.state(self.words.state)
         added, removed, after = self.option("add") or [], self.option("remove") or [], self.option("state_after")
-        states = changed(before, added, removed) if added or removed else States(before, self.state(after)) if after else States(before)
+        states = changed(before, added, removed) if added or removed else States(before, self.state(after), are_whole=True) if after else States(before)
         if self.option("strict") and states.unread():
             raise Bad("\n".join(states.unread()))
-        nodes = sorted({it.node for it in states.before.ends})
+        nodes = sorted({it.node for it in states.before.cluster.live})
         if self.option("node") is not None and self.words.node not in nodes:
             raise Bad(f"--node {self.words.node}: no pod of the state is on it; there are {', '.join(nodes) or 'none'}")
         return states

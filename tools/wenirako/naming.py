@@ -7,6 +7,10 @@ from lib import regions
 
 from .ends import ENTITIES, End, Group, Outside
 
+ANY_OTHER = "any other"
+# How many namespaces are named where any other pod of them is meant.
+NAMED_MOST = 3
+
 
 class Names:
     """Names for the pods of groups."""
@@ -16,8 +20,10 @@ class Names:
         self.workloads: dict[tuple[str, str], set[str]] = {}
         self.namespaces: dict[str, set[str]] = {}
         self.kept: dict[tuple, list[str]] = {}
+        groups = list(groups)
+        self.others = {pod.namespace for it in groups for pod in it.pods if pod.stands_for == ANY_OTHER}
         for group in groups:
-            for pod in group.pods:
+            for pod in (it for it in group.pods if not it.stands_for):
                 self.workload_of[pod.name] = pod.workload
                 self.workloads.setdefault((pod.namespace, pod.workload), set()).add(pod.name)
                 self.namespaces.setdefault(pod.namespace, set()).add(pod.name)
@@ -28,14 +34,15 @@ class Names:
         alone = [pod.name for it in other if isinstance(it, Group) for pod in it.pods]
         key = (ends, alone[0] if len(alone) == 1 else None)
         if key not in self.kept:
-            self.kept[key] = [*self.pods(ends, key[1]), *outer(ends)]
+            self.kept[key] = [*self.pods(ends, key[1]), *self.stand_ins(ends), *outer(ends)]
         return self.kept[key]
 
     def pods(self, ends: Iterable[End], alone: object) -> Iterable[str]:
         by_namespace: dict[str, set[str]] = {}
         for it in ends:
             for pod in it.pods if isinstance(it, Group) else ():
-                by_namespace.setdefault(pod.namespace, set()).add(pod.name)
+                if not pod.stands_for:
+                    by_namespace.setdefault(pod.namespace, set()).add(pod.name)
         for namespace, mine in sorted(by_namespace.items()):
             others = self.namespaces[namespace] - mine
             missing = sorted(others - {alone})
@@ -43,6 +50,14 @@ class Names:
                 yield f"{namespace}/* ({how_many(len(mine), missing, others != {*missing})})"
             else:
                 yield from self.single(namespace, mine)
+
+    def stand_ins(self, ends: Iterable[End]) -> Iterable[str]:
+        """What stands for pods that come, each with what it is; any other pod of every namespace is one."""
+        pods = [pod for it in ends if isinstance(it, Group) for pod in it.pods if pod.stands_for]
+        yield from (f"{it.name} ({it.stands_for})" for it in sorted(pods, key=lambda it: it.name) if it.stands_for != ANY_OTHER)
+        spaces = sorted({it.namespace for it in pods if it.stands_for == ANY_OTHER})
+        if spaces:
+            yield "any other pod" if {*spaces} == self.others and len(spaces) > 1 else f"any other pod of {some(spaces, NAMED_MOST)}"
 
     def single(self, namespace: str, names: set[str]) -> list[str]:
         """Pods by their names, or by their workload where all its replicas are there."""
@@ -55,6 +70,10 @@ class Names:
         return list(found)
 
 
+def some(values: list[str], most: int) -> str:
+    return ", ".join(values[:most]) + (f" and {len(values) - most} more" if len(values) > most else "")
+
+
 def how_many(count: int, missing: list[str], is_of_others: bool) -> str:
     if missing:
         return f"{count} pods, all {'others ' if is_of_others else ''}but {', '.join(missing)}"
@@ -65,8 +84,15 @@ def outer(ends: Iterable[End]) -> list[str]:
     """What is no pod, written."""
     ends = list(ends)
     entities = {it.value for it in ends if isinstance(it, Outside) and it.kind == "entity"}
-    named = ", ".join(name for number, name in ENTITIES.items() if number in entities)
-    return [*regions.written(of_regions(ends)), *([named] if named else [])]
+    listed = ", ".join(name for number, name in ENTITIES.items() if number in entities)
+    addresses = sorted(str(it.value) for it in ends if isinstance(it, Outside) and it.kind == "address")
+    names = ", ".join(of_names(ends))
+    return [*addresses, *regions.written(of_regions(ends)), *([listed] if listed else []), *([f"names: {names}"] if names else [])]
+
+
+def of_names(ends: Iterable[End]) -> list[str]:
+    """The names whose unknown addresses are an end."""
+    return sorted(it.value for it in ends if isinstance(it, Outside) and it.kind == "name")
 
 
 def of_regions(ends: Iterable[End]) -> list[tuple]:

@@ -6,18 +6,18 @@ from typing import Callable, Iterable, Optional
 from .core import Answer
 from .selecting import Half
 
-# An answer's place of an entry to that in the policy as it was written, with its marks.
-Places = Callable[[str], str]
+# An answer's place of an entry to that in the policy as it was written, with its marks, before (0) or after (1) a change.
+Places = Callable[[str, int], str]
 
 
-def places(listed: Iterable[str], written: Places) -> str:
+def places(listed: Iterable[str], written: Places, phase: int = 1) -> str:
     """Entries by their places; a cluster-wide policy has no namespace before its name."""
-    return ", ".join(dict.fromkeys(written(it).removeprefix("/") for it in listed))
+    return ", ".join(dict.fromkeys(written(it, phase).removeprefix("/") for it in listed))
 
 
-def isolating(half: Half) -> str:
-    """The policies that isolate an endpoint in a direction: those that select it and say something of that direction."""
-    return ", ".join(dict.fromkeys(it.policy.name for it in half.rules))
+def isolating(half: Half) -> list[str]:
+    """The policies that isolate an endpoint in a direction: those that select it and isolate in that direction."""
+    return list(dict.fromkeys(it.policy.name for it in half.rules if half.direction in it.part.isolates()))
 
 
 def of_half(half: Half, answer: Answer, written: Places) -> str:
@@ -25,8 +25,8 @@ def of_half(half: Half, answer: Answer, written: Places) -> str:
     if answer.denies:
         return places(answer.denies, written)
     if answer.is_allowed:
-        return places(answer.allows, written) or ("no policy isolates it" if not half.rules else "it always passes")
-    return f"no entry allows it; isolated by {isolating(half)}"
+        return places(answer.allows, written) or ("it always passes" if isolating(half) else "no policy isolates it")
+    return f"no entry allows it; isolated by {', '.join(isolating(half))}"
 
 
 def of_change(before: Answer, after: Answer, is_allowed: bool, new: Iterable[str], written: Places) -> Optional[str]:
@@ -38,5 +38,6 @@ def of_change(before: Answer, after: Answer, is_allowed: bool, new: Iterable[str
     if not before.is_allowed:
         return "no entry allows it"
     if before.allows:
-        return f"no entry allows it without {places(before.allows, written)}"
-    return f"no entry allows it; enforced by {', '.join(new)}"
+        return f"no entry allows it without {places(before.allows, written, 0)}"
+    names = ", ".join(new)
+    return f"no entry allows it; enforced by {names}" if names else "no entry allows it"

@@ -12,9 +12,10 @@ from typing import Callable, Iterable, NamedTuple, Optional, Union
 from lib import ports, regions
 from lib.reading import Bad
 
-from .ends import ENTITIES, End, Group, Outside, Universe, entity, inside
+from .ends import ENTITIES, End, Group, Outside, Universe, entity
 from .halves import Halves
-from .selecting import EGRESS, INGRESS, Half
+from .naming import ANY_OTHER
+from .selecting import EGRESS, INGRESS
 
 NUMBERS = {name: number for number, name in ENTITIES.items()}
 # What isn't a pod, named: an entity, an address, or a prefix whose regions depend on the half at the other side.
@@ -28,11 +29,11 @@ class Named(NamedTuple):
     groups: list[Group]
     outer: list[Outer]
 
-    def outside(self, *halves: Half) -> list[Outside]:
-        """What isn't a pod of these, as far as halves at the other side tell it apart."""
+    def outside(self, halves: Halves, asked: tuple[int, int, str]) -> list[Outside]:
+        """What isn't a pod of these, as far as the half at the other side tells it apart."""
         found: list[Outside] = []
         for it in self.outer:
-            found += [it] if isinstance(it, Outside) else inside(halves, it)
+            found += [it] if isinstance(it, Outside) else halves.outer(asked, within=it)
         return found
 
 
@@ -99,7 +100,8 @@ def wanted(text: str) -> Callable[[object], bool]:
         namespace, slash, name = text.partition("/") if "/" in text.partition("=")[0] else ("", "", text)
         pairs = [it.partition("=")[::2] for it in name.split(",")]
         return lambda pod: (not slash or pod.namespace == namespace) and all(pod.own.get(key) == value for key, value in pairs)
-    return lambda pod: (not slash or pod.namespace == namespace) and name in ("*", pod.workload, pod.name.rpartition("/")[2])
+    fits = lambda pod: name in (pod.workload, pod.name.rpartition("/")[2]) or name == "*" and pod.stands_for != ANY_OTHER
+    return lambda pod: (not slash or pod.namespace == namespace) and fits(pod)
 
 
 def close_to(universe: Universe, text: str) -> str:
@@ -159,8 +161,8 @@ def pairs(halves: Halves, sources: Named, targets: Named, phase: int = 0) -> Ite
             if len(source.pods) > 1 or len(target.pods) > 1 or source.pods[0].name != target.pods[0].name:
                 yield source, target
         at = source.at(phase)
-        yield from ((source, it) for it in targets.outside(halves.half(phase, at, EGRESS)))
+        yield from ((source, it) for it in targets.outside(halves, (phase, at, EGRESS)))
     for target in there:
         at = target.at(phase)
-        yield from ((it, target) for it in sources.outside(halves.half(phase, at, INGRESS)))
+        yield from ((it, target) for it in sources.outside(halves, (phase, at, INGRESS)))
 

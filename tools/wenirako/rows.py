@@ -6,7 +6,7 @@ from typing import Iterable, NamedTuple
 from lib import ports
 
 from .ends import ENTITIES, End, Group, Outside
-from .naming import Names, of_regions
+from .naming import Names, of_names, of_regions
 
 # Protocols that have the same ranges of ports, with these.
 Ports = tuple[tuple[tuple[str, ...], tuple[tuple[int, int], ...]], ...]
@@ -18,7 +18,17 @@ class Told(NamedTuple):
     before: str
     after: str
     reasons: tuple[str, ...]
-    marks: tuple[str, ...] = ()
+    # Names whose unknown addresses are meant beside the world, and what isn't read and may turn a verdict.
+    names: tuple[str, ...] = ()
+    unsure: tuple[str, ...] = ()
+
+    def written(self) -> str:
+        names = [f"and names: {', '.join(self.names)}"] if self.names else []
+        return "; ".join([*self.reasons, *names, *([f"unsure: {', '.join(self.unsure)} isn't read whole"] if self.unsure else [])])
+
+    def for_programs(self) -> dict:
+        more = {name: list(value) for name, value in (("names", self.names), ("unsure", self.unsure)) if value}
+        return {"decided_by": list(self.reasons), **more}
 
 
 class Line(NamedTuple):
@@ -72,7 +82,11 @@ def written_ports(stretches: Ports) -> str:
 def listed(ends: Iterable[End]) -> list[dict]:
     """Ends for a program: each pod, prefix and entity."""
     ends = list(ends)
-    pods = sorted(pod.name for it in ends if isinstance(it, Group) for pod in it.pods)
+    all_pods = [pod for it in ends if isinstance(it, Group) for pod in it.pods]
+    pods = sorted(it.name for it in all_pods if not it.stands_for)
+    others = sorted((it.name, it.stands_for) for it in all_pods if it.stands_for)
+    addresses = [{"cidr": f"{it.value}/32", "except": []} for it in ends if isinstance(it, Outside) and it.kind == "address"]
     prefixes = [{"cidr": str(whole), "except": list(map(str, but))} for whole, but in of_regions(ends)]
     entities = sorted(it.value for it in ends if isinstance(it, Outside) and it.kind == "entity")
-    return [*({"pod": it} for it in pods), *prefixes, *({"entity": ENTITIES[it]} for it in entities)]
+    more = [*addresses, *prefixes, *({"entity": ENTITIES[it]} for it in entities), *({"name": it} for it in of_names(ends))]
+    return [*({"pod": it} for it in pods), *({"pods": name, "stands_for": kind} for name, kind in others), *more]

@@ -3,24 +3,25 @@ from __future__ import annotations
 
 from typing import Iterable, Optional, Sequence
 
-from lib import force, state as bridge
-from lib.change import Change
-from lib.cluster import left_out
+from lib import change, force, lint
+from lib.cluster import lacks, left_out
 from lib.reading import Bad
+from lib.state import State
 
 
 class States:
     """The state before and after a change; one and the same where nothing changes."""
 
-    def __init__(self, before: bridge.State, after: Optional[bridge.State] = None, change: Optional[Change] = None):
-        self.before, self.after, self.change = before, after or before, change
-        self.lines_before = {it.line for it in before.policies.values()}
+    def __init__(self, before: State, after: Optional[State] = None, skipped: Sequence[str] = (), are_whole: bool = False):
+        """`skipped` has what is said of manifests that aren't read; `are_whole` is so of two states that are given whole."""
+        self.before, self.after, self.skipped, self.are_whole = before, after or before, list(skipped), are_whole
+        self.change = change.Change(self.before, self.after)
 
     @property
     def is_one(self) -> bool:
         return self.after is self.before
 
-    def ends(self) -> list[bridge.State]:
+    def ends(self) -> list[State]:
         return [self.before] if self.is_one else [self.before, self.after]
 
     def phases(self) -> list[list]:
@@ -29,39 +30,49 @@ class States:
 
     def incoming(self) -> list:
         """The policies that come, or that come in another form, as they are written."""
-        return [it for it in self.after.policies.values() if it.line not in self.lines_before]
+        return self.change.coming()
 
     def notes(self) -> Iterable[str]:
         """What is said of what answers lack."""
-        yield from self.before.lacks()
-        yield from left_out(self.before.cluster)
+        yield from self.before.cluster.warned
+        yield from left_out(self.before.cluster, come=True)
+        yield from lacks(self.before.cluster)
+        yield from self.skipped
+        known = list(force.beside(self.before))
+        yield from known
+        yield from (it for it in force.beside(self.after) if it not in known)
+        yield from (it.text for it in self.slips())
         yield from self.unread()
 
-    def unread(self) -> list[str]:
-        """What is said of the policies of the state that aren't read, so that they aren't in force."""
-        return list(force.said(list(self.before.policies.values()), self.before.ends, {}))
+    def slips(self) -> list:
+        """The slips of the policies that come."""
+        return [] if self.is_one else lint.slips(self.after, {it.key for it in self.incoming()})
 
-    def written(self, place: str) -> str:
+    def unread(self) -> list[str]:
+        """What is said of what isn't read of the state's policies."""
+        return list(force.said(self.before, {}, self.before.ends))
+
+    def unsure_changes(self) -> list[str]:
+        """The policies that come or go and aren't read whole: what else they may change isn't shown."""
+        changed = self.change.changed()
+        return sorted({it.policy.name for state in self.ends() for key, it in state.rewritten.items() if it.unsure and key in changed})
+
+    def written(self, place: str, phase: int = 1) -> str:
         """An answer's place of an entry, in the policy as it was written, with its marks."""
-        holder = self.after if place.partition("#")[0].removeprefix("/") in {it.name for it in self.after.policies.values()} else self.before
-        place = holder.place(place)
-        marks = holder.marks(place)
+        state = self.ends()[-1] if phase else self.before
+        place = state.place(place)
+        marks = state.marks(place)
         return f"{place} ({', '.join(marks)})" if marks else place
 
 
-def changed(before: bridge.State, added: Sequence[str], removed: Sequence[str]) -> States:
-    """The state with policies that come and that go."""
-    change = Change(before.cluster, added, removed)
-    after = bridge.State.__new__(bridge.State)
-    kept = {key: it for key, it in change.before.items() if it not in change.gone}
-    kept.update({key: it for key, it in change.new.items() if not change.is_as_before(it)})
-    after.cluster, after.policies = before.cluster, kept
-    after.rewritten = {key: before.rewritten[key] if before.policies.get(key) is it else bridge.rewriting.rewrite(it, after) for key, it in kept.items()}
-    return States(before, after, change)
+def changed(before: State, added: Sequence[str], removed: Sequence[str]) -> States:
+    """The state with manifests that come and policies that go."""
+    found = change.of_files(before, added, removed)
+    return States(before, found.after, found.skipped)
 
 
-def with_pods(state: bridge.State, name: str) -> bridge.State:
+def with_pods(state: State, name: str) -> State:
     """A state in which somebody can be asked about."""
-    if not state.ends:
+    if not state.cluster.pods and not state.cluster.templates:
         raise Bad(f"{name}: no pod is in it, so nothing can be asked about")
     return state

@@ -1,0 +1,90 @@
+"""What a state says beside its policies as they are read: unknown addresses of names, and what isn't read of policies."""
+from __future__ import annotations
+
+from typing import Iterable, NamedTuple, Sequence
+
+from lib import ports, unsure
+
+from .core import ALLOWED, BY_RULE
+from .ends import Universe
+
+
+class Plain(NamedTuple):
+    """A half's verdict as far as doubts about it ask: its word, and whether it passes since nothing isolates it."""
+
+    word: str
+    passes_free: bool
+
+    @property
+    def is_allowed(self) -> bool:
+        return self.word == ALLOWED
+
+    def is_free(self) -> bool:
+        return self.passes_free
+
+
+class Beside:
+    """What is said of sets of labels, each asked once."""
+
+    def __init__(self, universe: Universe):
+        self.universe = universe
+        self.kept: dict[tuple, list] = {}
+        self.has_doubts = any(it.all_unsure for it in universe.states)
+        self.has_names = any(it.all_names for it in universe.states)
+
+    def names(self, phase: int, at: int, direction: str) -> list:
+        """The entries that open unknown addresses to pods with the labels, or from them."""
+        return self.asked("names", phase, at, direction) if self.has_names else []
+
+    def unsure(self, phase: int, at: int, direction: str) -> list:
+        """What isn't read and may change what pods with the labels may receive, or send."""
+        return self.asked("unsure", phase, at, direction) if self.has_doubts else []
+
+    def asked(self, what: str, phase: int, at: int, direction: str) -> list:
+        key = (what, phase, at, direction)
+        if key not in self.kept:
+            self.kept[key] = getattr(self.universe.states[phase], what)(self.universe.sets[at].labels, direction)
+        return self.kept[key]
+
+    def doubts(self, halves: Iterable[tuple[int, int, str, Plain]]) -> list[str]:
+        """The names of what isn't read and may turn the verdict on a connection, given by its halves in one state."""
+        if not self.has_doubts:
+            return []
+        pairs = [(plain, self.unsure(phase, at, direction)) for phase, at, direction, plain in halves]
+        return [it.policy for it in unsure.of_connection(pairs)]
+
+    def listed_names(self, asked: Iterable[tuple[int, int, str]]) -> list[str]:
+        """The names of unknown addresses at the other side of halves."""
+        return list(dict.fromkeys(name for it in asked for entry in self.names(*it) for name in entry.names))
+
+    def names_at(self, asked: Iterable[tuple[int, int, str]], protocol: str, port: int) -> tuple[str, ...]:
+        """The names whose addresses are opened at a port beside the world's."""
+        listed = [entry for it in asked for entry in self.names(*it) if has_port(entry.ports, protocol, port)]
+        return tuple(dict.fromkeys(name for entry in listed for name in entry.names))
+
+
+def has_port(entry: dict, protocol: str, port: int) -> bool:
+    """Whether an entry that has ports alone covers one."""
+    return not entry.get("toPorts") or any(low <= port <= high for low, high in ports.ranges(entry)[protocol])
+
+
+def named(profile: dict, entries: Sequence) -> dict:
+    """The world's profile as it is for the addresses of a name, which these entries open beside what opens the world."""
+    found = {}
+    for protocol, segments in profile.items():
+        cuts = sorted({0, *(cut for it in entries for low, high in ranges(it.ports, protocol) for cut in (low, high + 1) if cut <= ports.LAST)})
+        found[protocol] = [part for it in segments for part in opened(it, cuts, entries, protocol)]
+    return found
+
+
+def ranges(entry: dict, protocol: str) -> list[tuple[int, int]]:
+    return ports.ranges(entry)[protocol] if entry.get("toPorts") else [(0, ports.LAST)]
+
+
+def opened(segment, cuts: Sequence[int], entries: Sequence, protocol: str) -> Iterable:
+    """A segment in parts, each with the entries that open it."""
+    lows = [segment.low, *(it for it in cuts if segment.low < it <= segment.high)]
+    for low, after in zip(lows, [*lows[1:], segment.high + 1]):
+        places = tuple(it.place for it in entries if has_port(it.ports, protocol, low))
+        part = segment._replace(low=low, high=after - 1)
+        yield part._replace(word=ALLOWED, names=places) if places and segment.word != BY_RULE else part
