@@ -84,7 +84,13 @@ def keep(before):
     return True
 
 
-def prove(say):
+def run_in(words, folder):
+    """The status of a command in a folder, and what it wrote."""
+    done = subprocess.run(words, cwd=folder, stdin=subprocess.DEVNULL, stdout=subprocess.PIPE, stderr=subprocess.STDOUT)
+    return done.returncode, done.stdout
+
+
+def prove(say, run=run_in):
     """Proves the program's crates, lowest first, and builds it. Returns what went wrong, or None."""
     before, names = sources(), parts()
     NOTE.unlink(missing_ok=True)
@@ -92,15 +98,9 @@ def prove(say):
         left = len(names) - at
         say(f"proving {name} ({left} {'crates are' if left > 1 else 'crate is'} left) ..")
         start = time.monotonic()
-        done = subprocess.run(
-            ["rt", "run" if name == NAME else "lib"],
-            cwd=TOP / "crates" / name,
-            stdin=subprocess.DEVNULL,
-            stdout=subprocess.PIPE,
-            stderr=subprocess.STDOUT,
-        )
-        if done.returncode:
-            return f"{name} is not proved:\n{done.stdout.decode(errors='replace')[-4000:]}"
+        status, said = run(["rt", "run" if name == NAME else "lib"], TOP / "crates" / name)
+        if status:
+            return f"{name} is not proved:\n{said.decode(errors='replace')[-4000:]}"
         say(f"proved {name} in {time.monotonic() - start:.0f} seconds")
     if not keep(before):
         return "the sources changed while they were proved: run this again"

@@ -7,12 +7,16 @@ checksums, of the sources that it was built from and of the program, and it is u
 It is kept only where, run once more by itself, it gives the answers that it gave under `rt try`.
 
 Where a kit lays its work out otherwise there is no program to keep, and `rt try` builds it for each run.
+
+    tests/unproved.py build      builds and keeps it; standard error says what went wrong
 """
 import os
 import pathlib
 import re
 import shutil
+import signal
 import subprocess
+import sys
 import tempfile
 import threading
 
@@ -62,10 +66,20 @@ def tried(folder):
 
 def run(script, words, **how):
     """A run of `rt try`: its answers where they are asked for, what it said, and its status, None where it has no answer."""
-    done = subprocess.run(["rt", "try", "--seconds", str(SECONDS), "--", *words], cwd=program.CRATE, stdin=script, stderr=subprocess.PIPE, **how)
-    said = done.stderr.decode(errors="replace")
+    done = subprocess.run(command(words), cwd=program.CRATE, stdin=script, stderr=subprocess.PIPE, **how)
+    return (done.stdout, *told(done.stderr))
+
+
+def command(words):
+    """What runs the program by `rt try`, in its crate's folder."""
+    return ["rt", "try", "--seconds", str(SECONDS), "--", *words]
+
+
+def told(data):
+    """What a run by `rt try` said on standard error, and its status, None where it has no answer."""
+    said = data.decode(errors="replace")
     ended = ENDED.search(said)
-    return done.stdout, NOISE.sub("", said) if ended else said, int(ended[1]) if ended else None
+    return NOISE.sub("", said) if ended else said, int(ended[1]) if ended else None
 
 
 def build():
@@ -87,3 +101,21 @@ def build():
     finally:
         shutil.rmtree(folder, ignore_errors=True)
     return None
+
+
+def main(words):
+    if words != ["build"]:
+        print(__doc__.split("\n\n")[-1], file=sys.stderr)
+        return 2
+    # (so that what was laid aside is removed where it is told to end)
+    signal.signal(signal.SIGTERM, lambda *_: sys.exit(143))
+    try:
+        wrong = build()
+    except FileNotFoundError as error:
+        wrong = f"{error.filename} isn't there: the Rattle kit's command rt builds the program\n"
+    sys.stderr.write(wrong or "")
+    return 1 if wrong else 0
+
+
+if __name__ == "__main__":
+    sys.exit(main(sys.argv[1:]))

@@ -45,6 +45,17 @@ def heed_signals() -> None:
             signal.signal(number, raises)
 
 
+def ended_by(main: Callable[[], int]) -> int:
+    """The status of a program that is told to end by signals, and whose children end with it."""
+    heed_signals()
+    try:
+        return main()
+    except Ended as ended:
+        return ended.status
+    finally:
+        end_all()
+
+
 def run(words: Sequence[str], given: Optional[bytes] = None, tick: Callable[[], None] = lambda: None, **how: object) -> Done:
     """Runs a program to its end, and calls `tick` meanwhile. Where this is left by an exception, the child has ended.
 

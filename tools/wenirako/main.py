@@ -115,13 +115,7 @@ def answer(command: str, name: str, words: Sequence[str]) -> int:
 
 def main(words: Sequence[str], command: str = "wenirako") -> int:
     """Runs the command with its words, and gives the status."""
-    children.heed_signals()
-    try:
-        return asked_for(list(words), command)
-    except children.Ended as ended:
-        return ended.status
-    finally:
-        children.end_all()
+    return children.ended_by(lambda: asked_for(list(words), command))
 
 
 def asked_for(words: list[str], command: str) -> int:
@@ -129,7 +123,7 @@ def asked_for(words: list[str], command: str) -> int:
     if first in lines_of.QUESTIONS:
         return answer(command, first, words[1:])
     if first == "play":
-        return play.main(words[1:], command)
+        return play.main(words[1:])
     if first in ("--help", "-h", "help"):
         put(lines_of.help_text() + "\n")
         return NOTHING if words else BAD_WORDS

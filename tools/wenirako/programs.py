@@ -82,7 +82,7 @@ def build(say: Callable[[str], None], progress: Progress) -> None:
     say(NOT_PROVED)
     say("building it once, in half a minute to three minutes; it is kept until a source changes ..")
     progress.begin("building policyd without proof")
-    done = children.run([sys.executable, str(TOP / "tests" / "unproved.py")], tick=progress.tick)
+    done = children.run([sys.executable, str(TOP / "tests" / "unproved.py"), "build"], tick=progress.tick)
     progress.end()
     if done.status:
         raise NoProgram(done.err.decode(errors="replace").rstrip() or f"the build ended with the status {done.status}")
