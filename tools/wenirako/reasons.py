@@ -25,7 +25,7 @@ def of_half(half: Half, answer: Answer, written: Places) -> str:
     if answer.denies:
         return places(answer.denies, written)
     if answer.is_allowed:
-        return places(answer.allows, written) or ("it always passes" if isolating(half) else "no policy isolates it")
+        return places(answer.allows, written) or ("its own node always may" if isolating(half) else "no policy isolates it")
     return f"no entry allows it; isolated by {', '.join(isolating(half))}"
 
 

@@ -1,0 +1,42 @@
+"""An archive as tools/release lays it out, with a stand-in for its program, for checks of the front door."""
+import hashlib
+import json
+import os
+import pathlib
+import shutil
+import subprocess
+
+TOP = pathlib.Path(__file__).resolve().parent.parent
+STAND_IN = TOP / "tests" / "standin.py"
+
+
+class Archive:
+    """A folder in which ./wenirako asks the stand-in, or another program of this text."""
+
+    def __init__(self, folder, program=None):
+        self.top = pathlib.Path(folder) / "archive"
+        ignored = shutil.ignore_patterns("__pycache__")
+        for name in ("tools", "recipes"):
+            shutil.copytree(TOP / name, self.top / name, ignore=ignored)
+        for name in ("wenirako", "play"):
+            shutil.copy(TOP / name, self.top / name)
+        (self.top / "bin").mkdir()
+        path = self.top / "bin" / "policyd"
+        path.write_text(program or f'#!/bin/sh\nexec "{STAND_IN}" "$@"\n')
+        path.chmod(0o755)
+        files = {"bin/policyd": hashlib.sha256(path.read_bytes()).hexdigest()}
+        (self.top / "MANIFEST.json").write_text(json.dumps({"commit": "0123456789ab", "proved": False, "files": files}))
+
+    def write(self, name, value):
+        """A file there, as text or JSON; its path."""
+        path = self.top / name
+        path.parent.mkdir(parents=True, exist_ok=True)
+        path.write_text(value if isinstance(value, str) else json.dumps(value))
+        return str(path)
+
+    def call(self, *words, given=None, command="./wenirako", path=None):
+        """The status and the two outputs of a command there."""
+        env = {**os.environ, "PATH": f"{path}:{os.environ['PATH']}"} if path else os.environ
+        how = {"stdin": subprocess.DEVNULL} if given is None else {"input": given}
+        done = subprocess.run([command, *words], cwd=self.top, env=env, stdout=subprocess.PIPE, stderr=subprocess.PIPE, text=True, **how)
+        return done.returncode, done.stdout, done.stderr
