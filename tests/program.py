@@ -2,11 +2,12 @@
 """The build of policyd: what it is made of, whether a proved build of that stands, and the ways to one.
 
 The proved build is crates/policyd/out/policyd. The note beside it, policyd.note, has two checksums: of the sources
-that were proved, and of the program that was built from them. A build without such a note, or whose sources or
-program have changed since, is never used.
+that were proved, and of the program that was built from them; and behind them, where the gate kept it, how many edits it
+saw refused. A build without such a note, or whose sources or program have changed since, is never used.
 
     tests/program.py sources      prints the checksum of the sources as they stand
-    tests/program.py keep SUM     after `rt ci` passed: notes its build, where the sources still have that checksum
+    tests/program.py keep SUM [EDITS]
+        after `rt ci` passed, with EDITS refused: notes its build, where the sources still have that checksum
 """
 import hashlib
 import pathlib
@@ -73,14 +74,23 @@ def is_proved():
     """Whether a proved build of the sources, as they stand now, is there."""
     if not NOTE.is_file() or not PROGRAM.is_file():
         return False
-    return NOTE.read_text().split() == [sources(), sum_of(PROGRAM)]
+    return NOTE.read_text().split()[:2] == [sources(), sum_of(PROGRAM)]
 
 
-def keep(before):
-    """Notes that the program was proved and built from sources of that checksum; no, where they aren't those any more."""
+def edits_refused():
+    """How many must-fail edits the gate that kept the build saw refused; None where no gate did."""
+    told = NOTE.read_text().split()[2:] if NOTE.is_file() else []
+    return int(told[0]) if told else None
+
+
+def keep(before, edits=""):
+    """Notes that the program was proved and built from sources of that checksum; no, where they aren't those any more.
+
+    `edits` is how many must-fail edits were refused beside, where that is known.
+    """
     if not PROGRAM.is_file() or before != sources():
         return False
-    NOTE.write_text(f"{before}\n{sum_of(PROGRAM)}\n")
+    NOTE.write_text("".join(f"{it}\n" for it in (before, sum_of(PROGRAM), edits) if it))
     return True
 
 
@@ -111,8 +121,8 @@ def main(words):
     if words == ["sources"]:
         print(sources())
         return 0
-    if len(words) == 2 and words[0] == "keep":
-        if keep(words[1]):
+    if len(words) in (2, 3) and words[0] == "keep":
+        if keep(*words[1:]):
             return 0
         print("the sources of policyd changed while they were proved, or it wasn't built: run this again", file=sys.stderr)
         return 1

@@ -12,14 +12,15 @@ from __future__ import annotations
 import re
 from typing import Iterable, NamedTuple, Optional
 
+from lib.reading import Bad
+
 from .asked import About, Asked
 from .connections import Stretch
 from .ends import End, Outside
 from .report import Report, counted
 from .resolving import Named, PortRange, named, pairs, port_range
-from .rows import listed
-from .statuses import NOTHING, TELLS
-from lib.reading import Bad
+from .rows import Told, listed
+from .statuses import NOTHING, TELLS, UNSURE
 
 HEADS = ("LINE", "EXPECTED", "FROM", "TO", "PACKET", "VERDICT", "DECIDED BY")
 ALWAYS, NEVER = "always", "never"
@@ -57,27 +58,46 @@ def read(asked: Asked, text: str, name: str) -> list[Expectation]:
 def report(asked: Asked, text: str, name: str) -> Report:
     """The expectations that don't hold, each with a packet that shows it."""
     expected = read(asked, text, name)
-    broken = asked.halves.foreseen(lambda: [it for it in map(lambda one: counterexample(asked, one), expected) if it])
+    found = asked.halves.foreseen(lambda: [it for it in map(lambda one: shown_by(asked, one), expected) if it])
     cells, rows = [], []
-    for it, pair, stretch, why in broken:
-        ends = [written(asked, pair, at) for at in (0, 1)]
-        cells.append([str(it.number), it.text, *ends, f"{stretch.protocol} {stretch.low}", stretch.word, "; ".join(why)])
-        packet = {"from": one_of(pair[0]), "to": one_of(pair[1]), "protocol": stretch.protocol, "port": stretch.low}
-        rows.append({"line": it.number, "expectation": it.text, "packet": packet, "verdict": stretch.word, "decided_by": list(why)})
-    held = f"{len(expected) - len(broken)} of {counted(len(expected), 'expectation holds', 'expectations hold')}"
-    return Report("check", held, HEADS, cells, rows, asked.notes(), TELLS if broken else NOTHING)
+    for it in found:
+        ends = [written(asked, it.pair, at) for at in (0, 1)]
+        told = Told(it.stretch.word, it.stretch.word, it.reasons, unsure=it.unsure)
+        cells.append([str(it.of.number), it.of.text, *ends, f"{it.stretch.protocol} {it.stretch.low}", it.stretch.word, told.written()])
+        packet = {"from": one_of(it.pair[0]), "to": one_of(it.pair[1]), "protocol": it.stretch.protocol, "port": it.stretch.low}
+        rows.append({"line": it.of.number, "expectation": it.of.text, "packet": packet, "verdict": it.stretch.word, **told.for_programs()})
+    broken = sum(not it.unsure for it in found)
+    held = f"{len(expected) - len(found)} of {counted(len(expected), 'expectation holds', 'expectations hold')}"
+    doubtful = f", and of {len(found) - broken} that isn't sure" if len(found) > broken else ""
+    return Report("check", held + doubtful, HEADS, cells, rows, asked.notes(), TELLS if broken else UNSURE if found else NOTHING)
 
 
-def counterexample(asked: Asked, it: Expectation) -> Optional[tuple[Expectation, tuple[End, End], Stretch, tuple[str, ...]]]:
-    """A packet that shows that an expectation doesn't hold, or None."""
+class Shown(NamedTuple):
+    """A packet that shows that an expectation doesn't hold, or that it may not, where `unsure` says what isn't read."""
+
+    of: Expectation
+    pair: tuple[End, End]
+    stretch: Stretch
+    reasons: tuple[str, ...]
+    unsure: tuple[str, ...]
+
+
+def shown_by(asked: Asked, it: Expectation) -> Optional[Shown]:
+    """A packet that shows that an expectation doesn't hold, else one that may show it, or None."""
     listed_pairs = list(pairs(asked.halves, it.source, it.target))
-    about = asked.about(listed_pairs, it.ports, is_open=it.word == NEVER)
-    for pair, stretch in shown(about):
-        return it, pair, stretch, about.reasons(stretch)
+    broken = asked.about(listed_pairs, it.ports, is_open=it.word == NEVER)
+    for pair, stretch in stretches_of(broken):
+        return Shown(it, pair, stretch, broken.reasons(stretch), ())
+    if asked.halves.beside.has_doubts:
+        about = asked.about(listed_pairs, it.ports, is_open=it.word != NEVER)
+        for pair, stretch in stretches_of(about):
+            doubts = about.unsure(*pair, stretch)
+            if doubts:
+                return Shown(it, pair, stretch, about.reasons(stretch), doubts)
     return None
 
 
-def shown(about: About) -> Iterable[tuple[tuple[End, End], Stretch]]:
+def stretches_of(about: About) -> Iterable[tuple[tuple[End, End], Stretch]]:
     for pair in about.pairs:
         yield from ((pair, it) for it in about.stretches(*pair))
 

@@ -91,7 +91,8 @@ class Diff:
         """The halves of a connection that may change, before and after."""
         return [pair for pair in zip(wanted(source, target, 0), wanted(source, target, 1)) if self.key(pair[0]) != self.key(pair[1])]
 
-    def key(self, it: Wanted):
+    def key(self, it: Wanted) -> tuple:
+        """What the verdicts of a half depend on."""
         half = self.halves.half(*it[:3])
         names = self.beside.names(*it[:3]) if isinstance(it[3], Outside) and it[3].kind == "name" else []
         return half, self.halves.alike(half, it[3]), tuple((one.place, one.names) for one in names)

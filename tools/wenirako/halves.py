@@ -8,7 +8,7 @@ Verdicts are asked with all policies in force, reasons with those of the half by
 """
 from __future__ import annotations
 
-from typing import Callable, Iterable, NamedTuple, Optional, Sequence, Union
+from typing import Callable, Iterable, NamedTuple, Optional, Sequence, TypeVar, Union
 
 from lib import ports, regions
 
@@ -21,6 +21,7 @@ from .selecting import Half, Selection
 # A number that nobody has.
 NOBODY = ("identity", 4_294_967_295)
 
+Made = TypeVar("Made")
 # The other side of a half: the number of a set of labels, or what isn't a pod.
 Side = Union[int, Outside]
 
@@ -76,7 +77,7 @@ class Halves:
     def half(self, phase: int, at: int, direction: str) -> Half:
         return self.selections[phase].half(at, direction)
 
-    def foreseen(self, work: Callable[[], object]):
+    def foreseen(self, work: Callable[[], Made]) -> Made:
         """Does the work, once more where the core refuses other policies than was foreseen; and what came of it."""
         for _ in range(3):
             try:
@@ -159,7 +160,7 @@ class Halves:
 
     # What is alike.
 
-    def once(self, make: Callable, half: Half):
+    def once(self, make: Callable[[Half], Made], half: Half) -> Made:
         """What is made of a half, made once."""
         key = (make, half)
         if key not in self.kept:
@@ -169,7 +170,7 @@ class Halves:
     def stretches(self, half: Half) -> dict:
         return self.once(stretches_of, half)
 
-    def alike(self, half: Half, side: Side):
+    def alike(self, half: Half, side: Side) -> object:
         """What a half's rules can tell of an other side: sides of which they can tell the same are judged alike."""
         if isinstance(side, Outside):
             return side if side.kind != "name" else Outside("region", side.region, side.prefixes)

@@ -4,7 +4,7 @@ from __future__ import annotations
 import argparse
 import pathlib
 import sys
-from typing import Callable, Optional, Sequence
+from typing import Any, Callable, Optional, Sequence
 
 from lib import labels, state as bridge
 from lib.reading import Bad, decoded, text_of
@@ -33,7 +33,7 @@ class Run:
         for line in text.split("\n"):
             print(f"{self.command}: {line}", file=sys.stderr, flush=True)
 
-    def option(self, name: str):
+    def option(self, name: str) -> Any:
         return getattr(self.words, name, None)
 
     # What is asked about.

@@ -11,7 +11,7 @@ import importlib
 import json
 import pathlib
 import sys
-from typing import Callable, NamedTuple, Optional
+from typing import Any, Callable, NamedTuple, Optional
 
 from . import children
 from .progress import Progress
@@ -33,7 +33,7 @@ class Program(NamedTuple):
     origin: str
 
 
-def of_tests(name: str):
+def of_tests(name: str) -> Any:
     """A module of tests/, which an archive doesn't have."""
     if str(TOP / "tests") not in sys.path:
         sys.path.insert(0, str(TOP / "tests"))

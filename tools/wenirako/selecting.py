@@ -5,7 +5,7 @@ something isolates it, and each entry that an answer names must be of a rule tha
 """
 from __future__ import annotations
 
-from typing import Iterable, NamedTuple, Sequence
+from typing import Any, Iterable, NamedTuple, Sequence
 
 EGRESS, INGRESS = "egress", "ingress"
 DIRECTIONS = (EGRESS, INGRESS)
@@ -16,10 +16,10 @@ class Rule(NamedTuple):
     """A rule of a policy: rules with equal lines say the same, whatever state they are of."""
 
     line: str
-    part: object
+    part: Any
 
     @property
-    def policy(self):
+    def policy(self) -> Any:
         """The policy as it was written."""
         found = self.part
         while found.whole is not found:

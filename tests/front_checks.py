@@ -1,0 +1,430 @@
+"""Checks of the front door, with tests/standin.py in the place of policyd: what each question answers, and its words.
+
+What each must say is worked out from docs/RULES.md and the small clusters that are made here.
+"""
+import ast
+import json
+import os
+import pathlib
+import shutil
+import signal
+import subprocess
+import sys
+import tempfile
+import time
+
+import compare
+import front_random
+import schema
+from archive import Archive
+from play_checks import told
+from recipes_checks import NAMESPACE, PODS, policy
+from wenirako import drawing, flows, listing, progress, resolving, words, writing
+from wenirako.report import Report
+
+TOP = compare.TOP
+EXAMPLE = TOP / "examples" / "cluster"
+STATE = ["--state", str(EXAMPLE / "state.json")]
+BOTH = ["--add", str(EXAMPLE / "proposed.json"), "--add", str(EXAMPLE / "cart-to-ledger.json")]
+ROW = ["shop/cart-5d8b4-t6k9z", "pay/ledger-0", "TCP 8443", "denied-by-default", "allowed"]
+DECIDED = ["egress: shop/cart-to-ledger#0.egress[0]", "ingress: pay/ledger-from-cart#0.ingress[0]"]
+
+
+def listed(*items):
+    return json.dumps({"apiVersion": "v1", "kind": "List", "items": items})
+
+
+def cells(out):
+    """The cells of a table's lines, behind its heads."""
+    return [[cell for cell in line.split("  ") if cell] for line in out.splitlines()[1:]]
+
+
+def stripped(out):
+    return [[cell.strip() for cell in line] for line in cells(out)]
+
+
+# The questions.
+
+
+def a_change_is_told(folder, wrong):
+    archive = Archive(folder)
+    status, out, err = archive.call("diff", *STATE, *BOTH)
+    told(wrong, "the status", status, 3)
+    told(wrong, "the rows", stripped(out), [[*ROW, "; ".join(DECIDED)]])
+    told(wrong, "what is said at last", err.splitlines()[-1], "wenirako: 1 line of connections opens")
+    status, out, err = archive.call("diff", *STATE, *BOTH[:2])
+    told(wrong, "with one half", (status, out), (0, ""))
+    half = "wenirako: shop/cart-5d8b4-t6k9z to pay/ledger-0, TCP 8443: a half changes, and the connection stays denied-by-default (egress: no entry allows it)"
+    told(wrong, "what is said of it", (err.splitlines()[0], err.splitlines()[-1]), (half, "wenirako: no connection changes"))
+    told(wrong, "from standard input", archive.call("diff", "--state", "-", *BOTH, given=(EXAMPLE / "state.json").read_text())[:2], archive.call("diff", *STATE, *BOTH)[:2])
+
+
+def forms_agree(folder, wrong):
+    archive = Archive(folder)
+    form = json.loads((TOP / "docs" / "answer.schema.json").read_text())
+    value = json.loads(archive.call("diff", *STATE, *BOTH, "--format", "json")[1])
+    wrong += schema.wrong_with(value, form, form)
+    row = {"from": [{"pod": ROW[0]}], "to": [{"pod": ROW[1]}], "ports": [{"protocols": ["TCP"], "ranges": [[8443, 8443]]}]}
+    told(wrong, "the rows for programs", value["rows"], [{**row, "before": ROW[3], "after": ROW[4], "decided_by": DECIDED}])
+    told(wrong, "its program", value["program"], {"commit": "0123456789ab", "proved": False})
+    text = archive.call("diff", *STATE, *BOTH, "--format", "markdown")[1]
+    told(wrong, "the comment's first line", text.splitlines()[0], "**1 line of connections opens.**")
+    told(wrong, "its table", "| shop/cart-5d8b4-t6k9z | pay/ledger-0 | TCP 8443 | denied-by-default | allowed | " in text, True)
+    told(wrong, "its details", "<details><summary>What to mind</summary>" in text, True)
+    text = archive.call("diff", *STATE, *BOTH, "--format", "dot")[1]
+    told(wrong, "the graph's arrow", '  "shop/cart" -> "pay/ledger-0" [label="TCP 8443", color="#1a7f37", tooltip="opens"]' in text, True)
+    if shutil.which("dot"):
+        told(wrong, "what Graphviz says", subprocess.run(["dot", "-Tsvg"], input=text.encode(), stdout=subprocess.DEVNULL).returncode, 0)
+    page = archive.call("diff", *STATE, *BOTH, "--format", "html")[1]
+    told(wrong, "whether the page asks for a file of the network", [it for it in ("http:", "https:", "src=", "<link") if it in page], [])
+
+
+def what_is_open(folder, wrong):
+    archive = Archive(folder)
+    status, out, _ = archive.call("list", *STATE, "--from", "shop/cart", "--port", "TCP/5432")
+    told(wrong, "from the cart", (status, stripped(out)), (0, [["shop/cart-5d8b4-t6k9z", "10.9.0.0/16 but for 10.9.7.0/24", "TCP 5432", "egress: shop/cart-traffic#0.egress[0]"]]))
+    _, out, _ = archive.call("list", *STATE, "--to", "pay/ledger-0", "--from", "*", "--by", "workload")
+    told(wrong, "to the ledger", stripped(out), [["pay/teller", "pay/ledger-0", "TCP 8443", "every pod"]])
+    _, out, err = archive.call("list", *STATE, "--from", "world", "--to", "pay/*")
+    told(wrong, "from the world", (out, err.splitlines()[-1]), ("", "wenirako: nothing is open"))
+    value = json.loads(archive.call("list", *STATE, *BOTH, "--from", "shop/cart", "--to", "pay/*", "--format", "json")[1])
+    told(wrong, "with the policies", [(it["decided_by"], it["verdict"]) for it in value["rows"]], [(DECIDED, "allowed")])
+    form = json.loads((TOP / "docs" / "answer.schema.json").read_text())
+    wrong += schema.wrong_with(value, form, form)
+
+
+def why_is_told(folder, wrong):
+    archive, form = Archive(folder), json.loads((TOP / "docs" / "answer.schema.json").read_text())
+    isolated = "no entry allows it; isolated by shop/cart-traffic"
+    status, out, err = archive.call("why", "shop/cart", "pay/ledger-0", "TCP/8443", *STATE, *BOTH[:2])
+    told(wrong, "the status", status, 3)
+    told(wrong, "the halves", [it[3:] for it in stripped(out)], [
+        ["denied-by-default", "egress of shop/cart-5d8b4-t6k9z", "denied-by-default", isolated],
+        ["denied-by-default", "ingress of pay/ledger-0", "allowed", "pay/ledger-from-cart#0.ingress[0]"],
+    ])
+    told(wrong, "what is said at last", err.splitlines()[-1], "wenirako: shop/cart to pay/ledger-0, TCP 8443: denied-by-default")
+    status, out, _ = archive.call("why", "shop/cart", "pay/ledger-0", "8443/tcp", *STATE, *BOTH)
+    told(wrong, "with both", (status, {it[3] for it in stripped(out)}), (0, {"allowed, and denied-by-default before"}))
+    status, out, _ = archive.call("why", "198.51.100.7", "pay/ledger-0", "TCP/8443", *STATE, "--format", "json")
+    value = json.loads(out)
+    wrong += schema.wrong_with(value, form, form)
+    told(wrong, "from an address", value["rows"][0]["halves"], [{"direction": "ingress", "verdict": "denied-by-rule", "reason": "finance-guard#0.ingressDeny[0]"}])
+    told(wrong, "from the node", archive.call("why", "host", "pay/ledger-0", "TCP/1", *STATE)[0], 0)
+    told(wrong, "from a pod to itself", archive.call("why", "pay/ledger-0", "pay/ledger-0", "TCP/1", *STATE)[2].splitlines()[-1], "wenirako: pay/ledger-0 to pay/ledger-0, TCP 1: no such packet")
+
+
+def expectations_are_held(folder, wrong):
+    archive, form = Archive(folder), json.loads((TOP / "docs" / "answer.schema.json").read_text())
+    text = "# the ledger\npay/teller -> pay/ledger-0 TCP 8443 always\nweb -> pay/ledger-0 TCP 8443 never\n\nworld -> pay/* any never\nshop/cart -> 10.9.0.0/16 TCP 5432 always\n"
+    name = archive.write("expected", text)
+    status, out, err = archive.call("check", name, *STATE)
+    row = ["6", "shop/cart -> 10.9.0.0/16 TCP 5432 always", "shop/cart-5d8b4-t6k9z", "10.9.7.0/24", "TCP 5432", "denied-by-default"]
+    told(wrong, "what doesn't hold", (status, [it[:6] for it in stripped(out)]), (3, [row]))
+    told(wrong, "how many hold", err.splitlines()[-1], "wenirako: 3 of 4 expectations hold")
+    broken = archive.write("broken", "shop/cart -> pay/ledger-0 TCP 8000-9000 never # until it is\n")
+    told(wrong, "before", archive.call("check", broken, *STATE)[:2], (0, ""))
+    value = json.loads(archive.call("check", broken, *STATE, *BOTH, "--format", "json")[1])
+    wrong += schema.wrong_with(value, form, form)
+    packet = {"from": {"pod": ROW[0]}, "to": {"pod": ROW[1]}, "protocol": "TCP", "port": 8443}
+    told(wrong, "after", [(it["packet"], it["verdict"], it["decided_by"]) for it in value["rows"]], [(packet, "allowed", DECIDED)])
+    for line, what in (
+        ("a -> b TCP 80", "'a -> b TCP 80' is no expectation: it is FROM -> TO PROTOCOL PORT always|never, such as `web -> pay/ledger TCP 8443 never`"),
+        ("web -> pay/ldeger TCP 1 never", "pay/ldeger names nobody: there are pay/any other pod of pay, pay/ledger-0, pay/nightly, pay/teller"),
+        ("web -> pya/ledger TCP 1 never", "pya/ledger names nobody: there are the namespaces pay, shop"),
+        ("web -> pay/* ICMP never", "ICMP is no protocol that policies are asked about: there are TCP, UDP and SCTP"),
+        ("web -> pay/* TCP 70000 never", "'TCP 70000' is no port: ports are 0 to 65535"),
+        ("web -> 10.0.0.300 TCP 7 never", "10.0.0.300 names nobody"),
+    ):
+        status, out, err = archive.call("check", archive.write("bad", f"\n{line}\n"), *STATE)
+        front = f"wenirako: {archive.top}/bad, line 2: {what}"
+        told(wrong, f"at {line}", (status, out, err.startswith(front)), (1, "", True) if err.startswith(front) else (1, "", front + " <> " + err))
+
+
+def flow(source, target, port, time="2026-01-01T00:00:00Z", **more):
+    """A flow as Hubble prints it; an end is a pod's name, or labels with an address."""
+    def end(it):
+        namespace, _, name = it.partition("/") if isinstance(it, str) else ("", "", "")
+        return {"namespace": namespace, "pod_name": name} if isinstance(it, str) else {"labels": it[0]}
+
+    address = lambda it: "10.0.0.1" if isinstance(it, str) else it[1]
+    found = {"time": time, "verdict": "FORWARDED", "IP": {"source": address(source), "destination": address(target)}, "l4": {"TCP": {"source_port": 40000, "destination_port": port}}}
+    return json.dumps({"flow": {**found, "source": end(source), "destination": end(target), "Type": "L3_L4", **more}, "node_name": "n1", "time": time})
+
+
+def flows_are_replayed(folder, wrong):
+    archive, form = Archive(folder), json.loads((TOP / "docs" / "answer.schema.json").read_text())
+    shut = policy("shut", {"endpointSelector": {"matchLabels": {"app": "ledger"}}, "ingress": [{"fromEndpoints": [{"matchLabels": {"app": "auditor"}}]}]}, "pay")
+    teller, ledger, times = "pay/teller-6c9f7-hx2wd", "pay/ledger-0", ["2026-01-0{}T00:00:00Z".format(it) for it in (3, 1, 2)]
+    gone = (["k8s:app=teller", "k8s:io.kubernetes.pod.namespace=pay", "k8s:io.cilium.k8s.policy.cluster=default", "k8s:old=yes"], "10.0.9.9")
+    lines = [
+        *(flow(teller, ledger, 8443, it) for it in times),
+        flow("shop/web-7f6c8-bb4np", "shop/cart-5d8b4-t6k9z", 8081),
+        flow((["reserved:world"], "198.51.100.7"), "shop/web-7f6c8-bb4np", 443),
+        flow(gone, ledger, 8443),
+        flow(teller, ledger, 8443, is_reply=True),
+        flow(teller, ledger, 8443, verdict="DROPPED"),
+        flow(teller, ledger, 8443, l4={"ICMPv4": {"type": 8}}),
+        flow("shop/cart-5d8b4-t6k9z", ledger, 8443),
+    ]
+    name, new = archive.write("flows", "\n".join(lines) + "\n"), archive.write("shut.json", shut)
+    status, out, err = archive.call("replay", name, *STATE)
+    told(wrong, "what the state drops", (status, [it[3] for it in stripped(out)]), (3, ["1"]))
+    removed = ["--remove", "cnp/pay/ledger-clients", "--add", new]
+    status, out, err = archive.call("replay", name, *STATE, *removed, "--format", "json")
+    value = json.loads(out)
+    wrong += schema.wrong_with(value, form, form)
+    rows = [(it["from"], it["count"], it["first"], it["last"], it["dropped_by"]) for it in value["rows"]]
+    told(wrong, "what is dropped", (status, rows), (3, [
+        ([{"pod": teller}], 3, times[1], times[0], "ingress: no entry allows it; isolated by finance-guard, pay/shut"),
+        ([{"pod": "pay/teller"}], 1, "2026-01-01T00:00:00Z", "2026-01-01T00:00:00Z", "ingress: no entry allows it; isolated by finance-guard, pay/shut"),
+    ]))
+    told(wrong, "what was left out", [it for it in value["notes"] if "replies" in it or "forwarded" in it or "TCP, UDP" in it], [
+        "left out: flows that aren't of TCP, UDP or SCTP: 1", "left out: flows that weren't forwarded: 1", "left out: replies: 1"])
+    told(wrong, "what was denied already", any(it.startswith("1 flow is denied before the change too") for it in value["notes"]), True)
+    for text, what in (("nothing", "no JSON"), ("{}", None), ('{"flow": 3}', "it has no flow"), ("", "no flow is in it")):
+        status, _, err = archive.call("replay", archive.write("bad", text), *STATE)
+        told(wrong, f"at {text!r}", (status, what is None or what in err), (0 if what is None else 1, True))
+
+
+def two_states_are_compared(folder, wrong):
+    """Pods stand for each other by their names, or by their workload; policies are those of each state."""
+    archive = Archive(folder)
+    shut = policy("shut", {"endpointSelector": {"matchLabels": {"app": "cart"}}, "ingress": [{"fromEndpoints": [{"matchLabels": {"app": "web"}}]}]})
+    before = archive.write("before.json", listed(NAMESPACE, *PODS))
+    after = archive.write("after.json", listed(NAMESPACE, *PODS, shut))
+    told(wrong, "the same", archive.call("diff", "--state", before, "--state-after", before)[0], 0)
+    status, out, _ = archive.call("diff", "--state", before, "--state-after", after)
+    told(wrong, "what shuts", (status, sorted({(it[1], it[4]) for it in stripped(out)})), (3, [("shop/cart", "denied-by-default")]))
+    told(wrong, "whether the web may still", any("shop/web" in it[0] for it in stripped(out)), False)
+    _, out, _ = archive.call("diff", "--state", after, "--state-after", before)
+    told(wrong, "what opens", sorted({(it[1], it[4]) for it in stripped(out)}), [("shop/cart", "allowed")])
+
+
+def slips_are_asked_of_the_bridge(folder, wrong):
+    archive, form = Archive(folder), json.loads((TOP / "docs" / "answer.schema.json").read_text())
+    slip = archive.write("slip.json", policy("slip", {"endpointSelector": {"matchLabels": {"app": "crat"}}, "ingress": [{}]}))
+    status, out, _ = archive.call("lint", *STATE, "--add", slip, "--format", "json")
+    value = json.loads(out)
+    wrong += schema.wrong_with(value, form, form)
+    told(wrong, "the slip", (status, [it["policy"] for it in value["rows"]]), (3, ["shop/slip"]))
+
+
+# Words.
+
+
+def words_agree(folder, wrong):
+    archive = Archive(folder)
+    for given, what in (
+        (["none"], "none: no question is called so"),
+        (["diff", *STATE], "nothing to change: --add FILE, --remove KIND/NAMESPACE/NAME or --state-after FILE"),
+        (["diff", *STATE, "--bogus"], "unrecognized arguments: --bogus"),
+        (["diff", *STATE, *STATE, *BOTH], "--state stands twice"),
+        (["diff", *STATE, *BOTH, "--format", "yaml"], "argument --format: invalid choice: 'yaml'"),
+        (["check", "x", *STATE, "--format", "html"], "argument --format: invalid choice: 'html'"),
+        (["diff", *STATE, *BOTH, "--state-after", "x"], "--state-after is a whole state: --add and --remove would change another one"),
+        (["diff", *STATE, *BOTH, "--save", "x"], "--state names a file, so kubectl isn't asked: --save and --context have nothing to do"),
+        (["check", "-", "--state", "-"], "- is standard input, which can be read once"),
+        (["why", "a", "b", *STATE], "the following arguments are required: PROTOCOL/PORT"),
+        (["list", *STATE, "--by", "node"], "argument --by: invalid choice: 'node'"),
+    ):
+        status, out, err = archive.call(*given)
+        told(wrong, f"at {given}", (status, out, err.splitlines()[0].startswith(f"wenirako: {what}")), (2, "", True))
+    told(wrong, "no words", archive.call()[0], 2)
+    status, out, _ = archive.call("--help")
+    told(wrong, "help", (status, len(out.splitlines()) <= 24, max(map(len, out.splitlines())) <= 80), (0, True, True))
+    told(wrong, "whether help has each question", [it for it in words.QUESTIONS if f"  {it} " not in out and f"  {it}\n" not in out], [])
+    told(wrong, "a question's help", archive.call("diff", "--help")[0], 0)
+    for given, what in ((["diff", "--state", "lost", *BOTH], "lost: No such file"), (["list", *STATE, "--from", "lost"], "--from: lost names nobody"), (["list", *STATE, "--node", "n9"], "--node n9: no pod")):
+        status, out, err = archive.call(*given)
+        told(wrong, f"at {given}", (status, out, err.startswith(f"wenirako: {what}")), (1, "", True))
+    told(wrong, "with no word of a script", archive.call("play")[0], 2)
+    told(wrong, "a script", archive.call("play", "-", given='{"op":"sync"}\n')[:2], (0, "synced 0\n"))
+
+
+def bash_completes(folder, wrong):
+    archive = Archive(folder)
+    script = archive.write("completion", archive.call("completion", "bash")[1])
+    for line, wanted in (
+        (["wenirako", "di"], "diff"),
+        (["wenirako", "diff", "--sta"], "--state --state-after"),
+        (["wenirako", "list", "--by", ""], " ".join(listing.BY)),
+        (["wenirako", "why", "--form"], "--format"),
+        (["wenirako", "diff", "--format", "ht"], "html"),
+    ):
+        names = " ".join(f"'{it}'" for it in line)
+        text = f"source '{script}'; COMP_WORDS=({names}); COMP_CWORD={len(line) - 1}; _wenirako; echo ${{COMPREPLY[@]}}"
+        told(wrong, f"what completes {line}", subprocess.run(["bash", "-c", text], stdout=subprocess.PIPE, text=True).stdout.strip(), wanted)
+
+
+# kubectl and signals.
+
+KUBECTL = """#!/usr/bin/env python3
+import json, os, sys
+words = sys.argv[1:]
+with open(os.environ["ASKED"], "a") as file:
+    file.write(" ".join(words) + "\\n")
+kind = words[words.index("get") + 1].partition(".")[0]
+state = json.load(open(os.environ["GIVES"]))
+if kind == os.environ.get("REFUSES"):
+    sys.exit(f'Error from server (Forbidden): {kind} is forbidden')
+if kind.startswith("ciliumclusterwide"):
+    print("error: the server doesn't have a resource type", file=sys.stderr)
+    sys.exit(1)
+names = {"namespaces": "Namespace", "pods": "Pod", "networkpolicies": "NetworkPolicy", "ciliumnetworkpolicies": "CiliumNetworkPolicy", "services": "Service"}
+items = [it for it in state["items"] if it["kind"] == names.get(kind)]
+print(json.dumps({"apiVersion": "v1", "kind": "List", "items": items}))
+"""
+
+
+def kubectl_is_asked(folder, wrong):
+    archive = Archive(folder)
+    for name, text in (("path/kubectl", KUBECTL), ("path/kubectl-wenirako", None)):
+        path = archive.top / name
+        path.parent.mkdir(exist_ok=True)
+        path.symlink_to(archive.top / "wenirako") if text is None else path.write_text(text)
+        path.chmod(0o755)
+    os.environ.update(ASKED=str(archive.top / "asked"), GIVES=str(EXAMPLE / "state.json"))
+    how = {"command": str(archive.top / "path" / "kubectl-wenirako"), "path": str(archive.top / "path")}
+    status, out, err = archive.call("diff", *BOTH, "--save", "kept.json", "--context", "east", **how)
+    # (the state that is given has no clusterwide policy, so the cart needs no more)
+    told(wrong, "the rows", (status, [it[:5] for it in stripped(out)]), (3, [ROW]))
+    told(wrong, "what kubectl wouldn't give", err.splitlines()[0], "kubectl wenirako: kubectl gave no ciliumclusterwidenetworkpolicies.cilium.io: the server doesn't have a resource type")
+    asked = (archive.top / "asked").read_text().splitlines()
+    told(wrong, "what was asked", [it for it in asked if not (it.startswith("--context east get ") and it.endswith(" -A -o json"))], [])
+    told(wrong, "how many kinds", len(asked) > 7, True)
+    told(wrong, "with what was kept", archive.call("diff", "--state", "kept.json", *BOTH)[:2], (status, out))
+    os.environ["REFUSES"] = "pods"
+    status, out, err = archive.call("list", **how)
+    told(wrong, "without pods", (status, out, err), (1, "", "kubectl wenirako: kubectl gave no pods: Error from server (Forbidden): pods is forbidden\n"))
+    os.environ.pop("REFUSES")
+    told(wrong, "without kubectl", archive.call("list", command=sys.executable, path="", given="")[0] != 0, True)
+
+
+def children_end_too(folder, wrong):
+    """A signal ends what the front door has started, within seconds."""
+    archive = Archive(folder, '#!/bin/sh\necho $$ >"$(dirname "$0")/pid"\nsleep 60 &\nwait\n')
+    for number, wanted in ((signal.SIGTERM, 143), (signal.SIGINT, 130), (signal.SIGHUP, 143)):
+        heeds = lambda: [signal.signal(it, signal.SIG_DFL) for it in (signal.SIGINT, signal.SIGHUP)]
+        run = subprocess.Popen(["./wenirako", "diff", *STATE, *BOTH], cwd=archive.top, preexec_fn=heeds, stdout=subprocess.PIPE, stderr=subprocess.PIPE)
+        path = archive.top / "bin" / "pid"
+        until = time.monotonic() + 120
+        while time.monotonic() < until and not (path.is_file() and path.read_text().strip()):
+            time.sleep(0.05)
+        run.send_signal(number)
+        said = run.communicate(timeout=60)
+        told(wrong, f"the status at {number}", (run.returncode, said[0]), (wanted, b""))
+        told(wrong, f"what is left at {number}", is_left(int(path.read_text())), False)
+        path.unlink()
+
+
+def is_left(group):
+    """Whether some process of a group still runs."""
+    try:
+        os.killpg(group, 0)
+    except ProcessLookupError:
+        return False
+    states = subprocess.run(["ps", "-o", "stat=", "-g", str(group)], stdout=subprocess.PIPE, text=True).stdout.split()
+    return any(not it.startswith("Z") for it in states)
+
+
+def other_programs_are_not_asked(folder, wrong):
+    archive = Archive(folder)
+    (archive.top / "bin" / "policyd").write_text("#!/bin/sh\necho another\n")
+    status, out, err = archive.call("diff", *STATE, *BOTH)
+    told(wrong, "another program", (status, out, "its sum is another one" in err), (70, "", True))
+    broken = Archive(pathlib.Path(folder) / "broken", "#!/bin/sh\necho no room >&2\nexit 3\n")
+    status, out, err = broken.call("diff", *STATE, *BOTH)
+    told(wrong, "one without answers", (status, out, err), (70, "", "wenirako: policyd ended with the status 3: no room\n"))
+
+
+# Modules.
+
+
+def progress_lives(_, wrong):
+    class Stream:
+        def __init__(self, is_terminal):
+            self.text, self.isatty, self.flush = "", lambda: is_terminal, lambda: None
+
+        def write(self, text):
+            self.text += text
+
+    now = [0.0]
+    for is_terminal, is_quiet, wanted in (
+        (False, False, "x: asking: 10 of 40 since 1 min 1 s, about 3 min 3 s left\n"),
+        (False, True, ""),
+        (True, False, "\r[######..................] asking: 10 of 40 since 1 min 1 s, about 3 min 3 s left\x1b[K\r\x1b[K"),
+    ):
+        now[0], stream = 0.0, Stream(is_terminal)
+        bar = progress.Progress("x", is_quiet, stream, lambda: now[0])
+        bar.begin("asking", 40)
+        bar.tick()
+        now[0] = 61.0
+        bar.step(10)
+        bar.end()
+        told(wrong, f"on a terminal: {is_terminal}, quiet: {is_quiet}", stream.text, wanted)
+
+
+def ports_are_read(_, wrong):
+    every = ("TCP", "UDP", "SCTP")
+    for text, wanted in (
+        ("TCP/8443", (("TCP",), 8443, 8443)), ("8443/tcp", (("TCP",), 8443, 8443)), ("tcp 80-90", (("TCP",), 80, 90)),
+        ("53", (every, 53, 53)), ("any", (every, 0, 65535)), ("UDP", (("UDP",), 0, 65535)), ("any 53", (every, 53, 53)),
+    ):
+        told(wrong, text, tuple(resolving.port_range(text, "at")), wanted)
+    found = resolving.port_range("TCP/80-90", "at")
+    told(wrong, "cuts", [found.cut("TCP", 0, 85), found.cut("TCP", 91, 99), found.cut("UDP", 80, 80)], [(80, 85), None, None])
+
+
+def unions_and_flat_ranges(_, wrong):
+    told(wrong, "ranges", listing.flat([(5, 9), (1, 3), (2, 4), (20, 20)]), [(1, 9), (20, 20)])
+    one, other = ((("TCP",), ((1, 5),)),), ((("TCP", "UDP"), ((4, 9),)),)
+    told(wrong, "ports", listing.union([one, other]), ((("TCP",), ((1, 9),)), (("UDP",), ((4, 9),))))
+
+
+def forms_are_safe(_, wrong):
+    """Names can't break out of a table of Markdown, a graph or a page."""
+    name = 'a|b"</script><b>\n'
+    found = Report("diff", name, ("ONE",), [[name]], [])
+    told(wrong, "Markdown", ("</script>" in writing.markdown(found), "a\\|b" in writing.markdown(found)), (False, True))
+    told(wrong, "the graph", drawing.quoted(name), json.dumps(name))
+    long = Report("diff", "many", ("ONE",), [["x" * 200]] * 1000, [])
+    told(wrong, "a comment's size", len(writing.markdown(long)) < 65_536, True)
+
+
+def flows_are_read(_, wrong):
+    found = flows.Flows("\n".join([flow("a/x", "a/y", 80, "2026-01-02T00:00:00Z"), flow("a/x", "a/y", 80, "2026-01-01T00:00:00Z"), flow("a/x", "a/y", 81, verdict=1)]), "name")
+    told(wrong, "counts", [(it.port, seen.count, seen.first[:10], seen.last[:10]) for it, seen in found.seen.items()], [(80, 2, "2026-01-01", "2026-01-02"), (81, 1, "2026-01-01", "2026-01-01")])
+    one = flows.FlowEnd("", "", ("reserved:kube-apiserver", "reserved:remote-node"), "")
+    told(wrong, "the API server", one.entity, 7)
+
+
+def modules_are_small(_, wrong):
+    """Each module is of Python 3.9, under 400 lines, and each function under 40."""
+    for path in sorted((TOP / "tools" / "wenirako").glob("*.py")):
+        text = path.read_text()
+        tree = ast.parse(text, feature_version=(3, 9))
+        told(wrong, f"{path.name} under 400 lines", len(text.splitlines()) < 400, True)
+        long = [it.name for it in ast.walk(tree) if isinstance(it, ast.FunctionDef) and it.end_lineno - it.lineno >= 40]
+        told(wrong, f"long functions of {path.name}", long, [])
+        bare = [it.name for it in ast.walk(tree) if isinstance(it, ast.FunctionDef) and it.returns is None and it.name != "__init__"]
+        told(wrong, f"functions of {path.name} without a type", [it for it in bare if not it.startswith("_")], [])
+
+
+def random_changes_are_told(_, wrong):
+    for seed in (1, 2):
+        wrong += front_random.play(seed)[0]
+
+
+def run(check):
+    with tempfile.TemporaryDirectory() as folder:
+        wrong = []
+        check(folder, wrong)
+        return wrong
+
+
+def checks():
+    found = (a_change_is_told, forms_agree, what_is_open, why_is_told, expectations_are_held, flows_are_replayed)
+    found += (two_states_are_compared, slips_are_asked_of_the_bridge, words_agree, bash_completes, kubectl_is_asked)
+    found += (children_end_too, other_programs_are_not_asked, progress_lives, ports_are_read, unions_and_flat_ranges)
+    found += (forms_are_safe, flows_are_read, modules_are_small, random_changes_are_told)
+    return [(f"front door {it.__name__.replace('_', ' ')}", lambda it=it: run(it)) for it in found]
