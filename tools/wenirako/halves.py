@@ -148,7 +148,7 @@ class Halves:
     def in_force(self, it: Question) -> tuple:
         """The policies that select a question's endpoint and speak of its direction, as the core is given them."""
         rules = self.half(it.phase, it.at, it.direction).rules
-        return tuple({rule.part.whole.line: rule.part.whole for rule in rules}.values())
+        return tuple({rule.given.line: rule.given for rule in rules}.values())
 
     def why(self, segment: Segment) -> Answer:
         answer = self.answers[segment.question]

@@ -13,15 +13,19 @@ OPPOSITE = {INGRESS: EGRESS, EGRESS: INGRESS}
 
 
 class Rule(NamedTuple):
-    """A rule of a policy: rules with equal lines say the same, whatever state they are of."""
+    """A rule by itself, and the policy that the core is given and that it is of.
+
+    Rules with equal lines say the same, whatever state they are of.
+    """
 
     line: str
     part: Any
+    given: Any
 
     @property
     def policy(self) -> Any:
         """The policy as it was written."""
-        found = self.part
+        found = self.given
         while found.whole is not found:
             found = found.whole
         return found
@@ -33,7 +37,7 @@ class Rule(NamedTuple):
         return [it[name] for it in rules if isinstance(it, dict) for name in (direction, f"{direction}Deny") if it.get(name)]
 
     def __eq__(self, other: object) -> bool:
-        return isinstance(other, Rule) and self.line == other.line and self.part.whole.line == other.part.whole.line
+        return isinstance(other, Rule) and self.line == other.line and self.given.line == other.given.line
 
     def __hash__(self) -> int:
         return hash(self.line)
@@ -54,7 +58,7 @@ class Selection:
     """The rules of one state of policies, and the sets of labels that each selects."""
 
     def __init__(self, sets: Sequence, policies: Iterable, refused: set[str]):
-        self.rules = [Rule(part.line, part) for it in policies if it.line not in refused for part in it.parts()]
+        self.rules = [Rule(part.line, part, it) for it in policies if it.line not in refused for part in it.parts()]
         self.by_namespace: dict[str, list[int]] = {}
         for at, it in enumerate(sets):
             self.by_namespace.setdefault(it.namespace, []).append(at)
