@@ -33,9 +33,9 @@ def in_process(lines, numbers):
     return standin.answers("".join(f"{it}\n" for it in lines).encode())
 
 
-def asked(of_states):
+def asked(of_states, node=None):
     """A question of these states, which asks the stand-in without running it."""
-    found = Asked(of_states, programs.Program(["none"], False, ""), Progress("random", True))
+    found = Asked(of_states, lambda: programs.Program(["none"], False, ""), Progress("random", True), node)
     found.halves.core.play = in_process
     return found
 

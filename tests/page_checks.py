@@ -86,7 +86,7 @@ def cells_fold_and_are_filtered(wrong):
         filter.value = 'guard'; filter.dispatchEvent(new Event('input'));
         told.push(cells());
         window.dispatchEvent(new Event('beforeprint'));
-        told.push(document.querySelectorAll('#all tbody tr').length, document.getElementById('notes').textContent.includes('a note </script>'))
+        told.push(document.querySelectorAll('#all tbody tr').length, document.getElementById('notes').textContent.includes('a note <' + '/script>'))
     """
     both = [["shop/*", "pay/*", "opens"], ["world", "pay/*", "shuts"]]
     told(wrong, "folded, filtered and printed", shown(example(), script), [both, both[1:], 2, True])

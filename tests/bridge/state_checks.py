@@ -4,7 +4,9 @@ import json
 from . import judged
 from .objects import app, behind, deployment, namespace, network, pod, policy, ports, service
 from lib import cluster as clusters, reading
-from lib.sides import Sides, whose
+from lib.sides import whose
+from wenirako.ends import Universe
+from wenirako.naming import Names
 
 TWO = [namespace("pay", team="finance"), namespace("shop"), pod("pay/web-7f-x", {"app": "web"}, "n1", "10.0.0.1", owner=("ReplicaSet", "web-7f")), pod("shop/cart", {"app": "cart"}, "n2", "10.0.0.2")]
 
@@ -53,13 +55,15 @@ def pods_that_come(told):
 
 def how_ends_that_come_are_written(told):
     state = judged.read([*TWO, deployment("pay/none", {"app": "none"}), namespace("dev"), namespace("ops")])
-    sides = Sides(state.cluster, None)
+    universe = Universe([state])
+    group_of = {pod.name: it for it in universe.groups for pod in it.pods}
+    names = lambda listed: Names(universe.groups).side(frozenset(group_of[it.name] for it in listed))
     by_name = {it.name: it for it in state.ends}
-    told("a template", sides.names([by_name["pay/none"]]), ["pay/none (Deployment)"])
+    told("a template", names([by_name["pay/none"]]), ["pay/none (Deployment)"])
     others = [by_name[f"any other pod of {it}"] for it in ("dev", "ops", "pay", "shop")]
-    told("of all", sides.names(others), ["any other pod"])
-    told("of two", sides.names(others[:2]), ["any other pod of dev, ops"])
-    told("of the pods there are", sides.names([by_name["shop/cart"], others[3]]), ["shop/cart", "any other pod of shop"])
+    told("of all", names(others), ["any other pod"])
+    told("of two", names(others[:2]), ["any other pod of dev, ops"])
+    told("of the pods there are", names([by_name["shop/cart"], others[3]]), ["shop/cart", "any other pod of shop"])
 
 
 def a_default_deny_that_goes(told):

@@ -1,7 +1,7 @@
 """What the questions about connections share: a universe, the halves, names, and the reasons of a stretch."""
 from __future__ import annotations
 
-from typing import Iterable, Optional, Sequence
+from typing import Callable, Iterable, Optional, Sequence
 
 from lib import regions
 
@@ -25,10 +25,10 @@ Piece = tuple
 class Asked:
     """A question's states, and the way to answers about them."""
 
-    def __init__(self, states: States, program: Program, progress: Progress, node: Optional[str] = None):
+    def __init__(self, states: States, find: Callable[[], Program], progress: Progress, node: Optional[str] = None):
         self.states, self.progress = states, progress
         self.universe = Universe(states.ends(), node, states.are_whole)
-        self.halves = Halves(self.universe, Core(program, self.universe.sets, progress), states.phases())
+        self.halves = Halves(self.universe, Core(find, self.universe.sets, progress), states.phases())
         self.names = Names(self.universe.groups)
 
     def about(self, pairs: Iterable[tuple[End, End]], ports: PortRange = EVERY_PORT, phase: int = 0, is_open: Optional[bool] = None) -> "About":
@@ -76,6 +76,12 @@ class About:
     def reasons(self, it: Stretch) -> tuple[str, ...]:
         halves = self.asked.halves
         return tuple(f"{direction}: {self.asked.why(halves.half_of(segment), segment)}" for direction, segment in sorted(self.deciding(it), key=lambda half: half[0]))
+
+    def marks(self, it: Stretch) -> tuple[str, ...]:
+        """The marks of what lets a stretch pass, where no entry without a mark does."""
+        halves = self.asked.halves
+        found = [one for _, segment in it.halves for one in self.asked.states.marks(halves.why(segment).allows)] if it.is_allowed else []
+        return tuple(dict.fromkeys(found))
 
     def unsure(self, source: End, target: End, it: Stretch) -> tuple[str, ...]:
         """The names of what isn't read and may turn the verdict on a stretch."""

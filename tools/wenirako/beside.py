@@ -1,7 +1,7 @@
 """What a state says beside its policies as they are read: unknown addresses of names, and what isn't read of policies."""
 from __future__ import annotations
 
-from typing import Iterable, NamedTuple, Sequence
+from typing import Any, Iterable, NamedTuple, Sequence
 
 from lib import ports, unsure
 
@@ -68,23 +68,31 @@ def has_port(entry: dict, protocol: str, port: int) -> bool:
     return not entry.get("toPorts") or any(low <= port <= high for low, high in ports.ranges(entry)[protocol])
 
 
-def named(profile: dict, entries: Sequence) -> dict:
-    """The world's profile as it is for the addresses of a name, which these entries open beside what opens the world."""
+def parted(profile: dict, entries: Sequence) -> dict:
+    """The world's profile, with a cut wherever an entry that opens unknown addresses begins or has just ended."""
     found = {}
     for protocol, segments in profile.items():
-        cuts = sorted({0, *(cut for it in entries for low, high in ranges(it.ports, protocol) for cut in (low, high + 1) if cut <= ports.LAST)})
-        found[protocol] = [part for it in segments for part in opened(it, cuts, entries, protocol)]
+        cuts = sorted({cut for it in entries for low, high in ranges(it.ports, protocol) for cut in (low, high + 1)})
+        found[protocol] = [part for it in segments for part in cut_at(it, cuts)]
     return found
+
+
+def named(profile: dict, entries: Sequence) -> dict:
+    """The world's profile as it is for the addresses of a name, which these entries open beside what opens the world."""
+    return {protocol: [opened(it, entries, protocol) for it in segments] for protocol, segments in parted(profile, entries).items()}
 
 
 def ranges(entry: dict, protocol: str) -> list[tuple[int, int]]:
     return ports.ranges(entry)[protocol] if entry.get("toPorts") else [(0, ports.LAST)]
 
 
-def opened(segment, cuts: Sequence[int], entries: Sequence, protocol: str) -> Iterable:
-    """A segment in parts, each with the entries that open it."""
+def cut_at(segment: Any, cuts: Sequence[int]) -> Iterable:
+    """A segment in parts."""
     lows = [segment.low, *(it for it in cuts if segment.low < it <= segment.high)]
-    for low, after in zip(lows, [*lows[1:], segment.high + 1]):
-        places = tuple(it.place for it in entries if has_port(it.ports, protocol, low))
-        part = segment._replace(low=low, high=after - 1)
-        yield part._replace(word=ALLOWED, names=places) if places and segment.word != BY_RULE else part
+    yield from (segment._replace(low=low, high=after - 1) for low, after in zip(lows, [*lows[1:], segment.high + 1]))
+
+
+def opened(segment: Any, entries: Sequence, protocol: str) -> Any:
+    """A segment with the entries that open it to the addresses of a name."""
+    places = tuple(it.place for it in entries if has_port(it.ports, protocol, segment.low))
+    return segment._replace(word=ALLOWED, names=places) if places and segment.word != BY_RULE else segment

@@ -8,7 +8,7 @@ from __future__ import annotations
 import concurrent.futures
 import os
 import re
-from typing import Callable, Iterable, NamedTuple, Sequence
+from typing import Callable, Iterable, NamedTuple, Optional, Sequence
 
 from lib.reading import line_of
 
@@ -82,8 +82,10 @@ class Core:
     thought to be refused: where the core says otherwise, `Misjudged` tells what it refuses.
     """
 
-    def __init__(self, program: Program, sets: Sequence, progress: Progress):
-        self.program, self.sets, self.progress = program, sets, progress
+    def __init__(self, find: Callable[[], Program], sets: Sequence, progress: Progress):
+        """`find` gives the program: it is called once, when there is something to ask."""
+        self.find, self.sets, self.progress = find, sets, progress
+        self.program: Optional[Program] = None
         self.phases: Sequence[Sequence[str]] = ()
         self.refused: set[str] = set()
         self.runs = self.lines = 0
@@ -101,6 +103,8 @@ class Core:
 
     def each(self, batches: Sequence[Sequence[Question]], ask: Callable[[Sequence[Question]], dict], what: str) -> dict:
         """What is answered to all batches, some of which run at once."""
+        if batches and self.program is None:
+            self.program = self.find()
         self.progress.begin(what, sum(map(len, batches)))
         found: dict = {}
         with concurrent.futures.ThreadPoolExecutor(workers()) as pool:
@@ -232,7 +236,7 @@ def numbers_of(questions: Iterable[Question]) -> dict[int, int]:
     return {at: FIRST + number for number, at in enumerate(sorted(found))}
 
 
-def word_of(text: str, synced: str) -> "str | None":
+def word_of(text: str, synced: str) -> Optional[str]:
     """The word of a verdict, or None where it is older than the synchronisation before it."""
     found = VERDICT.fullmatch(text)
     if not found:

@@ -158,7 +158,8 @@ class Diff:
             why = of_change(self.halves.why(before), self.halves.why(after), is_allowed, new, self.states.written)
             if why:
                 texts.append(f"{asked[2]}: {why}")
-        return Told(it.word(0), it.word(1), tuple(texts), self.names_beside(it), it.unsure)
+        marked = [one for half in it.halves for one in self.states.marks(self.halves.why(half[3]).allows)] if is_allowed else []
+        return Told(it.word(0), it.word(1), tuple(texts), self.names_beside(it), it.unsure, tuple(dict.fromkeys(marked)))
 
     def new(self, before: Half, after: Half) -> list[str]:
         """The policies that isolate after a change and didn't before."""

@@ -12,7 +12,7 @@ from typing import Callable, Iterable, NamedTuple, Optional, Sequence, TypeVar, 
 
 from lib import ports, regions
 
-from .beside import Beside, named
+from .beside import Beside, named, parted
 from .core import ALLOWED, Answer, Core, Misjudged, NoAnswer, Question
 from .ends import Outside, Universe, inside
 from .mentions import Mentions
@@ -128,9 +128,12 @@ class Halves:
         """What was answered of a half; None where no packet can have that other side."""
         half = self.half(phase, at, direction)
         found = self.profiles.get((half, self.alike(half, side)))
-        if found is None or not isinstance(side, Outside) or side.kind != "name":
+        entries = self.beside.names(phase, at, direction) if isinstance(side, Outside) else []
+        if found is None or not entries:
             return found
-        return named(found, [it for it in self.beside.names(phase, at, direction) if side.value in it.names])
+        if side.kind == "name":
+            return named(found, [it for it in entries if side.value in it.names])
+        return parted(found, entries) if side.kind == "region" and side.value == regions.WORLD else found
 
     # Asking for reasons.
 

@@ -41,7 +41,7 @@ def found(asked: Asked, listed_pairs: list[tuple[End, End]], ports) -> list[Line
     for pair in listed_pairs:
         for it in about.stretches(*pair):
             if id(it) not in told:
-                told[id(it)] = Told(it.word, it.word, about.reasons(it))
+                told[id(it)] = Told(it.word, it.word, about.reasons(it), marks=about.marks(it))
             more = {"names": about.names_beside(*pair, it), "unsure": about.unsure(*pair, it)}
             rows.add(*pair, it.protocol, it.low, it.high, told[id(it)]._replace(**more) if any(more.values()) else told[id(it)])
     return rows.lines(asked.names)

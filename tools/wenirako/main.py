@@ -4,7 +4,7 @@ from __future__ import annotations
 import argparse
 import pathlib
 import sys
-from typing import Any, Callable, Optional, Sequence
+from typing import Any, Optional, Sequence
 
 from lib import labels, state as bridge
 from lib.reading import Bad, decoded, text_of
@@ -72,20 +72,19 @@ class Run:
         # (what is asked of the state after a change alone needs no other)
         if self.name in ("list", "check"):
             states = States(states.after)
-        asked = lambda: Asked(states, programs.found(self.say, self.progress), self.progress, self.option("node"))
-        return self.made(asked)
+        return self.made(Asked(states, lambda: programs.found(self.say, self.progress), self.progress, self.option("node")))
 
-    def made(self, asked: Callable[[], Asked]) -> Report:
+    def made(self, asked: Asked) -> Report:
         words = self.words
         if self.name == "diff":
-            return diffing.report(asked())
+            return diffing.report(asked)
         if self.name == "list":
-            return listing.report(asked(), getattr(words, "from"), words.to, words.port, words.by)
+            return listing.report(asked, getattr(words, "from"), words.to, words.port, words.by)
         if self.name == "why":
-            return why.report(asked(), getattr(words, "from"), words.to, words.protocol_port)
+            return why.report(asked, getattr(words, "from"), words.to, words.protocol_port)
         name = words.expectations if self.name == "check" else words.flows
         text = self.text(name)
-        return check.report(asked(), text, name) if self.name == "check" else replay.report(asked(), text, name)
+        return check.report(asked, text, name) if self.name == "check" else replay.report(asked, text, name)
 
     def written(self, report: Report) -> str:
         form = self.words.format

@@ -4,10 +4,10 @@ from __future__ import annotations
 from typing import Iterable
 
 from lib import regions
+from lib.sides import ANY_OTHER
 
 from .ends import ENTITIES, End, Group, Outside
 
-ANY_OTHER = "any other"
 # How many namespaces are named where any other pod of them is meant.
 NAMED_MOST = 3
 

@@ -21,13 +21,15 @@ class Told(NamedTuple):
     # Names whose unknown addresses are meant beside the world, and what isn't read and may turn a verdict.
     names: tuple[str, ...] = ()
     unsure: tuple[str, ...] = ()
+    # What lets it pass beside the entries, where no entry without a mark does: a proxy (`L7`), say.
+    marks: tuple[str, ...] = ()
 
     def written(self) -> str:
         names = [f"and names: {', '.join(self.names)}"] if self.names else []
         return "; ".join([*self.reasons, *names, *([f"unsure: {', '.join(self.unsure)} isn't read whole"] if self.unsure else [])])
 
     def for_programs(self) -> dict:
-        more = {name: list(value) for name, value in (("names", self.names), ("unsure", self.unsure)) if value}
+        more = {name: list(value) for name, value in (("names", self.names), ("unsure", self.unsure), ("marks", self.marks)) if value}
         return {"decided_by": list(self.reasons), **more}
 
 

@@ -57,6 +57,12 @@ class States:
         changed = self.change.changed()
         return sorted({it.policy.name for state in self.ends() for key, it in state.rewritten.items() if it.unsure and key in changed})
 
+    def marks(self, listed: Iterable[str]) -> list[str]:
+        """The marks of entries that let a half pass, where each of them has one."""
+        state = self.ends()[-1]
+        each = [state.marks(state.place(it)) for it in listed]
+        return [one for it in each for one in it] if each and all(each) else []
+
     def written(self, place: str, phase: int = 1) -> str:
         """An answer's place of an entry, in the policy as it was written, with its marks."""
         state = self.ends()[-1] if phase else self.before
