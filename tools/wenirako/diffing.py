@@ -10,7 +10,7 @@ from .core import ALLOWED
 from .diff import Diff
 from .listing import for_programs
 from .naming import Names
-from .report import Report, counted
+from .report import Report, counted, doubt
 from .rows import Line, listed, written_ports
 from .statuses import NOTHING, TELLS, UNSURE
 
@@ -25,7 +25,8 @@ def report(asked: Asked) -> Report:
     doubts = doubtful(asked, lines)
     more = {"halves": [row(it) for it in others], "unsure": doubts}
     status = UNSURE if doubts else TELLS if lines else NOTHING
-    return Report("diff", summary(lines, doubts), HEADS, by_line(asked.names, lines), [row(it) for it in lines], notes, status, lines, asked.names, more)
+    above = doubt(doubts, asked.states.unsure_changes())
+    return Report("diff", summary(lines), HEADS, by_line(asked.names, lines), [row(it) for it in lines], notes, status, lines, asked.names, more, above)
 
 
 def doubtful(asked: Asked, lines: list[Line]) -> list[str]:
@@ -33,13 +34,12 @@ def doubtful(asked: Asked, lines: list[Line]) -> list[str]:
     return list(dict.fromkeys([*(name for it in lines for name in it.told.unsure), *asked.states.unsure_changes()]))
 
 
-def summary(lines: list[Line], doubts: list[str]) -> str:
+def summary(lines: list[Line]) -> str:
     opened = sum(it.told.after == ALLOWED != it.told.before for it in lines)
     shut = sum(it.told.before == ALLOWED != it.told.after for it in lines)
     parts = [counted(opened, "line of connections opens", "lines of connections open")] if opened else []
     parts += [counted(shut, "line of connections shuts", "lines of connections shut")] if shut else []
-    told = " and ".join(parts) or "no connection changes"
-    return f"{told}; unsure, since {', '.join(doubts)} isn't read whole" if doubts else told
+    return " and ".join(parts) or "no connection changes"
 
 
 def row(it: Line) -> dict:

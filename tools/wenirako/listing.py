@@ -8,7 +8,7 @@ from lib import ports as port_sets
 from .asked import Asked
 from .ends import ENTITIES, End, Group, Outside
 from .naming import Names, outer
-from .report import Report, counted
+from .report import Report, counted, doubt
 from .resolving import EVERY_PORT, everything, named, pairs, port_range
 from .rows import Line, Rows, Told, alike, listed, written_ports
 from .statuses import NOTHING, UNSURE
@@ -27,12 +27,8 @@ def report(asked: Asked, source: Optional[str], target: Optional[str], port: Opt
     heads = HEADS if by == "pod" else ("FROM", "TO", "PORTS", "BETWEEN")
     rows = [{"from": listed(it.froms), "to": listed(it.tos), "ports": for_programs(it.ports), "verdict": it.told.after, **it.told.for_programs()} for it in lines]
     summary = f"{counted(len(cells), 'line', 'lines')} of open connections" if cells else "nothing is open"
-    return Report("list", summary, heads, cells, rows, asked.notes(), unsure_or(NOTHING, lines), lines=lines, names=asked.names)
-
-
-def unsure_or(status: int, lines: Iterable[Line]) -> int:
-    """The status where something may be otherwise for what isn't read, and else another one."""
-    return UNSURE if any(it.told.unsure for it in lines) else status
+    doubts = list(dict.fromkeys(name for it in lines for name in it.told.unsure))
+    return Report("list", summary, heads, cells, rows, asked.notes(), UNSURE if doubts else NOTHING, lines, asked.names, above=doubt(doubts))
 
 
 def found(asked: Asked, listed_pairs: list[tuple[End, End]], ports) -> list[Line]:

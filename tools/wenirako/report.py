@@ -2,7 +2,7 @@
 from __future__ import annotations
 
 import dataclasses
-from typing import Optional
+from typing import Optional, Sequence
 
 from .naming import Names
 from .rows import Line
@@ -27,6 +27,16 @@ class Report:
     lines: Optional[list[Line]] = None
     names: Optional[Names] = None
     more: dict = dataclasses.field(default_factory=dict)
+    # What stands above the table: which rows may be otherwise, and why.
+    above: str = ""
+
+
+def doubt(policies: Sequence[str], of_change: Sequence[str] = ()) -> str:
+    """What is said above a table of policies that aren't read whole, some of which come or go; empty where there is none."""
+    if not policies:
+        return ""
+    more = "; what a policy that comes or goes may change besides isn't shown" if of_change else ""
+    return f"unsure: {', '.join(policies)} isn't read whole, so rows marked unsure may be others{more}"
 
 
 def counted(count: int, one: str, many: str) -> str:

@@ -14,12 +14,13 @@ COMMENT_MOST, UNFOLDED = 60_000, 30
 
 
 def table(report: Report) -> str:
-    """A line a row, whose cells two blanks or more part; nothing where there is no row."""
+    """A line a row, whose cells two blanks or more part; nothing where there is no row. What is unsure stands above."""
+    above = f"{report.above}\n\n" if report.above else ""
     if not report.cells:
-        return ""
+        return above
     lines = [list(report.heads), *report.cells]
     widths = [max(len(line[at]) if len(line[at]) <= WIDEST else 0 for line in lines) for at in range(len(report.heads))]
-    return "".join("  ".join(cell.ljust(width) for cell, width in zip(line, widths)).rstrip() + "\n" for line in lines)
+    return above + "".join("  ".join(cell.ljust(width) for cell, width in zip(line, widths)).rstrip() + "\n" for line in lines)
 
 
 def as_json(report: Report, commit: str, is_proved: bool) -> str:
@@ -30,7 +31,7 @@ def as_json(report: Report, commit: str, is_proved: bool) -> str:
 
 def markdown(report: Report) -> str:
     """A comment on a pull request: a summary line, a table, and details folded."""
-    parts = [f"**{escaped(report.summary[:1].upper() + report.summary[1:])}.**\n"]
+    parts = [f"**{escaped(report.summary[:1].upper() + report.summary[1:])}.**\n", *([f"{escaped(report.above)}\n"] if report.above else [])]
     if report.cells:
         parts.append(rows_of(report.heads, report.cells[:UNFOLDED]))
     size = sum(map(len, parts))
