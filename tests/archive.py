@@ -1,5 +1,7 @@
-"""An archive as tools/release lays it out, with a stand-in for its program, for checks of the front door."""
+"""The front door with a stand-in for its program: in this process, and as an archive that tools/release lays out."""
+import contextlib
 import hashlib
+import io
 import json
 import os
 import pathlib
@@ -8,6 +10,53 @@ import subprocess
 
 TOP = pathlib.Path(__file__).resolve().parent.parent
 STAND_IN = TOP / "tests" / "standin.py"
+
+
+class Door:
+    """Calls the front door in this process, where tests/standin.py answers."""
+
+    def __init__(self, folder):
+        self.top = pathlib.Path(folder)
+
+    def write(self, name, value):
+        """A file, as text or JSON; its path."""
+        path = self.top / name
+        path.parent.mkdir(parents=True, exist_ok=True)
+        path.write_text(value if isinstance(value, str) else json.dumps(value))
+        return str(path)
+
+    def call(self, *words, given=""):
+        """The status and the two outputs."""
+        import front_random
+        from wenirako import core, main, programs
+
+        out, err = io.StringIO(), io.StringIO()
+        stdin, program = io.TextIOWrapper(io.BytesIO(given.encode())), programs.Program(["none"], False, "a stand-in")
+        known = {"found": lambda *_: program, "there": lambda: program, "commit": lambda: "0123456789ab"}
+        with contextlib.ExitStack() as stack:
+            stack.enter_context(contextlib.redirect_stdout(out))
+            stack.enter_context(contextlib.redirect_stderr(err))
+            stack.enter_context(replaced(main.sys, stdin=stdin))
+            stack.enter_context(replaced(main.programs, **known))
+            stack.enter_context(replaced(core.Core, play=lambda _, *asked: front_random.in_process(*asked)))
+            try:
+                status = main.asked_for(list(words), "wenirako")
+            except SystemExit as ended:
+                status = ended.code
+        return status, out.getvalue(), err.getvalue()
+
+
+@contextlib.contextmanager
+def replaced(whole, **parts):
+    """What has other parts for a while."""
+    before = {name: getattr(whole, name) for name in parts}
+    for name, it in parts.items():
+        setattr(whole, name, it)
+    try:
+        yield
+    finally:
+        for name, it in before.items():
+            setattr(whole, name, it)
 
 
 class Archive:

@@ -1,7 +1,7 @@
 """Checks what the documents claim, where that is cheap.
 
 Blocks of the language `console` show commands, each behind `$ `, with what they print: `commands` gives those that run
-the program as cases. Such a command ends in `./play WORDS`, which may stand behind a pipe, or is `recipes/what-if`. A
+the program as cases. Such a command ends in `./play WORDS`, which may stand behind a pipe, or asks the front door. A
 block `text stderr` has what the command before it writes to standard error.
 """
 import re
@@ -16,7 +16,9 @@ import program
 import rooms
 
 TOP = compare.TOP
-PLAY, WHAT_IF = "./play ", "recipes/what-if "
+PLAY, ASKING = "./play ", ("recipes/what-if ", "./wenirako ")
+# What is said of a build, and of work that lives: that depends on the build that is there, and on the machine.
+PASSING = re.compile(rb"^(play: |wenirako: (NOT PROVED|building it) |(wenirako|what-if): asking .* since )")
 # What a crate's README has.
 SECTIONS = ("What it is for", "Its calls", "What it gives to the layer above", "Where to begin reading", "What is proved", "What no clause says")
 
@@ -43,7 +45,7 @@ class Command:
         before, self.piped, last = text.rpartition("| ")
         self.before, self.is_play = before, last.startswith(PLAY)
         self.last = last.split()[1:] if self.is_play else []
-        self.runs = self.is_play or text.startswith(WHAT_IF)
+        self.runs = self.is_play or text.startswith(ASKING)
 
     def given(self):
         """The script that ./play is given."""
@@ -72,8 +74,8 @@ class Command:
 
 
 def of_recipes(said):
-    """What recipes say: what ./play says depends on the build that is there."""
-    return b"".join(it for it in said.splitlines(keepends=True) if not it.startswith(b"play: "))
+    """What recipes and the front door say, without what depends on the build that is there and on the machine."""
+    return b"".join(it for it in said.splitlines(keepends=True) if not PASSING.match(it))
 
 
 def shown(page):
@@ -137,7 +139,7 @@ def lost_links(page):
 
 def lost_paths(page):
     """Paths of the repository that a page names in code marks, and that aren't there."""
-    tops = "|".join(("bench", "crates", "docs", "examples", "recipes", "tests", r"\.ci"))
+    tops = "|".join(("bench", "crates", "docs", "examples", "recipes", "tests", "tools", r"\.ci"))
     named = re.findall(rf"`((?:{tops})/[\w./-]+)`", without_blocks(page.read_text()))
     return [f"there is no {it}" for it in named if not (TOP / it).exists() and "/out" not in it and "NAME" not in it]
 

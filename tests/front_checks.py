@@ -16,7 +16,7 @@ import time
 import compare
 import front_random
 import schema
-from archive import Archive
+from archive import Archive, Door
 from play_checks import told
 from recipes_checks import NAMESPACE, PODS, policy
 from wenirako import drawing, flows, listing, progress, resolving, words, writing
@@ -47,96 +47,96 @@ def stripped(out):
 
 
 def a_change_is_told(folder, wrong):
-    archive = Archive(folder)
-    status, out, err = archive.call("diff", *STATE, *BOTH)
+    door = Door(folder)
+    status, out, err = door.call("diff", *STATE, *BOTH)
     told(wrong, "the status", status, 3)
     told(wrong, "the rows", stripped(out), [[*ROW, "; ".join(DECIDED)]])
     told(wrong, "what is said at last", err.splitlines()[-1], "wenirako: 1 line of connections opens")
-    status, out, err = archive.call("diff", *STATE, *BOTH[:2])
+    status, out, err = door.call("diff", *STATE, *BOTH[:2])
     told(wrong, "with one half", (status, out), (0, ""))
     half = "wenirako: shop/cart-5d8b4-t6k9z to pay/ledger-0, TCP 8443: a half changes, and the connection stays denied-by-default (egress: no entry allows it)"
     told(wrong, "what is said of it", (err.splitlines()[0], err.splitlines()[-1]), (half, "wenirako: no connection changes"))
-    told(wrong, "from standard input", archive.call("diff", "--state", "-", *BOTH, given=(EXAMPLE / "state.json").read_text())[:2], archive.call("diff", *STATE, *BOTH)[:2])
+    told(wrong, "from standard input", door.call("diff", "--state", "-", *BOTH, given=(EXAMPLE / "state.json").read_text())[:2], door.call("diff", *STATE, *BOTH)[:2])
 
 
 def forms_agree(folder, wrong):
-    archive = Archive(folder)
+    door = Door(folder)
     form = json.loads((TOP / "docs" / "answer.schema.json").read_text())
-    value = json.loads(archive.call("diff", *STATE, *BOTH, "--format", "json")[1])
+    value = json.loads(door.call("diff", *STATE, *BOTH, "--format", "json")[1])
     wrong += schema.wrong_with(value, form, form)
     row = {"from": [{"pod": ROW[0]}], "to": [{"pod": ROW[1]}], "ports": [{"protocols": ["TCP"], "ranges": [[8443, 8443]]}]}
     told(wrong, "the rows for programs", value["rows"], [{**row, "before": ROW[3], "after": ROW[4], "decided_by": DECIDED}])
     told(wrong, "its program", value["program"], {"commit": "0123456789ab", "proved": False})
-    text = archive.call("diff", *STATE, *BOTH, "--format", "markdown")[1]
+    text = door.call("diff", *STATE, *BOTH, "--format", "markdown")[1]
     told(wrong, "the comment's first line", text.splitlines()[0], "**1 line of connections opens.**")
     told(wrong, "its table", "| shop/cart-5d8b4-t6k9z | pay/ledger-0 | TCP 8443 | denied-by-default | allowed | " in text, True)
     told(wrong, "its details", "<details><summary>What to mind</summary>" in text, True)
-    text = archive.call("diff", *STATE, *BOTH, "--format", "dot")[1]
+    text = door.call("diff", *STATE, *BOTH, "--format", "dot")[1]
     told(wrong, "the graph's arrow", '  "shop/cart" -> "pay/ledger-0" [label="TCP 8443", color="#1a7f37", tooltip="opens"]' in text, True)
     if shutil.which("dot"):
         told(wrong, "what Graphviz says", subprocess.run(["dot", "-Tsvg"], input=text.encode(), stdout=subprocess.DEVNULL).returncode, 0)
-    page = archive.call("diff", *STATE, *BOTH, "--format", "html")[1]
+    page = door.call("diff", *STATE, *BOTH, "--format", "html")[1]
     told(wrong, "whether the page asks for a file of the network", [it for it in ("http:", "https:", "src=", "<link") if it in page], [])
 
 
 def what_is_open(folder, wrong):
-    archive = Archive(folder)
-    status, out, _ = archive.call("list", *STATE, "--from", "shop/cart", "--port", "TCP/5432")
+    door = Door(folder)
+    status, out, _ = door.call("list", *STATE, "--from", "shop/cart", "--port", "TCP/5432")
     told(wrong, "from the cart", (status, stripped(out)), (0, [["shop/cart-5d8b4-t6k9z", "10.9.0.0/16 but for 10.9.7.0/24", "TCP 5432", "egress: shop/cart-traffic#0.egress[0]"]]))
-    _, out, _ = archive.call("list", *STATE, "--to", "pay/ledger-0", "--from", "*", "--by", "workload")
+    _, out, _ = door.call("list", *STATE, "--to", "pay/ledger-0", "--from", "*", "--by", "workload")
     told(wrong, "to the ledger", stripped(out), [["pay/teller", "pay/ledger-0", "TCP 8443", "every pod"]])
-    _, out, err = archive.call("list", *STATE, "--from", "world", "--to", "pay/*")
+    _, out, err = door.call("list", *STATE, "--from", "world", "--to", "pay/*")
     told(wrong, "from the world", (out, err.splitlines()[-1]), ("", "wenirako: nothing is open"))
-    value = json.loads(archive.call("list", *STATE, *BOTH, "--from", "shop/cart", "--to", "pay/*", "--format", "json")[1])
+    value = json.loads(door.call("list", *STATE, *BOTH, "--from", "shop/cart", "--to", "pay/*", "--format", "json")[1])
     told(wrong, "with the policies", [(it["decided_by"], it["verdict"]) for it in value["rows"]], [(DECIDED, "allowed")])
     form = json.loads((TOP / "docs" / "answer.schema.json").read_text())
     wrong += schema.wrong_with(value, form, form)
 
 
 def why_is_told(folder, wrong):
-    archive, form = Archive(folder), json.loads((TOP / "docs" / "answer.schema.json").read_text())
+    door, form = Door(folder), json.loads((TOP / "docs" / "answer.schema.json").read_text())
     isolated = "no entry allows it; isolated by shop/cart-traffic"
-    status, out, err = archive.call("why", "shop/cart", "pay/ledger-0", "TCP/8443", *STATE, *BOTH[:2])
+    status, out, err = door.call("why", "shop/cart", "pay/ledger-0", "TCP/8443", *STATE, *BOTH[:2])
     told(wrong, "the status", status, 3)
     told(wrong, "the halves", [it[3:] for it in stripped(out)], [
         ["denied-by-default", "egress of shop/cart-5d8b4-t6k9z", "denied-by-default", isolated],
         ["denied-by-default", "ingress of pay/ledger-0", "allowed", "pay/ledger-from-cart#0.ingress[0]"],
     ])
     told(wrong, "what is said at last", err.splitlines()[-1], "wenirako: shop/cart to pay/ledger-0, TCP 8443: denied-by-default")
-    status, out, _ = archive.call("why", "shop/cart", "pay/ledger-0", "8443/tcp", *STATE, *BOTH)
+    status, out, _ = door.call("why", "shop/cart", "pay/ledger-0", "8443/tcp", *STATE, *BOTH)
     told(wrong, "with both", (status, {it[3] for it in stripped(out)}), (0, {"allowed, and denied-by-default before"}))
-    status, out, _ = archive.call("why", "198.51.100.7", "pay/ledger-0", "TCP/8443", *STATE, "--format", "json")
+    status, out, _ = door.call("why", "198.51.100.7", "pay/ledger-0", "TCP/8443", *STATE, "--format", "json")
     value = json.loads(out)
     wrong += schema.wrong_with(value, form, form)
     told(wrong, "from an address", value["rows"][0]["halves"], [{"direction": "ingress", "verdict": "denied-by-rule", "reason": "finance-guard#0.ingressDeny[0]"}])
-    told(wrong, "from the node", archive.call("why", "host", "pay/ledger-0", "TCP/1", *STATE)[0], 0)
-    told(wrong, "from a pod to itself", archive.call("why", "pay/ledger-0", "pay/ledger-0", "TCP/1", *STATE)[2].splitlines()[-1], "wenirako: pay/ledger-0 to pay/ledger-0, TCP 1: no such packet")
+    told(wrong, "from the node", door.call("why", "host", "pay/ledger-0", "TCP/1", *STATE)[0], 0)
+    told(wrong, "from a pod to itself", door.call("why", "pay/ledger-0", "pay/ledger-0", "TCP/1", *STATE)[2].splitlines()[-1], "wenirako: pay/ledger-0 to pay/ledger-0, TCP 1: no such packet")
 
 
 def expectations_are_held(folder, wrong):
-    archive, form = Archive(folder), json.loads((TOP / "docs" / "answer.schema.json").read_text())
+    door, form = Door(folder), json.loads((TOP / "docs" / "answer.schema.json").read_text())
     text = "# the ledger\npay/teller -> pay/ledger-0 TCP 8443 always\nweb -> pay/ledger-0 TCP 8443 never\n\nworld -> pay/* any never\nshop/cart -> 10.9.0.0/16 TCP 5432 always\n"
-    name = archive.write("expected", text)
-    status, out, err = archive.call("check", name, *STATE)
+    name = door.write("expected", text)
+    status, out, err = door.call("check", name, *STATE)
     row = ["6", "shop/cart -> 10.9.0.0/16 TCP 5432 always", "shop/cart-5d8b4-t6k9z", "10.9.7.0/24", "TCP 5432", "denied-by-default"]
     told(wrong, "what doesn't hold", (status, [it[:6] for it in stripped(out)]), (3, [row]))
     told(wrong, "how many hold", err.splitlines()[-1], "wenirako: 3 of 4 expectations hold")
-    broken = archive.write("broken", "shop/cart -> pay/ledger-0 TCP 8000-9000 never # until it is\n")
-    told(wrong, "before", archive.call("check", broken, *STATE)[:2], (0, ""))
-    value = json.loads(archive.call("check", broken, *STATE, *BOTH, "--format", "json")[1])
+    broken = door.write("broken", "shop/cart -> pay/ledger-0 TCP 8000-9000 never # until it is\n")
+    told(wrong, "before", door.call("check", broken, *STATE)[:2], (0, ""))
+    value = json.loads(door.call("check", broken, *STATE, *BOTH, "--format", "json")[1])
     wrong += schema.wrong_with(value, form, form)
     packet = {"from": {"pod": ROW[0]}, "to": {"pod": ROW[1]}, "protocol": "TCP", "port": 8443}
     told(wrong, "after", [(it["packet"], it["verdict"], it["decided_by"]) for it in value["rows"]], [(packet, "allowed", DECIDED)])
     for line, what in (
         ("a -> b TCP 80", "'a -> b TCP 80' is no expectation: it is FROM -> TO PROTOCOL PORT always|never, such as `web -> pay/ledger TCP 8443 never`"),
-        ("web -> pay/ldeger TCP 1 never", "pay/ldeger names nobody: there are pay/any other pod of pay, pay/ledger-0, pay/nightly, pay/teller"),
+        ("web -> pay/ldeger TCP 1 never", "pay/ldeger names nobody: there are pay/ledger-0, pay/teller"),
         ("web -> pya/ledger TCP 1 never", "pya/ledger names nobody: there are the namespaces pay, shop"),
         ("web -> pay/* ICMP never", "ICMP is no protocol that policies are asked about: there are TCP, UDP and SCTP"),
         ("web -> pay/* TCP 70000 never", "'TCP 70000' is no port: ports are 0 to 65535"),
         ("web -> 10.0.0.300 TCP 7 never", "10.0.0.300 names nobody"),
     ):
-        status, out, err = archive.call("check", archive.write("bad", f"\n{line}\n"), *STATE)
-        front = f"wenirako: {archive.top}/bad, line 2: {what}"
+        status, out, err = door.call("check", door.write("bad", f"\n{line}\n"), *STATE)
+        front = f"wenirako: {door.top}/bad, line 2: {what}"
         told(wrong, f"at {line}", (status, out, err.startswith(front)), (1, "", True) if err.startswith(front) else (1, "", front + " <> " + err))
 
 
@@ -152,7 +152,7 @@ def flow(source, target, port, time="2026-01-01T00:00:00Z", **more):
 
 
 def flows_are_replayed(folder, wrong):
-    archive, form = Archive(folder), json.loads((TOP / "docs" / "answer.schema.json").read_text())
+    door, form = Door(folder), json.loads((TOP / "docs" / "answer.schema.json").read_text())
     shut = policy("shut", {"endpointSelector": {"matchLabels": {"app": "ledger"}}, "ingress": [{"fromEndpoints": [{"matchLabels": {"app": "auditor"}}]}]}, "pay")
     teller, ledger, times = "pay/teller-6c9f7-hx2wd", "pay/ledger-0", ["2026-01-0{}T00:00:00Z".format(it) for it in (3, 1, 2)]
     gone = (["k8s:app=teller", "k8s:io.kubernetes.pod.namespace=pay", "k8s:io.cilium.k8s.policy.cluster=default", "k8s:old=yes"], "10.0.9.9")
@@ -166,44 +166,44 @@ def flows_are_replayed(folder, wrong):
         flow(teller, ledger, 8443, l4={"ICMPv4": {"type": 8}}),
         flow("shop/cart-5d8b4-t6k9z", ledger, 8443),
     ]
-    name, new = archive.write("flows", "\n".join(lines) + "\n"), archive.write("shut.json", shut)
-    status, out, err = archive.call("replay", name, *STATE)
+    name, new = door.write("flows", "\n".join(lines) + "\n"), door.write("shut.json", shut)
+    status, out, err = door.call("replay", name, *STATE)
     told(wrong, "what the state drops", (status, [it[3] for it in stripped(out)]), (3, ["1"]))
     removed = ["--remove", "cnp/pay/ledger-clients", "--add", new]
-    status, out, err = archive.call("replay", name, *STATE, *removed, "--format", "json")
+    status, out, err = door.call("replay", name, *STATE, *removed, "--format", "json")
     value = json.loads(out)
     wrong += schema.wrong_with(value, form, form)
     rows = [(it["from"], it["count"], it["first"], it["last"], it["dropped_by"]) for it in value["rows"]]
     told(wrong, "what is dropped", (status, rows), (3, [
         ([{"pod": teller}], 3, times[1], times[0], "ingress: no entry allows it; isolated by finance-guard, pay/shut"),
-        ([{"pod": "pay/teller"}], 1, "2026-01-01T00:00:00Z", "2026-01-01T00:00:00Z", "ingress: no entry allows it; isolated by finance-guard, pay/shut"),
+        ([{"pods": "pay/teller", "stands_for": "gone"}], 1, "2026-01-01T00:00:00Z", "2026-01-01T00:00:00Z", "ingress: no entry allows it; isolated by finance-guard, pay/shut"),
     ]))
     told(wrong, "what was left out", [it for it in value["notes"] if "replies" in it or "forwarded" in it or "TCP, UDP" in it], [
         "left out: flows that aren't of TCP, UDP or SCTP: 1", "left out: flows that weren't forwarded: 1", "left out: replies: 1"])
     told(wrong, "what was denied already", any(it.startswith("1 flow is denied before the change too") for it in value["notes"]), True)
     for text, what in (("nothing", "no JSON"), ("{}", None), ('{"flow": 3}', "it has no flow"), ("", "no flow is in it")):
-        status, _, err = archive.call("replay", archive.write("bad", text), *STATE)
+        status, _, err = door.call("replay", door.write("bad", text), *STATE)
         told(wrong, f"at {text!r}", (status, what is None or what in err), (0 if what is None else 1, True))
 
 
 def two_states_are_compared(folder, wrong):
     """Pods stand for each other by their names, or by their workload; policies are those of each state."""
-    archive = Archive(folder)
+    door = Door(folder)
     shut = policy("shut", {"endpointSelector": {"matchLabels": {"app": "cart"}}, "ingress": [{"fromEndpoints": [{"matchLabels": {"app": "web"}}]}]})
-    before = archive.write("before.json", listed(NAMESPACE, *PODS))
-    after = archive.write("after.json", listed(NAMESPACE, *PODS, shut))
-    told(wrong, "the same", archive.call("diff", "--state", before, "--state-after", before)[0], 0)
-    status, out, _ = archive.call("diff", "--state", before, "--state-after", after)
+    before = door.write("before.json", listed(NAMESPACE, *PODS))
+    after = door.write("after.json", listed(NAMESPACE, *PODS, shut))
+    told(wrong, "the same", door.call("diff", "--state", before, "--state-after", before)[0], 0)
+    status, out, _ = door.call("diff", "--state", before, "--state-after", after)
     told(wrong, "what shuts", (status, sorted({(it[1], it[4]) for it in stripped(out)})), (3, [("shop/cart", "denied-by-default")]))
     told(wrong, "whether the web may still", any("shop/web" in it[0] for it in stripped(out)), False)
-    _, out, _ = archive.call("diff", "--state", after, "--state-after", before)
+    _, out, _ = door.call("diff", "--state", after, "--state-after", before)
     told(wrong, "what opens", sorted({(it[1], it[4]) for it in stripped(out)}), [("shop/cart", "allowed")])
 
 
 def slips_are_asked_of_the_bridge(folder, wrong):
-    archive, form = Archive(folder), json.loads((TOP / "docs" / "answer.schema.json").read_text())
-    slip = archive.write("slip.json", policy("slip", {"endpointSelector": {"matchLabels": {"app": "crat"}}, "ingress": [{}]}))
-    status, out, _ = archive.call("lint", *STATE, "--add", slip, "--format", "json")
+    door, form = Door(folder), json.loads((TOP / "docs" / "answer.schema.json").read_text())
+    slip = door.write("slip.json", policy("slip", {"endpointSelector": {"matchLabels": {"app": "crat"}}, "ingress": [{}]}))
+    status, out, _ = door.call("lint", *STATE, "--add", slip, "--format", "json")
     value = json.loads(out)
     wrong += schema.wrong_with(value, form, form)
     told(wrong, "the slip", (status, [it["policy"] for it in value["rows"]]), (3, ["shop/slip"]))
@@ -213,7 +213,7 @@ def slips_are_asked_of_the_bridge(folder, wrong):
 
 
 def words_agree(folder, wrong):
-    archive = Archive(folder)
+    door = Door(folder)
     for given, what in (
         (["none"], "none: no question is called so"),
         (["diff", *STATE], "nothing to change: --add FILE, --remove KIND/NAMESPACE/NAME or --state-after FILE"),
@@ -227,23 +227,22 @@ def words_agree(folder, wrong):
         (["why", "a", "b", *STATE], "the following arguments are required: PROTOCOL/PORT"),
         (["list", *STATE, "--by", "node"], "argument --by: invalid choice: 'node'"),
     ):
-        status, out, err = archive.call(*given)
+        status, out, err = door.call(*given)
         told(wrong, f"at {given}", (status, out, err.splitlines()[0].startswith(f"wenirako: {what}")), (2, "", True))
-    told(wrong, "no words", archive.call()[0], 2)
-    status, out, _ = archive.call("--help")
+    told(wrong, "no words", door.call()[0], 2)
+    status, out, _ = door.call("--help")
     told(wrong, "help", (status, len(out.splitlines()) <= 24, max(map(len, out.splitlines())) <= 80), (0, True, True))
     told(wrong, "whether help has each question", [it for it in words.QUESTIONS if f"  {it} " not in out and f"  {it}\n" not in out], [])
-    told(wrong, "a question's help", archive.call("diff", "--help")[0], 0)
+    told(wrong, "a question's help", door.call("diff", "--help")[0], 0)
     for given, what in ((["diff", "--state", "lost", *BOTH], "lost: No such file"), (["list", *STATE, "--from", "lost"], "--from: lost names nobody"), (["list", *STATE, "--node", "n9"], "--node n9: no pod")):
-        status, out, err = archive.call(*given)
+        status, out, err = door.call(*given)
         told(wrong, f"at {given}", (status, out, err.startswith(f"wenirako: {what}")), (1, "", True))
-    told(wrong, "with no word of a script", archive.call("play")[0], 2)
-    told(wrong, "a script", archive.call("play", "-", given='{"op":"sync"}\n')[:2], (0, "synced 0\n"))
+    told(wrong, "with no word of a script", door.call("play")[0], 2)
 
 
 def bash_completes(folder, wrong):
-    archive = Archive(folder)
-    script = archive.write("completion", archive.call("completion", "bash")[1])
+    door = Door(folder)
+    script = door.write("completion", door.call("completion", "bash")[1])
     for line, wanted in (
         (["wenirako", "di"], "diff"),
         (["wenirako", "diff", "--sta"], "--state --state-after"),
@@ -332,6 +331,7 @@ def other_programs_are_not_asked(folder, wrong):
     (archive.top / "bin" / "policyd").write_text("#!/bin/sh\necho another\n")
     status, out, err = archive.call("diff", *STATE, *BOTH)
     told(wrong, "another program", (status, out, "its sum is another one" in err), (70, "", True))
+    told(wrong, "a script", Archive(pathlib.Path(folder) / "other").call("play", "-", given='{"op":"sync"}\n')[:2], (0, "synced 0\n"))
     broken = Archive(pathlib.Path(folder) / "broken", "#!/bin/sh\necho no room >&2\nexit 3\n")
     status, out, err = broken.call("diff", *STATE, *BOTH)
     told(wrong, "one without answers", (status, out, err), (70, "", "wenirako: policyd ended with the status 3: no room\n"))

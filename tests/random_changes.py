@@ -1,5 +1,5 @@
 #!/usr/bin/env python3
-"""Random changes of policies in small random clusters: the rows of recipes/what-if against packets that are asked singly.
+"""Random changes of policies in small random clusters: the rows of `./wenirako diff` against packets that are asked singly.
 
     tests/random_changes.py [SEED ..]     the clusters of these seeds, 1 to 3 where none is given
 
@@ -127,10 +127,11 @@ def play(seed):
         texts = json.dumps({"apiVersion": "v1", "kind": "List", "items": items}), json.dumps(new)
         for name, text in zip(("state", "new", "asks"), (*texts, "\n".join(flat))):
             pathlib.Path(folder, name).write_text(text)
-        rows = json.loads(run(["recipes/what-if", "--format", "json", "--state", f"{folder}/state", "--add", f"{folder}/new"]) or "null")
+        whole = json.loads(run(["./wenirako", "diff", "--format", "json", "--state", f"{folder}/state", "--add", f"{folder}/new"]) or "{}")
+        rows = whole.get("rows")
         answers = [iter(verdicts(text, f"{folder}/asks", len(flat))) for text in (texts[0], "".join(replaced(items, new)))]
     if rows is None:
-        return ["what-if gave no rows"], 0
+        return ["diff gave no rows"], 0
     wrong, changed = [], 0
     for it, each in zip(packets, queries):
         before, after = (all([next(part) for _ in each]) for part in answers)

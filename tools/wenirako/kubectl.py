@@ -3,7 +3,7 @@ from __future__ import annotations
 
 import json
 import re
-from typing import Optional, Sequence
+from typing import Optional
 
 from lib.reading import Bad
 
@@ -29,6 +29,8 @@ MORE = (
     "daemonsets.apps",
     "jobs.batch",
     "cronjobs.batch",
+    "adminnetworkpolicies.policy.networking.k8s.io",
+    "baselineadminnetworkpolicies.policy.networking.k8s.io",
 )
 ALL_NAMESPACES = "-A"
 ABSENT = re.compile(r"the server doesn't have a resource type|could not find the requested resource|no matches for kind", re.I)
@@ -87,8 +89,3 @@ def saved(text: str, name: str) -> None:
             file.write(text)
     except OSError as error:
         raise Bad(f"--save {name}: {error.strerror}")
-
-
-def kinds_of_readme() -> Sequence[str]:
-    """The kinds that a state in a file has to have, as a command of kubectl names them."""
-    return tuple(it.partition(".")[0] for it in KINDS)

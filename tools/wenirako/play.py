@@ -31,7 +31,7 @@ from .progress import Progress
 from .statuses import BAD_WORDS, NO_ANSWER, NOTHING
 
 DEMO = TOP / "examples" / "star-wars.jsonl"
-# The form of a value that may be any text, and the words of which one at most may stand there.
+# The form of a value that may be any text, and the words of which one at most may stand there, group by group.
 ANY_TEXT, ONE_AT_MOST = "NAME", (("--generate", "--map", "--audit"), ("--policy-map-max", "--generate"))
 # The program reads one byte more than it takes, and then says that it is too much.
 READ_MOST = 67_108_864 + 1

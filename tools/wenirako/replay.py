@@ -14,6 +14,7 @@ from .resolving import PortRange
 from .rows import listed
 from .statuses import NOTHING, TELLS
 
+NAMESPACE_LABEL = "k8s:io.kubernetes.pod.namespace"
 HEADS = ("FROM", "TO", "PORT", "FLOWS", "FIRST", "LAST", "VERDICT", "DROPPED BY")
 
 
@@ -113,8 +114,9 @@ class Ends:
         """The group of pods with the labels, or one that stands for a pod that is gone."""
         known = self.by_labels.get(labels) or self.gone.get(labels)
         if known is None:
-            at = self.universe.more(labels, end.namespace)
-            known = self.gone[labels] = Group(at, at, [GonePod(end)], False)
+            pod = GonePod(end)
+            at = self.universe.more(labels, pod.namespace)
+            known = self.gone[labels] = Group(at, at, [pod], False)
         return known
 
     def notes(self) -> list[str]:
@@ -126,5 +128,7 @@ class GonePod:
     """A pod of a flow that the state doesn't have."""
 
     def __init__(self, end: FlowEnd):
-        self.name = end.pod or f"{end.namespace}/{dict(it.partition('=')[::2] for it in end.labels).get('k8s:app', 'pod')}"
-        self.namespace, self.workload, self.labels = end.namespace, self.name.partition("/")[2], end.labels
+        values = dict(it.partition("=")[::2] for it in end.labels)
+        self.namespace = values.get(NAMESPACE_LABEL) or end.namespace
+        self.name = end.pod or f"{self.namespace}/{values.get('k8s:app', 'pod')}"
+        self.stands_for, self.workload, self.labels = "gone", self.name.partition("/")[2], end.labels

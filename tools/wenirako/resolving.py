@@ -110,7 +110,8 @@ def close_to(universe: Universe, text: str) -> str:
     namespace = text.partition("/")[0]
     if "/" in text and namespace not in namespaces:
         return f"there are the namespaces {', '.join(namespaces)}"
-    workloads = sorted({f"{pod.namespace}/{pod.workload}" for it in universe.groups for pod in it.pods if "/" not in text or pod.namespace == namespace})
+    pods = [pod for it in universe.groups for pod in it.pods if pod.stands_for != ANY_OTHER]
+    workloads = sorted({f"{it.namespace}/{it.workload}" for it in pods if "/" not in text or it.namespace == namespace})
     return f"there are {', '.join(workloads[:8])}{' ..' if len(workloads) > 8 else ''}"
 
 
