@@ -33,6 +33,15 @@ def beside(state):
         yield from it.lacking
 
 
+def renamed(state):
+    """What is said of places in answers that aren't those of the policies as they are written."""
+    others = [(answer.removeprefix("/"), place) for answer, place in state.places.items() if answer.removeprefix("/") != place]
+    for answer, place in others[:NAMED_MOST]:
+        yield f"in answers {answer} is {place}"
+    if len(others) > NAMED_MOST:
+        yield f"and {len(others) - NAMED_MOST} more places in answers are others, since policies were rewritten"
+
+
 def counted(count):
     return f"{count} {'policy' if count == 1 else 'policies'}"
 

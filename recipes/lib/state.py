@@ -70,7 +70,7 @@ class State:
 def of_deciding(found) -> Unsure:
     """An object that decides beside policies, as what isn't read of one."""
     how = {"directions": found.directions(), "isolates": not found.overrides, "overrides": found.overrides, "selector": found.selects}
-    return Unsure(found.name, f"a {found.kind} decides too", "", **how)
+    return Unsure(found.name, "it decides beside policies", "", **how)
 
 
 def read(text: str, choice, cluster: str = "default", whole: str = "standard input", part: str = "document") -> State:

@@ -7,9 +7,27 @@ import tempfile
 TOP = pathlib.Path(__file__).resolve().parent.parent.parent
 sys.path[:0] = [str(TOP / it) for it in ("recipes", "tools", "tests")]
 import front_random  # noqa: E402
+from judge import rules  # noqa: E402
 from lib import change, state  # noqa: E402
 from lib.labels import Filter  # noqa: E402
 from wenirako import diffing, states, writing  # noqa: E402
+
+
+def remembering(select):
+    """The rules that select labels, found once for the same policies."""
+    kept = {}
+
+    def selecting(held, labels):
+        key = (id(held.policies), labels)
+        if key not in kept:
+            # (the policies are kept too, so that no others have their place in memory)
+            kept[key] = (held.policies, select(held, labels))
+        return kept[key][1]
+
+    return selecting
+
+
+rules.selecting = remembering(rules.selecting)
 
 
 def listed(items):
@@ -21,11 +39,12 @@ def read(items, cluster="default", choice=None):
 
 
 def changed(items, added=(), removed=(), cluster="default"):
-    """The change of a state by objects that come, and by policies that go."""
+    """The change of a state, or of one with these objects, by objects that come, and by policies that go."""
+    before = items if isinstance(items, state.State) else read(items, cluster)
     with tempfile.NamedTemporaryFile("w", suffix=".json") as file:
         file.write(listed(added))
         file.flush()
-        return change.of_files(read(items, cluster), [file.name] if added else [], removed)
+        return change.of_files(before, [file.name] if added else [], removed)
 
 
 def report_of(made, node=None):

@@ -48,6 +48,13 @@ def peers_that_match_no_pod(told):
     ])
 
 
+def the_clusters_own_name_in_slips(told):
+    one = lambda name: policy("pay/p", {"endpointSelector": {}, "ingress": [{"fromEndpoints": [{"matchLabels": {"io.cilium.k8s.policy.cluster": name}}]}]})
+    of = lambda name: [it.text for it in lint.slips(judged.read([*STATE, one(name)], "east"))]
+    told("its name", of("east"), [])
+    told("another one", of("default"), ["pay/p#0.ingress[0]: no pod matches the peer io.cilium.k8s.policy.cluster=default"])
+
+
 def subjects_that_select_none(told):
     rule = lambda name: {"endpointSelector": app(name), "ingress": [{}]}
     told("one rule of two", slips(policy("pay/p", rule("teller"), rule("ledgr"))), [("subject-selects-none", "pay/p#1: its rule selects no pod of the state: app=ledgr, io.kubernetes.pod.namespace=pay: app=ledgr is one letter off app=ledger")])
@@ -122,4 +129,4 @@ def which_policies_are_asked_about(told):
 
 
 def checks():
-    return [peers_that_match_no_pod, subjects_that_select_none, denies_that_deny_nobody, prefixes_of_what_is_inside, entries_that_change_nothing, which_policies_are_asked_about]
+    return [peers_that_match_no_pod, the_clusters_own_name_in_slips, subjects_that_select_none, denies_that_deny_nobody, prefixes_of_what_is_inside, entries_that_change_nothing, which_policies_are_asked_about]

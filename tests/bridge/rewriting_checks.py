@@ -99,6 +99,8 @@ LINES = {
     "a group that isn't there": (ingress({"fromCIDRSet": [{"cidrGroupRef": "lost"}], "toPorts": PORT}), ingress({"fromCIDRSet": [], "toPorts": PORT})),
     "nodes": (ingress({"fromNodes": [{"matchLabels": {"zone": "a"}}]}), ingress({"fromEntities": ["host", "remote-node", "kube-apiserver"]})),
     "the entity of other nodes": (egress({"toEntities": ["world", "remote-node"]}), egress({"toEntities": ["world", "remote-node", "kube-apiserver"]})),
+    "the entity of nobody": (egress({"toEntities": ["none"], "toPorts": PORT}, {"toEntities": ["none", "host"]}), egress({"toEntities": [], "toPorts": PORT}, {"toEntities": ["host"]})),
+    "a protocol without ports": (egress({"toPorts": ports(0, protocol="VRRP")}), egress({})),
     "a prefix of IPv6 beside others": (egress({"toCIDR": ["10.0.0.0/8", "fd00::/8"]}, {"toCIDRSet": [{"cidr": "::/0", "except": ["fd00::/8"]}, {"cidr": "0.0.0.0/0"}]}), egress({"toCIDR": ["10.0.0.0/8"]}, {"toCIDRSet": [{"cidr": "0.0.0.0/0"}]})),
     "prefixes of IPv6 alone": (egress({"toCIDR": ["::/0"], "toPorts": PORT}), egress({"toCIDR": [], "toPorts": PORT})),
     "what isolates": (ingress({}, enableDefaultDeny={"ingress": False}), SAME),

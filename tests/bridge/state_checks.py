@@ -3,7 +3,7 @@ import json
 
 from . import judged
 from .objects import app, behind, deployment, namespace, network, pod, policy, ports, service
-from lib import cluster as clusters, reading
+from lib import change, cluster as clusters, reading
 from lib.sides import whose
 from wenirako.ends import Universe
 from wenirako.naming import Names
@@ -124,7 +124,7 @@ def kinds_that_decide(told):
         rows = judged.rows_of(made)
         marked = {it.get("pod") or it.get("pods") for row in rows if row.get("unsure") == [f"{kind}/it"] for it in row["to"]}
         told(f"whose rows {kind} of {subject} marks", marked, wanted)
-        told(f"how {kind} is named", [str(it) for it in made.before.all_unsure], [f"{kind}/it: a {kind} decides too"])
+        told(f"how {kind} is named", [str(it) for it in made.before.all_unsure], [f"{kind}/it: it decides beside policies"])
 
 
 def what_is_marked(told):
@@ -173,6 +173,17 @@ def labels_that_change(told):
     guard = policy("shop/guard", {"endpointSelector": app("cart"), "egress": [{"toServices": [{"k8sService": {"serviceName": "web", "namespace": "pay"}}]}]})
     rows = judged.rows_of(judged.changed([*TWO, service("pay/web", {"app": "none"}), guard], [service("pay/web", {"app": "web"})]))
     told("by a Service", [(row["from"], row["to"], row["after"]) for row in rows], [([{"pod": "shop/cart"}], [{"pod": "pay/web-7f-x"}], "allowed")])
+
+
+def two_whole_states(told):
+    """Pods of one workload are matched though their names aren't the same."""
+    guard = policy("pay/guard", {"endpointSelector": app("ledger"), "ingress": [{"fromEndpoints": [app("web")]}]})
+    ledger = pod("pay/ledger", {"app": "ledger"}, "n1", "10.0.0.5")
+    later = pod("pay/web-9c-y", {"app": "website", "pod-template-hash": "9c"}, "n1", "10.0.0.8", owner=("ReplicaSet", "web-9c"))
+    items = [*TWO, guard, ledger]
+    items[2]["metadata"]["labels"]["pod-template-hash"] = "7f"
+    made = change.Change(judged.read(items), judged.read([*items[:2], later, *items[3:]]))
+    told("what is shut", [(row["from"], row["to"], row["after"]) for row in judged.rows_of(made)], [([{"pod": "pay/web-9c-y"}], [{"pod": "pay/ledger"}], "denied-by-default")])
 
 
 def manifests_come_whole(told):
@@ -254,4 +265,4 @@ def yaml_is_read(told):
 
 def checks():
     found = [pods_that_come, how_ends_that_come_are_written, a_default_deny_that_goes, two_pods_of_one_address, the_api_server, addresses_of_services, kinds_that_decide, what_is_marked]
-    return [*found, names_of_addresses, labels_that_change, manifests_come_whole, what_the_state_lacks, what_kubectl_said, yaml_is_read]
+    return [*found, names_of_addresses, labels_that_change, two_whole_states, manifests_come_whole, what_the_state_lacks, what_kubectl_said, yaml_is_read]

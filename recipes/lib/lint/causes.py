@@ -5,7 +5,7 @@ import typing
 
 from ..pods import NAMESPACE_KEY, OWN_PREFIX
 from ..policies import holds
-from .ground import Asked, Ground, written
+from .ground import Asked, Ground
 
 NAMED_MOST = 2
 
@@ -25,7 +25,7 @@ def of_another_namespace(ground: Ground, policy, asked: Asked, own: Asked, is_bo
     if not pods:
         return ""
     names = list(dict.fromkeys(it.namespace for it in pods))
-    return f"the namespace {named(names)} has pods with {written(own)}, and without a namespace a peer is of {policy.namespace}"
+    return f"the namespace {named(names)} has pods with {ground.written(own)}, and without a namespace a peer is of {policy.namespace}"
 
 
 def of_no_namespace(ground: Ground, policy, asked: Asked, own: Asked, is_bound: bool) -> str:

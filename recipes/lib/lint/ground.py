@@ -7,7 +7,7 @@ import typing
 
 from ..pods import CLUSTER_KEY, CORE_CLUSTER, NAMESPACE_KEY, OWN_PREFIX
 from ..policies import holds, requirements
-from ..rewriting import network, rules
+from ..rewriting import clusters, network, rules
 from ..rewriting.results import Rewritten
 from ..rewriting.requires import says_namespace
 from ..rewriting.work import Refused, Work
@@ -40,6 +40,7 @@ class Ground:
 
     def __init__(self, state):
         self.state, self.cluster = state, state.cluster
+        self.work = Work(None, state, Rewritten(None))
         self.pods = [it for it in state.ends if it.stands_for != ANY_OTHER]
         by_labels: typing.Dict[tuple, list] = {}
         for it in state.ends:
@@ -82,10 +83,11 @@ class Ground:
 
     def subject(self, policy, rule: dict) -> Asked:
         """What a rule asks of its pods."""
-        return tuple(requirements(rule["endpointSelector"], policy.namespace))
+        return tuple(requirements(clusters.selector(self.work, rule["endpointSelector"]), policy.namespace))
 
     def peer(self, policy, selector: dict) -> typing.Tuple[Asked, bool]:
         """What a selector asks of a peer, and whether it is bound to the policy's namespace without saying so."""
+        selector = clusters.selector(self.work, selector)
         asked, own = requirements(selector, ""), ("k8s", NAMESPACE_KEY, "In", [policy.namespace])
         if network.is_network(policy.document) and own in asked:
             return tuple([*(it for it in asked if it != own), own]), True
@@ -94,6 +96,12 @@ class Ground:
         if is_bound:
             asked.append(own)
         return tuple(asked), is_bound
+
+    def written(self, asked: Asked) -> str:
+        """What is asked, as a selector's parts are said in a line; the cluster's name is its own again."""
+        name = {CORE_CLUSTER: self.cluster.cluster, clusters.ANOTHER: CORE_CLUSTER}
+        back = lambda it: (*it[:3], [name.get(text, text) for text in it[3]] if it[1] == CLUSTER_KEY else it[3])
+        return ", ".join(one(back(it)) for it in asked) or "every label"
 
     def all_labels(self, pod) -> typing.Tuple[str, ...]:
         """Every label of a pod, those that are no part of identities too."""
@@ -105,11 +113,6 @@ class Ground:
 def is_reserved(asked: Asked) -> bool:
     """Whether something is asked of a label of source reserved, which no pod has."""
     return any(it[0] == "reserved" for it in asked)
-
-
-def written(asked: Asked) -> str:
-    """What is asked, as a selector's parts are said in a line."""
-    return ", ".join(one(it) for it in asked) or "every label"
 
 
 def one(asked: tuple) -> str:

@@ -4,7 +4,7 @@ from __future__ import annotations
 import typing
 
 from .causes import likely
-from .ground import Ground, Written, is_reserved, written
+from .ground import Ground, Written, is_reserved
 
 Found = typing.Iterator[typing.Tuple[str, str, str]]
 
@@ -36,4 +36,4 @@ def told_of(ground: Ground, policy, entry: Written, selector: dict) -> str:
         return ""
     cause = likely(ground, policy, asked, is_bound)
     own = asked[:-1] if is_bound else asked
-    return f"no pod matches the peer {written(own)}" + (f": {cause}" if cause else "")
+    return f"no pod matches the peer {ground.written(own)}" + (f": {cause}" if cause else "")

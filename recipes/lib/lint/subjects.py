@@ -4,7 +4,7 @@ from __future__ import annotations
 import typing
 
 from .causes import likely
-from .ground import Ground, written
+from .ground import Ground
 
 Found = typing.Iterator[typing.Tuple[str, str, str]]
 
@@ -28,7 +28,7 @@ def of_policy(ground: Ground, policy) -> Found:
         yield "policy-without-effect", policy.name, text
         return
     for number, asked in none:
-        text = f"{policy.name}#{number}: its rule selects no pod of the state: {written(asked)}{behind(ground, policy, asked)}"
+        text = f"{policy.name}#{number}: its rule selects no pod of the state: {ground.written(asked)}{behind(ground, policy, asked)}"
         yield "subject-selects-none", f"{policy.name}#{number}", text
 
 

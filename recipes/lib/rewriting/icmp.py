@@ -1,4 +1,4 @@
-"""ICMP: policyd's packets are of TCP, UDP and SCTP, so an entry of ICMP alone isolates and covers none of them."""
+"""Protocols without ports: policyd's packets are of TCP, UDP and SCTP, so an entry of ICMP alone isolates and covers none."""
 from __future__ import annotations
 
 import dataclasses
@@ -6,24 +6,24 @@ import typing
 
 from .work import Entry, Work
 
-PROTOCOLS = ("ICMP", "ICMPV6")
+PROTOCOLS = ("ICMP", "ICMPV6", "VRRP", "IGMP")
 
 
 def rewrite(work: Work, entry: Entry, word: str) -> typing.List[Entry]:
-    """The entry without its ports of ICMP; where it has none but these, one that covers nothing."""
+    """The entry without its ports of such protocols; where it has none but these, one that covers nothing."""
     value = dict(entry.value)
     if value.pop("icmps", None):
         return [dataclasses.replace(entry, value={})]
     items = value.get("toPorts") or []
     ports = [port for item in items for port in item.get("ports") or []]
-    kept = [port for port in ports if not is_icmp(port)]
+    kept = [port for port in ports if not is_without_ports(port)]
     if len(kept) == len(ports):
         return [dataclasses.replace(entry, value=value)]
     if not kept:
         return [dataclasses.replace(entry, value={})]
-    value["toPorts"] = [{**item, "ports": left} for item in items for left in [[it for it in item["ports"] if not is_icmp(it)]] if left]
+    value["toPorts"] = [{**item, "ports": left} for item in items for left in [[it for it in item["ports"] if not is_without_ports(it)]] if left]
     return [dataclasses.replace(entry, value=value)]
 
 
-def is_icmp(port: dict) -> bool:
+def is_without_ports(port: dict) -> bool:
     return str(port.get("protocol") or "").upper() in PROTOCOLS

@@ -1,4 +1,5 @@
-"""Nodes: peers that are some nodes become every node, and the entity of other nodes has those of the API server too."""
+"""Nodes: peers that are some nodes become every node, and the entity of other nodes has those of the API server too; the
+entity of nobody goes."""
 from __future__ import annotations
 
 import dataclasses
@@ -6,6 +7,7 @@ import typing
 
 from .work import Entry, Work
 
+NOBODY = "none"
 ALL_NODES = ["host", "remote-node", "kube-apiserver"]
 
 
@@ -22,6 +24,8 @@ def rewrite(work: Work, entry: Entry, word: str) -> typing.List[Entry]:
     elif listed is not None:
         value.setdefault(f"{word}Entities", [])
     entities = value.get(f"{word}Entities") or []
+    if NOBODY in entities:
+        entities = value[f"{word}Entities"] = [it for it in entities if it != NOBODY]
     if "remote-node" in entities and "kube-apiserver" not in entities:
         value[f"{word}Entities"] = [*entities, "kube-apiserver"]
     return [dataclasses.replace(entry, value=value, marks=marks)]
