@@ -1,5 +1,8 @@
 """The checks of tests/bridge, for tests/run."""
-from bridge import lint_checks, made_checks, rewriting_checks, rows_checks, state_checks
+from bridge import lint_checks, made_checks, random_states, rewriting_checks, rows_checks, state_checks
+
+# The random states that are played.
+SEEDS = range(1, 13)
 
 
 def run(check):
@@ -15,4 +18,5 @@ def run(check):
 
 def checks():
     listed = [it for module in (rows_checks, rewriting_checks, state_checks, lint_checks, made_checks) for it in module.checks()]
-    return [(f"bridge {it.__name__.replace('_', ' ')}", lambda it=it: run(it)) for it in listed]
+    named = [(f"bridge {it.__name__.replace('_', ' ')}", lambda it=it: run(it)) for it in listed]
+    return [*named, *((f"bridge random state {it}", lambda it=it: random_states.play(it)[0]) for it in SEEDS)]
