@@ -35,5 +35,17 @@ def the_false_rows(told):
     told("what is shut of the web pods", [it for it in map(ends, rows) if it[0] == ["shop/web"] and it[4] != "allowed"], [])
 
 
+def what_a_rule_says_of_default_deny(told):
+    """One that says false shuts nothing, one that says true shuts all that no entry opens."""
+    if not judged.reads_default_deny():
+        return
+    to_cart = {"endpointSelector": app("web"), "egress": [{"toEndpoints": [app("cart")], "toPorts": ports(8080)}]}
+    told("false", judged.rows_of(judged.changed(SHOP, [policy("shop/p", {**to_cart, "enableDefaultDeny": {"egress": False}})])), [])
+    told("false beside what isolates", [ends(it) for it in judged.rows_of(judged.changed([*SHOP, LOOKS_UP], [policy("shop/p", {**to_cart, "enableDefaultDeny": {"egress": False}})]))], [(["shop/web"], ["shop/cart"], [[[8080, 8080]]], "denied-by-default", "allowed")])
+    rows = judged.rows_of(judged.changed(SHOP, [policy("shop/p", {"endpointSelector": app("web"), "enableDefaultDeny": {"egress": True}})]))
+    told("true without a section", {(tuple(it.get("pod") for it in row["from"]), row["after"]) for row in rows}, {(("shop/web",), "denied-by-default")})
+    told("whom it shuts off", {it.get("pod") or it.get("pods") or it.get("entity") or it.get("cidr") for row in rows for it in row["to"]} >= {"shop/cart", "kube-system/dns", "host", "0.0.0.0/0"}, True)
+
+
 def checks():
-    return [the_false_rows]
+    return [the_false_rows, what_a_rule_says_of_default_deny]
