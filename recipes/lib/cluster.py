@@ -1,4 +1,8 @@
 """The objects of a cluster, as far as the recipes speak of them."""
+from __future__ import annotations
+
+import typing
+
 from . import deciding, network, services, workloads
 from .pods import (  # noqa: F401
     CLUSTER_KEY,
@@ -34,19 +38,19 @@ ASKED_FOR = {
 class Cluster:
     """The objects of the input."""
 
-    def __init__(self, text, choice, cluster="default", whole="standard input", part="document"):
-        self.warned = []
+    def __init__(self, text: str, choice, cluster: str = "default", whole: str = "standard input", part: str = "document"):
+        self.warned: typing.List[str] = []
         self.begin(choice, cluster, list(objects(text, whole, part, self.warned)))
 
     @classmethod
-    def of(cls, given, choice, cluster="default", relabelled=()):
+    def of(cls, given: list, choice, cluster: str = "default", relabelled: typing.Sequence = ()) -> Cluster:
         """The cluster of objects with their places; templates that come give their pods other labels."""
         found = cls.__new__(cls)
         found.warned = []
         found.begin(choice, cluster, given, relabelled)
         return found
 
-    def begin(self, choice, cluster, given, relabelled=()):
+    def begin(self, choice, cluster: str, given: list, relabelled: typing.Sequence = ()):
         self.namespaces, self.pods, self.policies, self.templates = {}, {}, [], []
         # What addresses are: the name of a Service by its own ones and by those outside the cluster, the node's name.
         self.services, self.balancers, self.nodes = {}, {}, {}
@@ -91,7 +95,7 @@ class Cluster:
         self.live.sort(key=lambda it: order[id(it)])
         self.settle_coming([*coming, *(it for it in self.templates if it.comes())])
 
-    def settle_coming(self, coming):
+    def settle_coming(self, coming: typing.List[Pod]):
         """What stands for pods that come: where no pod and nothing before it has the workload with the same labels."""
         known, self.coming = {(it.namespace, it.workload, it.labels) for it in self.live}, []
         for it in coming:
@@ -103,15 +107,15 @@ class Cluster:
             self.coming.append(AnyOther(name))
             self.derive(self.coming[-1])
 
-    def derive(self, pod):
+    def derive(self, pod: Pod):
         pod.derive(self.namespaces.get(pod.namespace, {}), self.choice)
 
     @property
-    def ends(self):
+    def ends(self) -> typing.List[Pod]:
         """The pods and what stands for those that come."""
         return [*self.live, *self.coming]
 
-    def take(self, place, value):
+    def take(self, place: str, value: dict):
         api, kind = value["apiVersion"], value["kind"]
         self.kinds[kind] = self.kinds.get(kind, 0) + 1
         if (api, kind) in workloads.KINDS:
@@ -128,7 +132,7 @@ class Cluster:
         elif not self.take_core(place, value, api, kind):
             self.unread[(api, kind)] = self.unread.get((api, kind), 0) + 1
 
-    def take_core(self, place, value, api, kind):
+    def take_core(self, place: str, value: dict, api: str, kind: str) -> bool:
         """An object of Kubernetes itself; whether it is of a kind that is read."""
         if (api, kind) == ("v1", "Namespace"):
             metadata, name = name_of(place, value)
@@ -149,18 +153,18 @@ class Cluster:
             return False
         return True
 
-    def take_template(self, template):
+    def take_template(self, template: workloads.Template):
         """A workload's template; a Job of a CronJob is that one's."""
         if not template.owner or template.owner[0] != "CronJob":
             self.templates.append(template)
 
-    def take_service(self, service):
+    def take_service(self, service: services.Service):
         self.has_services = True
         self.listed_services[service.name] = service
         self.services.update((it, service.name) for it in service.own)
         self.balancers.update((it, service.name) for it in service.outer)
 
-    def take_node(self, place, value):
+    def take_node(self, place: str, value: dict):
         """Further addresses of a node, beside those that its pods tell."""
         _, name = name_of(place, value)
         status = member(f"{place}: Node {name}", value, "status", dict, {})
@@ -172,25 +176,25 @@ class Cluster:
             if IPV4.fullmatch(address):
                 self.nodes[address] = name
 
-    def leave_out(self, reason, name):
+    def leave_out(self, reason: str, name: str):
         self.left_out.setdefault(reason, []).append(name)
 
-    def node_number(self, node, local):
+    def node_number(self, node: str, local: str) -> int:
         """The identity of a node, for an endpoint of the node `local`."""
         return HOST if node == local else API_SERVER if node in self.api_nodes else REMOTE_NODE
 
-    def number_of(self, address, local):
+    def number_of(self, address: str, local: str) -> typing.Optional[int]:
         """The identity of a node's address, or of the API server's, for an endpoint of the node `local`; or None."""
         if address in self.nodes:
             return self.node_number(self.nodes[address], local)
         return API_SERVER if address in self.api_addresses else None
 
 
-def counted(count, one, many):
+def counted(count: int, one: str, many: str) -> str:
     return f"{count} {one if count == 1 else many}"
 
 
-def left_out(cluster, come=False):
+def left_out(cluster: Cluster, come: bool = False) -> typing.Iterator[str]:
     """What is said of what the verdicts lack, but for policies; where pods that come count, they aren't left out."""
     coming = {it.name for it in cluster.pods.values() if it.comes()} if come else ()
     for reason, names in cluster.left_out.items():
@@ -204,7 +208,7 @@ def left_out(cluster, come=False):
         yield f"note: the namespace {name} isn't in the input, so its pods have none of its labels"
 
 
-def lacks(cluster):
+def lacks(cluster: Cluster) -> typing.Iterator[str]:
     """What is said of kinds of which the input has no object, in a line, or nothing."""
     none = [f"0 {many}" for kind, many in ASKED_FOR.items() if not cluster.kinds.get(kind)]
     if none:

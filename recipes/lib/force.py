@@ -1,8 +1,12 @@
 """What is said of policies that aren't in force, or not as they are written: not read, refused, rewritten but for something."""
+from __future__ import annotations
+
+import typing
+
 from .cluster import NAMED_MOST
 
 
-def said(state, answers, pods):
+def said(state, answers: typing.Dict[str, list], pods: typing.Iterable) -> typing.Iterator[str]:
     """The summary of what isn't read, and which endpoints, and which answers by their lines, it may change."""
     unread = {}
     for it in state.all_unsure:
@@ -18,7 +22,7 @@ def said(state, answers, pods):
             yield f"the verdicts of {some(names)} may be others by {name}, which selects {'it' if len(names) == 1 else 'them'}{told}"
 
 
-def beside(state):
+def beside(state) -> typing.Iterator[str]:
     """What is said of policies that Cilium refuses too, and of what was left out or is lacking where one is rewritten."""
     for it in state.rewritten.values():
         if it.refused:
@@ -33,7 +37,7 @@ def beside(state):
         yield from it.lacking
 
 
-def renamed(state):
+def renamed(state) -> typing.Iterator[str]:
     """What is said of places in answers that aren't those of the policies as they are written."""
     others = [(answer.removeprefix("/"), place) for answer, place in state.places.items() if answer.removeprefix("/") != place]
     for answer, place in others[:NAMED_MOST]:
@@ -42,11 +46,11 @@ def renamed(state):
         yield f"and {len(others) - NAMED_MOST} more places in answers are others, since policies were rewritten"
 
 
-def counted(count):
+def counted(count: int) -> str:
     return f"{count} {'policy' if count == 1 else 'policies'}"
 
 
-def some(values):
+def some(values: typing.Sequence) -> str:
     """Some of the values, and how many there are if they are many."""
     more = f" and {len(values) - NAMED_MOST} more" if len(values) > NAMED_MOST else ""
     return ", ".join(map(str, values[:NAMED_MOST])) + more

@@ -66,12 +66,12 @@ class Filter:
         self.patterns = [*(Pattern(it) for it in DEFAULT), *more]
         self.is_closed, self.known = any(not it.is_out for it in more), {}
 
-    def counts(self, key, source="k8s"):
+    def counts(self, key: str, source: str = "k8s") -> bool:
         if (source, key) not in self.known:
             self.known[source, key] = self.is_off or self.is_counted(key, source)
         return self.known[source, key]
 
-    def is_counted(self, key, source):
+    def is_counted(self, key: str, source: str) -> bool:
         taken = out = 0
         for it in self.patterns:
             length = it.length(source, key)

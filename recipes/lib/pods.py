@@ -1,5 +1,8 @@
 """Pods, and what stands for pods that aren't there yet: those of a workload's template, and any other of a namespace."""
+from __future__ import annotations
+
 import re
+import typing
 
 from .reading import VALUE, Bad, addresses_of, labels_of, member, name_of
 
@@ -21,7 +24,7 @@ SAME_ADDRESS = "pods whose address another pod has, as one that is ending may"
 class Pod:
     """What is known of a pod."""
 
-    def __init__(self, place, value):
+    def __init__(self, place: str, value: dict):
         metadata, name = name_of(place, value)
         self.namespace = member(f"{place}: metadata", metadata, "namespace", str, "default")
         self.name = f"{self.namespace}/{name}"
@@ -43,7 +46,7 @@ class Pod:
         # Why it stands for pods that come, such as `finished`; empty for a pod that is there.
         self.stands_for, self.labels = "", ()
 
-    def reason(self):
+    def reason(self) -> typing.Optional[str]:
         """Why it is no endpoint and no identity, or None."""
         if self.is_host:
             return ON_HOST
@@ -53,7 +56,7 @@ class Pod:
             return NO_ADDRESS
         return LONG_NAME if not NAME.fullmatch(self.name) else None
 
-    def comes(self):
+    def comes(self) -> str:
         """How a pod that isn't there now is one that comes, or again; empty where it isn't."""
         if self.is_host or not NAME.fullmatch(self.name):
             return ""
@@ -61,7 +64,7 @@ class Pod:
             return "finished" if self.is_owned else ""
         return "" if self.has_address or self.is_ending else "pending"
 
-    def derive(self, of_namespace, choice, required=""):
+    def derive(self, of_namespace: typing.Dict[str, str], choice):
         """The labels that Cilium derives and that make the identity. A pod can't give itself those that Cilium writes."""
         labels = {key: value for key, value in self.own.items() if not key.startswith(OWN_PREFIX)}
         labels[NAMESPACE_KEY] = self.namespace
@@ -72,14 +75,14 @@ class Pod:
             labels[f"{OWN_PREFIX}namespace.labels.{key}"] = value
         self.labels = tuple(f"k8s:{key}={value}" for key, value in sorted(labels.items()) if choice.counts(key))
 
-    def add_labels(self, more):
+    def add_labels(self, more: typing.Dict[str, str]):
         """Labels of the bridge's own, which no selector of a user's names."""
         if more:
             listed = {*self.labels, *(f"k8s:{key}={value}" for key, value in more.items())}
             self.labels = tuple(sorted(listed, key=lambda it: it.partition("=")[0]))
 
 
-def ports_of(place, spec):
+def ports_of(place: str, spec: dict) -> typing.FrozenSet[typing.Tuple[str, str, int]]:
     """The ports of a pod's containers that have a name: triples of name, protocol and number."""
     found = set()
     for kind in ("containers", "initContainers"):
@@ -93,7 +96,7 @@ def ports_of(place, spec):
     return frozenset(found)
 
 
-def workload_of(place, metadata, name, labels):
+def workload_of(place: str, metadata: dict, name: str, labels: typing.Dict[str, str]) -> typing.Tuple[str, bool]:
     """The name of what a pod is a replica of (its controller, a Deployment's without the hash; else the pod's own), and
     whether it has a controller."""
     found, is_owned = name, False
@@ -107,7 +110,7 @@ def workload_of(place, metadata, name, labels):
 class AnyOther(Pod):
     """In the place of any other pod of a namespace: its labels are the namespace's alone."""
 
-    def __init__(self, namespace):
+    def __init__(self, namespace: str):
         super().__init__("", {"kind": "Pod", "metadata": {"name": "..", "namespace": namespace}})
         self.name, self.stands_for = f"any other pod of {namespace}", "any other"
         self.workload = self.name

@@ -1,4 +1,8 @@
 """Services, the addresses behind them, nodes and groups of prefixes."""
+from __future__ import annotations
+
+import typing
+
 from .reading import IPV4, addresses_of, labels_of, member, name_of
 
 SLICES, ENDPOINTS = ("discovery.k8s.io/v1", "EndpointSlice"), ("v1", "Endpoints")
@@ -10,7 +14,7 @@ GROUPS = {("cilium.io/v2alpha1", "CiliumCIDRGroup"), ("cilium.io/v2", "CiliumCID
 class Service:
     """What is known of a Service."""
 
-    def __init__(self, place, value):
+    def __init__(self, place: str, value: dict):
         metadata, name = name_of(place, value)
         self.namespace = member(f"{place}: metadata", metadata, "namespace", str, "default")
         self.name = f"{self.namespace}/{name}"
@@ -26,7 +30,7 @@ class Service:
         self.outer += [it for it in listed if isinstance(it, str) and IPV4.fullmatch(it)]
 
 
-def slice_of(place, value):
+def slice_of(place: str, value: dict) -> typing.Tuple[str, typing.List[str]]:
     """The Service of an EndpointSlice or of Endpoints, and its IPv4 addresses."""
     metadata, name = name_of(place, value)
     namespace = member(f"{place}: metadata", metadata, "namespace", str, "default")
@@ -42,7 +46,7 @@ def slice_of(place, value):
     return f"{namespace}/{name}", [it for it in found if isinstance(it, str) and IPV4.fullmatch(it)]
 
 
-def group_of(place, value):
+def group_of(place: str, value: dict) -> typing.Tuple[str, typing.Dict[str, str], typing.List[str]]:
     """The name, the labels and the prefixes of a CiliumCIDRGroup."""
     metadata, name = name_of(place, value)
     spec = member(f"{place}: CiliumCIDRGroup {name}", value, "spec", dict, {})

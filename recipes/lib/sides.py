@@ -1,9 +1,13 @@
 """What ends of connections are called, and whose an address is that lies inside the cluster."""
+from __future__ import annotations
+
+import typing
+
 # What stands for any other pod of a namespace.
 ANY_OTHER = "any other"
 
 
-def whose(cluster, address):
+def whose(cluster, address: str) -> typing.Optional[str]:
     """Whose an address is, where it is no address outside the cluster; or None."""
     if address in cluster.services:
         return f"the ClusterIP of the Service {cluster.services[address]}, which is a pod's address before policies are asked; name the pods by their labels"

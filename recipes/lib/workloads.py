@@ -1,4 +1,8 @@
 """Workloads: what stands for the pods of their templates, also where there are none now."""
+from __future__ import annotations
+
+import typing
+
 from .pods import Pod
 from .reading import member, name_of
 
@@ -16,7 +20,7 @@ ACCOUNT = "default"
 class Template(Pod):
     """The pods of a workload's template."""
 
-    def __init__(self, place, value):
+    def __init__(self, place: str, value: dict):
         metadata, name = name_of(place, value)
         template, path = member(place, value, "spec", dict, {}), f"{place}: spec"
         for it in KINDS[value["apiVersion"], value["kind"]]:
@@ -29,17 +33,17 @@ class Template(Pod):
         self.account = self.account or ACCOUNT
         self.stands_for = self.kind
 
-    def comes(self):
+    def comes(self) -> str:
         return "" if self.is_host else self.kind
 
-    def is_of(self, pod):
+    def is_of(self, pod: Pod) -> bool:
         """Whether a pod is one of its replicas; those of a CronJob are a Job's, whose name begins with its own."""
         if not pod.is_owned or pod.namespace != self.namespace:
             return False
         name = self.name.split("/", 1)[1]
         return pod.workload == name or self.kind == "CronJob" and pod.workload.rpartition("-")[0] == name
 
-    def replaces_labels_of(self, pod):
+    def replaces_labels_of(self, pod: Pod) -> typing.Dict[str, str]:
         """What the pod's labels become where this template comes, its serial labels as they were."""
         kept = {key: value for key, value in pod.own.items() if key in SERIAL}
         return {**kept, **self.own}
@@ -60,7 +64,7 @@ SERIAL = (
 )
 
 
-def owner_of(metadata):
+def owner_of(metadata: dict) -> typing.Optional[tuple]:
     """The kind and the name of an object's controller, or None."""
     for it in metadata.get("ownerReferences") or []:
         if isinstance(it, dict) and it.get("controller"):
