@@ -418,11 +418,11 @@ def interrupted(words):
     return run.returncode, said.decode()
 
 
-def the_readme_tells_what_is_left_out(wrong):
-    """The table of README.md names each member that policyd leaves out."""
-    rows = [it for it in (compare.TOP / "README.md").read_text().splitlines() if it.startswith("|")]
+def the_rules_tell_what_is_rewritten(wrong):
+    """The tables of docs/RULES.md name each member that policyd leaves out."""
+    rows = [it for it in (compare.TOP / "docs" / "RULES.md").read_text().split("## What the bridge rewrites")[1].splitlines() if it.startswith("|")]
     for name in " ".join(LEFT_OUT.values()).split():
-        told(wrong, f"whether README.md tells {name}", any(f"`{name}`" in it for it in rows), True)
+        told(wrong, f"whether docs/RULES.md tells {name}", any(f"`{name}`" in it for it in rows), True)
 
 
 def run(check):
@@ -436,5 +436,5 @@ def checks():
     names += (unread_as_the_cases_say, names_of_pods, faults_of_changes, policies_that_select_nobody)
     names += (words_that_do_not_fit,)
     names += (refusals_that_were_not_foreseen,)
-    names += (ends_without_a_trace, the_readme_tells_what_is_left_out)
+    names += (ends_without_a_trace, the_rules_tell_what_is_rewritten)
     return [(f"recipes {it.__name__.replace('_', ' ')}", lambda it=it: run(it)) for it in names]

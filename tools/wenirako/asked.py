@@ -31,9 +31,12 @@ class Asked:
         self.halves = Halves(self.universe, Core(find, self.universe.sets, progress), states.phases())
         self.names = Names(self.universe.groups)
 
-    def about(self, pairs: Iterable[tuple[End, End]], ports: PortRange = EVERY_PORT, phase: int = 0, is_open: Optional[bool] = None) -> "About":
+    def about(self, pairs: Iterable[tuple[End, End]], ports: PortRange = EVERY_PORT, phase: int = 0, is_open: Optional[bool] = None, explains: bool = True) -> "About":
         """What is so between ends at some ports; where `is_open` is given, only what is open, or only what isn't."""
-        return About(self, list(pairs), ports, phase, is_open)
+        found = About(self, list(pairs), ports, phase, is_open)
+        if explains:
+            found.explain(it for pair in found.pairs for it in found.stretches(*pair))
+        return found
 
     def notes(self) -> list[str]:
         """What is said of what answers lack."""
@@ -52,8 +55,11 @@ class About:
         self.kept: dict[tuple, list[Stretch]] = {}
         halves = asked.halves
         halves.ask((it for pair in pairs for it in wanted(*pair, phase)), "asking about connections")
-        found = {id(it): it for pair in pairs for it in self.stretches(*pair)}
-        halves.explain((segment for it in found.values() for _, segment in self.deciding(it)), "asking for reasons")
+
+    def explain(self, found: Iterable[Stretch]) -> None:
+        """Asks for the reasons of stretches."""
+        alone = {id(it): it for it in found}
+        self.asked.halves.explain((segment for it in alone.values() for _, segment in self.deciding(it)), "asking for reasons")
 
     def stretches(self, source: End, target: End) -> list[Stretch]:
         """The stretches of a connection that are asked for, made once for all that are judged alike."""

@@ -58,7 +58,7 @@ def read(asked: Asked, text: str, name: str) -> list[Expectation]:
 def report(asked: Asked, text: str, name: str) -> Report:
     """The expectations that don't hold, each with a packet that shows it."""
     expected = read(asked, text, name)
-    found = asked.halves.foreseen(lambda: [it for it in map(lambda one: shown_by(asked, one), expected) if it])
+    found = asked.halves.foreseen(lambda: broken_of(asked, expected))
     cells, rows = [], []
     for it in found:
         ends = [written(asked, it.pair, at) for at in (0, 1)]
@@ -82,19 +82,27 @@ class Shown(NamedTuple):
     unsure: tuple[str, ...]
 
 
-def shown_by(asked: Asked, it: Expectation) -> Optional[Shown]:
-    """A packet that shows that an expectation doesn't hold, else one that may show it, or None."""
-    listed_pairs = list(pairs(asked.halves, it.source, it.target))
-    broken = asked.about(listed_pairs, it.ports, is_open=it.word == NEVER)
+def broken_of(asked: Asked, expected: list[Expectation]) -> list[Shown]:
+    """What shows that expectations don't hold: all are asked about at once."""
+    by_line = [(it, list(pairs(asked.halves, it.source, it.target))) for it in expected]
+    asked.about((pair for _, each in by_line for pair in each), explains=False)
+    return [found for it, each in by_line for found in shown_by(asked, it, each)]
+
+
+def shown_by(asked: Asked, it: Expectation, each: list[tuple[End, End]]) -> Iterable[Shown]:
+    """A packet that shows that an expectation doesn't hold, else one that may show it, where there is one."""
+    broken = asked.about(each, it.ports, is_open=it.word == NEVER, explains=False)
     for pair, stretch in stretches_of(broken):
-        return Shown(it, pair, stretch, broken.reasons(stretch), ())
-    if asked.halves.beside.has_doubts:
-        about = asked.about(listed_pairs, it.ports, is_open=it.word != NEVER)
-        for pair, stretch in stretches_of(about):
-            doubts = about.unsure(*pair, stretch)
-            if doubts:
-                return Shown(it, pair, stretch, about.reasons(stretch), doubts)
-    return None
+        broken.explain([stretch])
+        yield Shown(it, pair, stretch, broken.reasons(stretch), ())
+        return
+    about = asked.about(each, it.ports, is_open=it.word != NEVER, explains=False)
+    for pair, stretch in stretches_of(about) if asked.halves.beside.has_doubts else ():
+        doubts = about.unsure(*pair, stretch)
+        if doubts:
+            about.explain([stretch])
+            yield Shown(it, pair, stretch, about.reasons(stretch), doubts)
+            return
 
 
 def stretches_of(about: About) -> Iterable[tuple[tuple[End, End], Stretch]]:

@@ -7,7 +7,7 @@ from typing import Iterable
 from .core import ALLOWED
 from .ends import ENTITIES, End, Outside
 from .listing import union
-from .naming import outer
+from .naming import outer, workload_of
 from .report import Report
 from .rows import Line, written_ports
 
@@ -26,7 +26,7 @@ def places_of(end: End) -> list[tuple[str, str]]:
     """The namespace and workload of an end; of what is no pod, a name without a namespace."""
     if isinstance(end, Outside):
         return [("", ENTITIES[end.value] if end.kind == "entity" else outer([end])[0])]
-    return sorted({(pod.namespace, pod.workload) for pod in end.pods})
+    return sorted({(pod.namespace, workload_of(pod)) for pod in end.pods})
 
 
 def edges(lines: Iterable[Line]) -> dict[tuple, list]:

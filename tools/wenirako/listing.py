@@ -7,7 +7,7 @@ from lib import ports as port_sets
 
 from .asked import Asked
 from .ends import ENTITIES, End, Group, Outside
-from .naming import Names, outer
+from .naming import Names, outer, workload_of
 from .report import Report, counted, doubt
 from .resolving import EVERY_PORT, everything, named, pairs, port_range
 from .rows import Line, Rows, Told, alike, listed, written_ports
@@ -63,7 +63,7 @@ def coarse_name(end: End, by: str) -> list[str]:
     """The workloads or namespaces of an end; what is no pod stands for itself."""
     if isinstance(end, Outside):
         return [ENTITIES[end.value]] if end.kind == "entity" else outer([end])
-    return sorted({pod.namespace if by == "namespace" else f"{pod.namespace}/{pod.workload}" for pod in end.pods})
+    return sorted({pod.namespace if by == "namespace" else f"{pod.namespace}/{workload_of(pod)}" for pod in end.pods})
 
 
 def sizes(lines: Iterable[Line], by: str) -> dict[str, set]:

@@ -1,7 +1,7 @@
 """How ends are written: all pods of a namespace or all but few, all replicas of a workload, single pods, and what is no pod."""
 from __future__ import annotations
 
-from typing import Iterable
+from typing import Any, Iterable
 
 from lib import regions
 from lib.sides import ANY_OTHER
@@ -68,6 +68,11 @@ class Names:
                 name = f"{namespace}/{self.workload_of[name]} ({len(whole)} pods)"
             found[name] = None
         return list(found)
+
+
+def workload_of(pod: Any) -> str:
+    """The workload of a pod, as a cell of a matrix has it."""
+    return "any other pod" if pod.stands_for == ANY_OTHER else pod.workload
 
 
 def some(values: list[str], most: int) -> str:
