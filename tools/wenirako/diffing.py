@@ -9,7 +9,7 @@ from .asked import Asked
 from .core import ALLOWED
 from .diff import Diff
 from .listing import for_programs
-from .naming import Names
+from .naming import Names, some
 from .report import Report, counted, doubt
 from .rows import Line, listed, written_ports
 from .statuses import NOTHING, TELLS, UNSURE
@@ -58,7 +58,7 @@ def by_line(names: Names, lines: Iterable[Line]) -> list[list[str]]:
 def alone(names: Names, lines: list[Line]) -> Iterable[str]:
     """What is said of halves that change where the connection doesn't."""
     for it in lines[:NAMED_MOST]:
-        ends = ", ".join(names.side(it.froms, it.tos)), ", ".join(names.side(it.tos, it.froms))
+        ends = [some(names.side(*both), NAMED_MOST) for both in ((it.froms, it.tos), (it.tos, it.froms))]
         yield f"{ends[0]} to {ends[1]}, {written_ports(it.ports)}: a half changes, and the connection stays {it.told.after} ({'; '.join(it.told.reasons)})"
     if len(lines) > NAMED_MOST:
         yield f"and so do {len(lines) - NAMED_MOST} more"
