@@ -66,7 +66,9 @@ class About:
         halves = self.asked.halves
         keys = tuple((halves.half(*it[:3]), halves.alike(halves.half(*it[:3]), it[3])) for it in wanted(source, target, self.phase))
         if keys not in self.kept:
-            self.kept[keys] = list(self.cut(stretches(halves, source, target, self.phase)))
+            # (most connections of an isolated pod are denied whole, and need no look at each stretch)
+            is_shut = self.is_open is True and any(halves.is_shut(*it) for it in wanted(source, target, self.phase))
+            self.kept[keys] = [] if is_shut else list(self.cut(stretches(halves, source, target, self.phase)))
         return self.kept[keys]
 
     def cut(self, found: Iterable[Stretch]) -> Iterable[Stretch]:

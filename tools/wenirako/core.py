@@ -142,7 +142,7 @@ class Core:
                     places[it] = len(lines), synced
                     lines.append(query("verdict", it, numbers))
         said = self.play(lines, numbers)
-        refused = {line: said[at].split(" ", 2)[2] for at, line in policies.items() if said[at].startswith("refused")}
+        refused = {line: said[at].split(" ", 1)[1] for at, line in policies.items() if said[at].startswith("refused")}
         if {*refused} != self.refused & {*policies.values()}:
             raise Misjudged(refused)
         found = {it: word_of(said[place], said[synced]) for it, (place, synced) in places.items()}

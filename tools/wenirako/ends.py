@@ -43,13 +43,13 @@ class Outside(NamedTuple):
     value: object
     prefixes: frozenset
 
-    def remote(self, taken: Iterable[str]) -> Optional[tuple]:
-        """How a question names it, or None where no address is left of it."""
+    def remote(self, taken: set[int]) -> Optional[tuple]:
+        """How a question names it, or None where no address is left of it but those that are taken."""
         if self.kind == "entity":
             return "identity", self.value
         if self.kind == "address":
             return "address", str(self.value)
-        address = regions.representative(self.region, self.prefixes, taken)
+        address = first_free(self.region, regions.inside(self.region, self.prefixes), taken)
         return None if address is None else ("address", address)
 
     @property
@@ -68,7 +68,7 @@ class Universe:
         self.states, self.node = states, node
         self.sets: list[LabelSet] = []
         self.numbers: dict[tuple, int] = {}
-        self.taken = sorted({it for state in states for it in addresses(state)})
+        self.taken = {number_of(it) for state in states for it in addresses(state)}
         self.groups: list[Group] = []
         # Pods that one of two states lacks, and whose workload gives no other pod in their place: by the state's number.
         self.alone: tuple[list, list] = ([], [])
@@ -78,7 +78,7 @@ class Universe:
         for pair in pairs:
             for pod in filter(None, pair):
                 self.add(pod, used)
-        self.taken = sorted({*self.taken, *used})
+        self.taken |= set(map(number_of, used))
         self.group(pairs)
         self.of_set: tuple[dict, dict] = ({}, {})
         for it in self.groups:
@@ -99,7 +99,7 @@ class Universe:
         if labels not in self.numbers:
             at = self.numbers[labels] = len(self.sets)
             self.sets.append(LabelSet(labels, namespace, str(ipaddress.ip_address(SPARE + at))))
-            self.taken.append(self.sets[at].address)
+            self.taken.add(number_of(self.sets[at].address))
         return self.numbers[labels]
 
     def group(self, pairs: Sequence[tuple]) -> None:
@@ -115,6 +115,22 @@ class Universe:
     def outside(self, halves: Iterable[Half]) -> list[Outside]:
         """What isn't a pod at the other side of halves, as far as their entries tell it apart."""
         return [*map(entity, ENTITIES), *inside(halves, regions.WORLD)]
+
+
+def number_of(address: str) -> int:
+    return int(ipaddress.IPv4Address(address))
+
+
+def first_free(whole: ipaddress.IPv4Network, holes: Sequence[ipaddress.IPv4Network], taken: set[int]) -> Optional[str]:
+    """The first address of a prefix that lies in no hole of it and isn't taken, or None."""
+    at, last = int(whole.network_address), int(whole.broadcast_address)
+    ends = sorted((int(it.network_address), int(it.broadcast_address)) for it in holes)
+    while at <= last:
+        behind = next((high for low, high in ends if low <= at <= high), None)
+        if behind is None and at not in taken:
+            return str(ipaddress.IPv4Address(at))
+        at = (behind if behind is not None else at) + 1
+    return None
 
 
 def entity(number: int) -> Outside:

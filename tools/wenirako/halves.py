@@ -16,7 +16,7 @@ from .beside import Beside, named, parted
 from .core import ALLOWED, Answer, Core, Misjudged, NoAnswer, Question
 from .ends import Outside, Universe, inside
 from .mentions import Mentions
-from .selecting import Half, Selection
+from .selecting import Half, Interned, Selection
 
 # A number that nobody has.
 NOBODY = ("identity", 4_294_967_295)
@@ -62,7 +62,8 @@ class Halves:
     def select(self, refused: set[str]) -> None:
         """Works out who selects whom, where the core refuses these policies."""
         self.core.refused = refused
-        self.selections = [Selection(self.universe.sets, it, refused) for it in self.policies]
+        interned = Interned()
+        self.selections = [Selection(self.universe.sets, it, refused, interned) for it in self.policies]
         self.profiles: dict[tuple, Profile] = {}
         self.pending: dict[tuple, dict] = {}
         self.stand_ins: dict[Half, tuple[int, int]] = {}
@@ -134,6 +135,16 @@ class Halves:
         if side.kind == "name":
             return named(found, [it for it in entries if side.value in it.names])
         return parted(found, entries) if side.kind == "region" and side.value == regions.WORLD else found
+
+    def is_shut(self, phase: int, at: int, direction: str, side: Side) -> bool:
+        """Whether no packet of a half is allowed."""
+        if isinstance(side, Outside) and side.kind == "name":
+            return False
+        key = ("shut", self.half(phase, at, direction), self.alike(self.half(phase, at, direction), side))
+        if key not in self.kept:
+            found = self.profiles.get(key[1:])
+            self.kept[key] = not found or not any(it.is_allowed for segments in found.values() for it in segments)
+        return self.kept[key]
 
     # Asking for reasons.
 

@@ -5,12 +5,15 @@ the keys that some selector names, as far as their values are listed, are select
 """
 from __future__ import annotations
 
+import functools
 from typing import Iterable, Sequence
 
 from .selecting import Half
 
 NAMESPACE_KEY = "io.kubernetes.pod.namespace"
 NAMESPACE_LABELS = "io.cilium.k8s.namespace.labels."
+# What is seen of a value that isn't listed.
+THERE = "\0"
 CLUSTER_KEY = "io.cilium.k8s.policy.cluster"
 
 
@@ -26,6 +29,7 @@ class Mentions:
         # (a NetworkPolicy's namespaceSelector names the keys of namespaces' labels)
         for it in [it for it in self.values if not it.startswith(NAMESPACE_LABELS)]:
             self.values.setdefault(NAMESPACE_LABELS + it, set()).update(self.values[it])
+        self.listed = sorted(self.values.items())
 
     def walk(self, value: object) -> None:
         """Takes each selector below a value."""
@@ -47,10 +51,11 @@ class Mentions:
 
     def seen(self, labels: Sequence[str]) -> tuple:
         """What is seen of labels: of each that is named, its value where that is listed, and else that it is there."""
-        found = []
-        for it in labels:
-            key, _, value = it.partition(":")[2].partition("=")
-            listed = self.values.get(key)
-            if listed is not None:
-                found.append((key, value if value in listed else None))
-        return tuple(found)
+        values = by_key(tuple(labels))
+        return tuple((value if value in listed else THERE) if value is not None else None for value, listed in ((values.get(key), listed) for key, listed in self.listed))
+
+
+@functools.lru_cache(maxsize=None)
+def by_key(labels: tuple) -> dict[str, str]:
+    """The values of labels by their keys: those of pods are all of one source."""
+    return dict(it.partition(":")[2].partition("=")[::2] for it in labels)

@@ -43,21 +43,36 @@ class Rule(NamedTuple):
         return hash(self.line)
 
 
-class Half(NamedTuple):
-    """A direction with the rules that select an endpoint and say something of it: endpoints of one half are judged alike."""
+class Half:
+    """A direction with the rules that select an endpoint and say something of it: endpoints of one half are judged alike.
 
-    direction: str
-    rules: tuple[Rule, ...]
+    Where one `Interned` makes them, two that are equal are one.
+    """
+
+    def __init__(self, direction: str, rules: tuple[Rule, ...]):
+        self.direction, self.rules = direction, rules
 
     def entries(self) -> list[dict]:
         """What its rules say of the direction: ports and prefixes."""
         return [entry for rule in self.rules for way, entry in rule.part.entries() if way == self.direction]
 
 
+class Interned:
+    """Makes halves, each once."""
+
+    def __init__(self) -> None:
+        self.made: dict[tuple, Half] = {}
+
+    def half(self, direction: str, rules: tuple[Rule, ...]) -> Half:
+        if (direction, rules) not in self.made:
+            self.made[direction, rules] = Half(direction, rules)
+        return self.made[direction, rules]
+
+
 class Selection:
     """The rules of one state of policies, and the sets of labels that each selects."""
 
-    def __init__(self, sets: Sequence, policies: Iterable, refused: set[str]):
+    def __init__(self, sets: Sequence, policies: Iterable, refused: set[str], interned: Interned):
         self.rules = [Rule(part.line, part, it) for it in policies if it.line not in refused for part in it.parts()]
         self.by_namespace: dict[str, list[int]] = {}
         for at, it in enumerate(sets):
@@ -69,7 +84,8 @@ class Selection:
                 if ways and rule.part.selects(sets[at].labels):
                     for direction in ways:
                         selecting.setdefault((at, direction), []).append(rule)
-        self.halves = {key: Half(key[1], tuple(found)) for key, found in selecting.items()}
+        self.halves = {key: interned.half(key[1], tuple(found)) for key, found in selecting.items()}
+        self.free = {it: interned.half(it, ()) for it in DIRECTIONS}
 
     def candidates(self, rule: Rule, count: int) -> Iterable[int]:
         """The sets that it may select: a policy of a namespace selects nobody of another one."""
@@ -77,7 +93,7 @@ class Selection:
         return self.by_namespace.get(namespace, ()) if namespace else range(count)
 
     def half(self, at: int, direction: str) -> Half:
-        return self.halves.get((at, direction)) or Half(direction, ())
+        return self.halves.get((at, direction)) or self.free[direction]
 
     def at_work(self) -> set[str]:
         """The lines of the policies that select somebody."""
