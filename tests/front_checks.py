@@ -209,6 +209,27 @@ def slips_are_asked_of_the_bridge(folder, wrong):
     told(wrong, "the slip", (status, [it["policy"] for it in value["rows"]]), (3, ["shop/slip"]))
 
 
+def what_is_not_sure_is_marked(folder, wrong):
+    """A policy with a member that nobody reads may turn each answer about the pods that it selects: the status is 4."""
+    door, form = Door(folder), json.loads((TOP / "docs" / "answer.schema.json").read_text())
+    news = policy("news", {"endpointSelector": {"matchLabels": {"app": "cart"}}, "ingress": [{"fromEndpoints": [{"matchLabels": {"app": "web"}}], "news": 1}]})
+    state = ["--state", door.write("state.json", listed(NAMESPACE, *PODS, news))]
+    promise, seen = door.write("promise", "shop/web -> shop/cart TCP 80 never\n"), door.write("flows", flow("shop/cart", "shop/web", 80) + "\n")
+    for words, is_sure in (
+        (["why", "shop/web", "shop/cart", "TCP/80"], False),
+        (["why", "shop/cart", "shop/web", "TCP/80"], True),
+        (["list", "--to", "shop/web", "--from", "shop/cart"], True),
+        (["check", promise], False),
+        (["replay", seen], True),
+        (["replay", door.write("in", flow("shop/web", "shop/cart", 80) + "\n")], None),
+    ):
+        status, out, _ = door.call(*words, *state, "--format", "json")
+        value = json.loads(out)
+        wrong += schema.wrong_with(value, form, form)
+        told(wrong, f"the status of {words}", status, {True: 0, False: 4, None: 3}[is_sure])
+        told(wrong, f"the mark of {words}", [it for it in value["rows"] if it.get("unsure")] != [], is_sure is False)
+
+
 # Words.
 
 
@@ -424,7 +445,7 @@ def run(check):
 
 def checks():
     found = (a_change_is_told, forms_agree, what_is_open, why_is_told, expectations_are_held, flows_are_replayed)
-    found += (two_states_are_compared, slips_are_asked_of_the_bridge, words_agree, bash_completes, kubectl_is_asked)
+    found += (two_states_are_compared, slips_are_asked_of_the_bridge, what_is_not_sure_is_marked, words_agree, bash_completes, kubectl_is_asked)
     found += (children_end_too, other_programs_are_not_asked, progress_lives, ports_are_read, unions_and_flat_ranges)
     found += (forms_are_safe, flows_are_read, modules_are_small, random_changes_are_told)
     return [(f"front door {it.__name__.replace('_', ' ')}", lambda it=it: run(it)) for it in found]

@@ -16,4 +16,4 @@ def report(states: States) -> Report:
     found = slips_of.slips(states.after, only)
     rows = [{"kind": it.kind, "policy": it.policy, "place": it.place, "text": it.text} for it in found]
     cells = [[it.policy, it.place, it.kind, it.text] for it in found]
-    return Report("lint", counted(len(found), "slip", "slips") if found else "no slip was found", HEADS, cells, rows, list(states.notes()), TELLS if found else NOTHING)
+    return Report("lint", counted(len(found), "slip", "slips") if found else "no slip was found", HEADS, cells, rows, list(states.notes(has_slips=False)), TELLS if found else NOTHING)

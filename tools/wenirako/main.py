@@ -71,7 +71,7 @@ class Run:
             return lint.report(states)
         # (what is asked of the state after a change alone needs no other)
         if self.name in ("list", "check"):
-            states = States(states.after)
+            states = states.afterwards()
         return self.made(Asked(states, lambda: programs.found(self.say, self.progress), self.progress, self.option("node")))
 
     def made(self, asked: Asked) -> Report:

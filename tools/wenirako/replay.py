@@ -9,10 +9,10 @@ from .asked import Asked
 from .ends import End, Group, Outside, entity
 from .flows import Flow, FlowEnd, Flows, Seen
 from .naming import Names
-from .report import Report, counted
+from .report import Report, counted, doubt
 from .resolving import PortRange
 from .rows import listed
-from .statuses import NOTHING, TELLS
+from .statuses import NOTHING, TELLS, UNSURE
 
 NAMESPACE_LABEL = "k8s:io.kubernetes.pod.namespace"
 HEADS = ("FROM", "TO", "PORT", "FLOWS", "FIRST", "LAST", "VERDICT", "DROPPED BY")
@@ -38,7 +38,7 @@ def report(asked: Asked, text: str, name: str) -> Report:
     placed = {it: (ends.of(it.source), ends.of(it.target)) for it in flows.seen}
     if ends.gone:
         asked.halves.reselect()
-    found, already = asked.halves.foreseen(lambda: dropped(asked, placed, phase))
+    found, already, doubts = asked.halves.foreseen(lambda: dropped(asked, placed, phase))
     names = Names([*asked.universe.groups, *ends.gone.values()])
     cells, rows = [], []
     for it, seen in sorted(joined(found, flows).items(), key=lambda pair: (-pair[1].count, pair[0].port)):
@@ -51,7 +51,8 @@ def report(asked: Asked, text: str, name: str) -> Report:
     lost = sum(flows.seen[it].count for it in found)
     told = f"{lost} of {counted(total, 'flow', 'flows')} would be dropped" if lost else f"none of {counted(total, 'flow', 'flows')} would be dropped"
     notes = [*asked.notes(), *flows.notes(), *ends.notes(), *denied_already(already, flows)]
-    return Report("replay", told, HEADS, cells, rows, notes, TELLS if lost else NOTHING)
+    status = TELLS if lost else UNSURE if doubts else NOTHING
+    return Report("replay", told, HEADS, cells, rows, notes, status, above=doubt(doubts))
 
 
 def denied_already(already: list[Flow], flows: Flows) -> list[str]:
@@ -59,8 +60,9 @@ def denied_already(already: list[Flow], flows: Flows) -> list[str]:
     return [f"{counted(count, 'flow is', 'flows are')} denied before the change too, so the policies or labels of the state aren't those of that time"] if count else []
 
 
-def dropped(asked: Asked, placed: dict[Flow, tuple[End, End]], phase: int) -> tuple[dict[Flow, Dropped], list[Flow]]:
-    """The flows that are denied after the change and not before, and those that are denied before it too."""
+def dropped(asked: Asked, placed: dict[Flow, tuple[End, End]], phase: int) -> tuple[dict[Flow, Dropped], list[Flow], list[str]]:
+    """The flows that are denied after the change and not before, those that are denied before it too, and what isn't read
+    and may turn one."""
     by_port: dict[tuple[str, int], dict[tuple[End, End], list[Flow]]] = {}
     for flow, pair in placed.items():
         by_port.setdefault((flow.protocol, flow.port), {}).setdefault(pair, []).append(flow)
@@ -77,7 +79,18 @@ def dropped(asked: Asked, placed: dict[Flow, tuple[End, End]], phase: int) -> tu
                 already += flows
             elif denied:
                 found.update((it, Dropped(pair, protocol, port, denied.word, "; ".join(after.reasons(denied)))) for it in flows)
-    return found, already
+    return found, already, doubts_of(asked, by_port, phase)
+
+
+def doubts_of(asked: Asked, by_port: dict[tuple[str, int], dict], phase: int) -> list[str]:
+    """The policies that aren't read whole and may turn the verdict on a flow."""
+    if not asked.halves.beside.has_doubts:
+        return []
+    pairs = [pair for it in by_port.values() for pair in it]
+    about = asked.about(pairs, phase=phase, explains=False)
+    ranges = [(PortRange((protocol,), port, port), pair) for (protocol, port), it in by_port.items() for pair in it]
+    listed = [(pair, it) for ports, pair in ranges for it in about.stretches(*pair) if ports.cut(it.protocol, it.low, it.high)]
+    return list(dict.fromkeys(name for pair, it in listed for name in about.unsure(*pair, it)))
 
 
 def joined(found: dict[Flow, Dropped], flows: Flows) -> dict[Dropped, Seen]:

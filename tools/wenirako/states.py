@@ -17,6 +17,10 @@ class States:
         self.before, self.after, self.skipped, self.are_whole = before, after or before, list(skipped), are_whole
         self.change = change.Change(self.before, self.after)
 
+    def afterwards(self) -> States:
+        """The state after the change by itself."""
+        return self if self.is_one else States(self.after, skipped=[*self.skipped, *(it.text for it in self.slips())])
+
     @property
     def is_one(self) -> bool:
         return self.after is self.before
@@ -32,8 +36,8 @@ class States:
         """The policies that come, or that come in another form, as they are written."""
         return self.change.coming()
 
-    def notes(self) -> Iterable[str]:
-        """What is said of what answers lack."""
+    def notes(self, has_slips: bool = True) -> Iterable[str]:
+        """What is said of what answers lack, and of slips of the policies that come."""
         yield from self.before.cluster.warned
         yield from left_out(self.before.cluster, come=True)
         yield from lacks(self.before.cluster)
@@ -41,7 +45,7 @@ class States:
         known = list(force.beside(self.before))
         yield from known
         yield from (it for it in force.beside(self.after) if it not in known)
-        yield from (it.text for it in self.slips())
+        yield from (it.text for it in self.slips() if has_slips)
         yield from self.unread()
 
     def slips(self) -> list:

@@ -7,7 +7,7 @@ from .report import Report
 from .resolving import Named, named, one_port, pairs
 from .rows import listed
 from .selecting import EGRESS
-from .statuses import NOTHING, TELLS
+from .statuses import NOTHING, TELLS, UNSURE
 
 HEADS = ("FROM", "TO", "PORT", "VERDICT", "HALF", "IS", "SINCE")
 
@@ -31,18 +31,19 @@ def told(asked: Asked, ends: list[Named], ports, phase: int) -> Report:
     for pair in listed_pairs:
         for it in about.stretches(*pair):
             was = next(iter(before.stretches(*pair)), it).word if phase else it.word
-            seen.setdefault((it, was), []).append(pair)
-    words = set()
-    for (it, was), alike in seen.items():
+            seen.setdefault((it, was, about.unsure(*pair, it)), []).append(pair)
+    words, doubts = set(), [name for *_, unsure in seen for name in unsure]
+    for (it, was, unsure), alike in seen.items():
         froms, tos = (frozenset(pair[at] for pair in alike) for at in (0, 1))
         halves = {direction: (segment, asked.why(asked.halves.half_of(segment), segment)) for direction, segment in it.halves}
         words.add(it.word)
         written = [", ".join(asked.names.side(froms, tos)), ", ".join(asked.names.side(tos, froms)), f"{it.protocol} {it.low}"]
-        verdict = it.word if was == it.word else f"{it.word}, and {was} before"
+        verdict = (it.word if was == it.word else f"{it.word}, and {was} before") + (f", unsure: {', '.join(unsure)} isn't read whole" if unsure else "")
         cells += [[*written, verdict, of_whom(direction, written), segment.word, why] for direction, (segment, why) in sorted(halves.items())]
         parts = [{"direction": direction, "verdict": segment.word, "reason": why} for direction, (segment, why) in sorted(halves.items())]
-        rows.append({"from": listed(froms), "to": listed(tos), "protocol": it.protocol, "port": it.low, "before": was, "verdict": it.word, "halves": parts})
-    return Report("why", summary(ends, ports, words), HEADS, cells, rows, asked.notes(), NOTHING if words == {"allowed"} else TELLS)
+        rows.append({"from": listed(froms), "to": listed(tos), "protocol": it.protocol, "port": it.low, "before": was, "verdict": it.word, "halves": parts, **({"unsure": list(unsure)} if unsure else {})})
+    status = UNSURE if doubts else NOTHING if words == {"allowed"} else TELLS
+    return Report("why", summary(ends, ports, words), HEADS, cells, rows, asked.notes(), status)
 
 
 def of_whom(direction: str, written: list[str]) -> str:
