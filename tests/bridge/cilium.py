@@ -115,17 +115,15 @@ class World:
         return kind == "FQDNs" and other[0] == "name" and other[1] in [it.get("matchName") or it.get("matchPattern") for it in listed]
 
     def is_peer(self, namespace, selector, other):
-        if other[0] == "entity":
-            labels = {f"reserved:{other[1]}": ""}
-        elif other[0] == "pod":
-            labels = self.labels[other[1]]
-        else:
-            return False
+        """Whether a peer selector means the other end. What is no pod has a reserved label alone; one that asks nothing
+        means pods, and one of a namespaced policy those of its namespace, unless it says something of namespaces."""
+        labels = self.labels[other[1]] if other[0] == "pod" else {f"reserved:{other[1] if other[0] == 'entity' else 'world'}": ""}
         text = json.dumps(selector)
         says = NAMESPACE in text or f"{OWN}namespace.labels." in text or '"reserved:' in text
-        if namespace is not None and not says and labels.get(NAMESPACE) != namespace:
-            return False
-        return self.matches(selector, labels) and (NAMESPACE in labels or '"reserved:' in text)
+        if namespace is not None and not says:
+            return labels.get(NAMESPACE) == namespace and self.matches(selector, labels)
+        asks = selector.get("matchLabels") or selector.get("matchExpressions")
+        return self.matches(selector, labels) if asks else NAMESPACE in labels
 
     def is_entity(self, name, other):
         if name == "all":

@@ -5,6 +5,7 @@
 policyd's place is taken by the judge, so that this takes seconds. A packet changes exactly where the model says so before
 and after, and it then has the row of that change, and one row alone.
 """
+import copy
 import ipaddress
 import random
 import sys
@@ -149,6 +150,37 @@ def play(seed):
         got = [(row["before"] == "allowed", row["after"] == "allowed") for row in rows if has(row, sent, worlds)]
         if got != ([(before, after)] if before != after else []):
             wrong.append(f"seed {seed}: {sent}: {before} before and {after} after, and the rows say {got}")
+    return wrong, count
+
+
+def hidden(pick, items):
+    """The objects with something in an entry of one policy of Cilium's that nobody reads."""
+    found = copy.deepcopy(items)
+    entries = [one for it in found if it["kind"].startswith("Cilium") and it["kind"].endswith("Policy") for rule in [it.get("spec", {}), *it.get("specs", [])] for section in rule if isinstance(rule[section], list) for one in rule[section]]
+    if entries:
+        pick.choice(entries)["news"] = 1
+    return found
+
+
+def play_unread(seed):
+    """What is wrong with the rows of a random change where an entry isn't read, and how many packets are unsure.
+
+    A packet that no row marks changes as the model says, which reads the entry.
+    """
+    pick = random.Random(seed)
+    items = [*cluster(pick), *(made(pick, f"p{at}") for at in range(5))]
+    new = made(pick, f"p{5 + pick.randrange(2)}")
+    rows = judged.rows_of(judged.changed(hidden(pick, items), [new]))
+    worlds, wrong, count = (World(items), World([*items, new])), [], 0
+    pods = sorted(worlds[0].pods)
+    for sent in (packet(pick, pods) for _ in range(PACKETS)):
+        before, after = (it.passes(*sent) for it in worlds)
+        of_packet = [row for row in rows if has(row, sent, worlds)]
+        got = [(row["before"] == "allowed", row["after"] == "allowed") for row in of_packet]
+        if any(row.get("unsure") for row in of_packet):
+            count += 1
+        elif got != ([(before, after)] if before != after else []):
+            wrong.append(f"seed {seed}: {sent}: {before} before and {after} after, and the rows, of which none is unsure, say {got}")
     return wrong, count
 
 
