@@ -8,7 +8,7 @@ from lib.sides import whose
 from wenirako.ends import Universe
 from wenirako.naming import Names
 
-TWO = [namespace("pay", team="finance"), namespace("shop"), pod("pay/web-7f-x", {"app": "web"}, "n1", "10.0.0.1", owner=("ReplicaSet", "web-7f")), pod("shop/cart", {"app": "cart"}, "n2", "10.0.0.2")]
+TWO = [namespace("pay", team="finance"), namespace("shop"), pod("pay/web-7f-x", {"app": "web", "pod-template-hash": "7f"}, "n1", "10.0.0.1", owner=("ReplicaSet", "web-7f")), pod("shop/cart", {"app": "cart"}, "n2", "10.0.0.2")]
 
 
 def kinds(state):
@@ -33,7 +33,7 @@ def pods_that_come(told):
     wanted = {
         "pay/job-x": "finished",
         "pay/waits": "pending",
-        # (the template of the web pods has no hash yet, and their owner's name is without one)
+        # (the template of pay/web has the labels of its pod, so it is no other)
         "pay/none": "Deployment",
         "pay/db": "StatefulSet",
         "pay/nightly": "CronJob",
@@ -41,7 +41,6 @@ def pods_that_come(told):
         "any other pod of pay": "any other",
         "any other pod of shop": "any other",
     }
-    items[2]["metadata"]["labels"]["pod-template-hash"] = "7f"
     state = judged.read(items)
     told("what comes", kinds(state), wanted)
     told("the labels of any other pod", next(it for it in state.cluster.coming if it.name == "any other pod of pay").labels, (
@@ -181,7 +180,6 @@ def two_whole_states(told):
     ledger = pod("pay/ledger", {"app": "ledger"}, "n1", "10.0.0.5")
     later = pod("pay/web-9c-y", {"app": "website", "pod-template-hash": "9c"}, "n1", "10.0.0.8", owner=("ReplicaSet", "web-9c"))
     items = [*TWO, guard, ledger]
-    items[2]["metadata"]["labels"]["pod-template-hash"] = "7f"
     made = change.Change(judged.read(items), judged.read([*items[:2], later, *items[3:]]))
     told("what is shut", [(row["from"], row["to"], row["after"]) for row in judged.rows_of(made)], [([{"pod": "pay/web-9c-y"}], [{"pod": "pay/ledger"}], "denied-by-default")])
 
