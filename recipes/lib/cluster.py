@@ -33,6 +33,7 @@ ASKED_FOR = {
     "CiliumNetworkPolicy": "CiliumNetworkPolicies",
     "CiliumClusterwideNetworkPolicy": "CiliumClusterwideNetworkPolicies",
 }
+APIS = ("v1", network.API, "cilium.io/v2")
 
 
 class Cluster:
@@ -85,7 +86,7 @@ class Cluster:
                 self.derive(pod)
                 by_address.setdefault(pod.address, []).append(pod)
             if reason and pod.comes():
-                pod.stands_for = pod.comes()
+                pod.stands_for, pod.account = pod.comes(), pod.account or workloads.ACCOUNT
                 coming.append(pod)
         kept = {id(min(pods, key=lambda it: it.is_ending)) for pods in by_address.values()}
         for pods in by_address.values():
@@ -117,7 +118,8 @@ class Cluster:
 
     def take(self, place: str, value: dict):
         api, kind = value["apiVersion"], value["kind"]
-        self.kinds[kind] = self.kinds.get(kind, 0) + 1
+        if api in APIS:
+            self.kinds[kind] = self.kinds.get(kind, 0) + 1
         if (api, kind) in workloads.KINDS:
             self.take_template(workloads.Template(place, value))
         elif api == "cilium.io/v2" and kind in POLICY_KINDS:

@@ -47,6 +47,9 @@ def pods_that_come(told):
         "k8s:io.cilium.k8s.namespace.labels.kubernetes.io/metadata.name=pay", "k8s:io.cilium.k8s.namespace.labels.team=finance", "k8s:io.cilium.k8s.policy.cluster=default", "k8s:io.kubernetes.pod.namespace=pay",
     ))
     told("the labels of a template", [it for it in next(it for it in state.cluster.coming if it.name == "pay/none").labels if "app" in it or "account" in it], ["k8s:app=none", "k8s:io.cilium.k8s.policy.serviceaccount=default"])
+    bare = pod("pay/bare", {"app": "bare"}, phase="Pending")
+    del bare["spec"]["serviceAccountName"]
+    told("the account of a manifest's pod", [it for it in judged.read([*TWO, bare]).cluster.coming[0].labels if "account" in it], ["k8s:io.cilium.k8s.policy.serviceaccount=default"])
     left = list(clusters.left_out(state.cluster, come=True))
     told("what is left out", left, ["left out: pods that have finished: 1 (pay/once)", "left out: pods on the host's network, which share the identity of their node: 1 (pay/agent)"])
     told("what a script leaves out", [it for it in clusters.left_out(state.cluster) if "IPv4" in it], ["left out: pods without an IPv4 address: 1 (pay/waits)"])
@@ -203,6 +206,8 @@ def what_the_state_lacks(told):
     state = judged.read([*TWO, policy("pay/a", {"endpointSelector": {}, "ingress": [{}]}), network("pay/b", {"podSelector": {}})])
     told("without two kinds", list(clusters.lacks(state.cluster)), ["note: the state has 0 Services, 0 CiliumClusterwideNetworkPolicies"])
     state = judged.read([*TWO, policy("pay/a", {"endpointSelector": {}, "ingress": [{}]}), network("pay/b", {"podSelector": {}}), policy("c", {"endpointSelector": {}}), service("pay/s")])
+    knative = {**service("pay/s"), "apiVersion": "serving.knative.dev/v1"}
+    told("of another group", list(clusters.lacks(judged.read([*TWO, knative, network("pay/b", {"podSelector": {}})]).cluster)), ["note: the state has 0 Services, 0 CiliumNetworkPolicies, 0 CiliumClusterwideNetworkPolicies"])
     told("with all", list(clusters.lacks(state.cluster)), [])
 
 
