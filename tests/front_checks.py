@@ -9,17 +9,16 @@ import pathlib
 import shutil
 import signal
 import subprocess
-import sys
 import tempfile
 import time
 
 import compare
 import front_random
 import schema
-from archive import Archive, Door
+from archive import Archive, Door, replaced
 from play_checks import told
 from recipes_checks import NAMESPACE, PODS, policy
-from wenirako import drawing, flows, listing, progress, resolving, words, writing
+from wenirako import drawing, flows, kubectl, listing, progress, resolving, words, writing
 from wenirako.report import Report
 
 TOP = compare.TOP
@@ -317,7 +316,9 @@ def kubectl_is_asked(folder, wrong):
     status, out, err = archive.call("list", **how)
     told(wrong, "without pods", (status, out, err), (1, "", "kubectl wenirako: kubectl gave no pods: Error from server (Forbidden): pods is forbidden\n"))
     os.environ.pop("REFUSES")
-    told(wrong, "without kubectl", archive.call("list", command=sys.executable, path="", given="")[0] != 0, True)
+    with replaced(kubectl, words_for=lambda *_: ["/nowhere/kubectl"]):
+        status, out, err = Door(folder).call("list")
+    told(wrong, "without kubectl", (status, out, err), (1, "", "wenirako: kubectl can't be run: No such file or directory. Name a file by --state, or - for standard input\n"))
 
 
 def children_end_too(folder, wrong):
