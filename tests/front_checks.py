@@ -229,6 +229,20 @@ def what_is_not_sure_is_marked(folder, wrong):
         told(wrong, f"the mark of {words}", [it for it in value["rows"] if it.get("unsure")] != [], is_sure is False)
 
 
+def names_are_ends(folder, wrong):
+    """What a name opens is told beside the world, and as an end of its own."""
+    door = Door(folder)
+    free = policy("free", {"endpointSelector": {"matchLabels": {"app": "cart"}}, "egress": [{"toFQDNs": [{"matchName": "a.example"}], "toPorts": [{"ports": [{"port": "443", "protocol": "TCP"}]}]}]})
+    state = ["--state", door.write("state.json", listed(NAMESPACE, *PODS, free))]
+    _, out, _ = door.call("list", "--from", "shop/cart", *state)
+    told(wrong, "what the cart may reach", [it[1:] for it in stripped(out)], [["names: a.example", "TCP 443", "egress: shop/free#0.egress[0]"]])
+    new = ["--state", door.write("before.json", listed(NAMESPACE, *PODS)), "--add", door.write("free.json", free)]
+    _, out, _ = door.call("diff", *new)
+    world = sorted((it[1], it[2], it[4], it[5].rpartition("; ")[2] if "names" in it[5] else "") for it in stripped(out) if it[1] in ("world", "names: a.example"))
+    rest = "TCP 0-442, 444-65535; UDP and SCTP every port"
+    told(wrong, "what changes", world, [("names: a.example", rest, "denied-by-default", ""), ("world", rest, "denied-by-default", ""), ("world", "TCP 443", "denied-by-default", "and names: a.example")])
+
+
 # Words.
 
 
@@ -446,7 +460,7 @@ def run(check):
 
 def checks():
     found = (a_change_is_told, forms_agree, what_is_open, why_is_told, expectations_are_held, flows_are_replayed)
-    found += (two_states_are_compared, slips_are_asked_of_the_bridge, what_is_not_sure_is_marked, words_agree, bash_completes, kubectl_is_asked)
+    found += (two_states_are_compared, slips_are_asked_of_the_bridge, what_is_not_sure_is_marked, names_are_ends, words_agree, bash_completes, kubectl_is_asked)
     found += (children_end_too, other_programs_are_not_asked, progress_lives, ports_are_read, unions_and_flat_ranges)
     found += (forms_are_safe, flows_are_read, modules_are_small, random_changes_are_told)
     return [(f"front door {it.__name__.replace('_', ' ')}", lambda it=it: run(it)) for it in found]

@@ -64,7 +64,7 @@ class About:
     def stretches(self, source: End, target: End) -> list[Stretch]:
         """The stretches of a connection that are asked for, made once for all that are judged alike."""
         halves = self.asked.halves
-        keys = tuple((halves.half(*it[:3]), halves.alike(halves.half(*it[:3]), it[3])) for it in wanted(source, target, self.phase))
+        keys = tuple(halves.key(*it) for it in wanted(source, target, self.phase))
         if keys not in self.kept:
             # (most connections of an isolated pod are denied whole, and need no look at each stretch)
             is_shut = self.is_open is True and any(halves.is_shut(*it) for it in wanted(source, target, self.phase))

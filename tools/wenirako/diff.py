@@ -89,13 +89,7 @@ class Diff:
 
     def touched(self, source: End, target: End) -> list[tuple[Wanted, Wanted]]:
         """The halves of a connection that may change, before and after."""
-        return [pair for pair in zip(wanted(source, target, 0), wanted(source, target, 1)) if self.key(pair[0]) != self.key(pair[1])]
-
-    def key(self, it: Wanted) -> tuple:
-        """What the verdicts of a half depend on."""
-        half = self.halves.half(*it[:3])
-        names = self.beside.names(*it[:3]) if isinstance(it[3], Outside) and it[3].kind == "name" else []
-        return half, self.halves.alike(half, it[3]), tuple((one.place, one.names) for one in names)
+        return [pair for pair in zip(wanted(source, target, 0), wanted(source, target, 1)) if self.halves.key(*pair[0]) != self.halves.key(*pair[1])]
 
     def first(self, candidates: Iterable[tuple[End, End]]) -> Iterable[Wanted]:
         for pair in candidates:
@@ -109,7 +103,7 @@ class Diff:
         return any(self.moves_in(*both) for both in self.touched(source, target))
 
     def moves_in(self, before: Wanted, after: Wanted) -> bool:
-        key = self.key(before), self.key(after), self.is_doubted(before, after)
+        key = self.halves.key(*before), self.halves.key(*after), self.is_doubted(before, after)
         if key not in self.moved:
             found = profiles(self.halves, (before, after))
             self.moved[key] = bool(found) and any(self.is_other(before, after, *pair) for *_, pair in joined(found))

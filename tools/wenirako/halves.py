@@ -125,6 +125,14 @@ class Halves:
             self.profiles[half, alike] = profile
         self.pending = {}
 
+    def key(self, phase: int, at: int, direction: str, side: Side) -> tuple:
+        """What the verdicts of a half depend on."""
+        half = self.half(phase, at, direction)
+        names = self.beside.names(phase, at, direction) if isinstance(side, Outside) and side.kind in ("name", "region") else []
+        # (the addresses of a name lie in the world's region, and are judged otherwise)
+        of_names = (side.kind, side.value, *((it.place, it.names) for it in names)) if names else ()
+        return half, self.alike(half, side), of_names
+
     def profile(self, phase: int, at: int, direction: str, side: Side) -> Optional[Profile]:
         """What was answered of a half; None where no packet can have that other side."""
         half = self.half(phase, at, direction)
