@@ -267,7 +267,9 @@ def words_agree(folder, wrong):
     status, out, _ = door.call("--help")
     told(wrong, "help", (status, len(out.splitlines()) <= 24, max(map(len, out.splitlines())) <= 80), (0, True, True))
     told(wrong, "whether help has each question", [it for it in words.QUESTIONS if f"  {it} " not in out and f"  {it}\n" not in out], [])
-    told(wrong, "a question's help", door.call("diff", "--help")[0], 0)
+    for name in words.QUESTIONS:
+        status, out, _ = door.call(name, "--help")
+        told(wrong, f"the help of {name}", (status, len(out.splitlines()) <= 24), (0, True))
     for given, what in ((["diff", "--state", "lost", *BOTH], "lost: No such file"), (["list", *STATE, "--from", "lost"], "--from: lost names nobody"), (["list", *STATE, "--node", "n9"], "--node n9: no pod")):
         status, out, err = door.call(*given)
         told(wrong, f"at {given}", (status, out, err.startswith(f"wenirako: {what}")), (1, "", True))

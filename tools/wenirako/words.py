@@ -44,9 +44,17 @@ OPTIONS = {
     "--from": ("X", "only from there: NAMESPACE/NAME, NAMESPACE/*, an entity, an address", False),
     "--to": ("Y", "only to there", False),
     "--port": ("P", "only there: TCP/8443, 53, UDP/8000-8100", False),
-    "--by": ("|".join(BY), "what stands in a row", False),
+    "--by": ("WHAT", "what stands in a row", False),
     "--node": ("NODE", "only connections with an end on the node", False),
     "--format": ("FORM", "the form of the answer", False),
+}
+END = "NAMESPACE/NAME, NAMESPACE/*, an entity, an address or a prefix"
+PLACES = {
+    "FROM": END,
+    "TO": END,
+    "PROTOCOL/PORT": "such as TCP/8443",
+    "EXPECTATIONS": "a file of lines such as `web -> pay/ledger TCP 8443 never`, or - for standard input",
+    "FLOWS": "what `hubble observe -o jsonpb` prints, or - for standard input",
 }
 FLAGS = {"--strict": "a policy of the state that isn't read is an error", "--quiet": "nothing of progress"}
 COMMON = ("--state", "--save", "--context", "--format")
@@ -55,8 +63,8 @@ CHOICES = {"--by": BY}
 HELP = """usage: wenirako QUESTION [--state FILE] [WORD ..]
 
 {questions}
-  play SCRIPT        plays a script of policyd's, as ./play does
-  completion bash    prints what completes these words in bash
+  play SCRIPT                      plays a script of policyd's, as ./play does
+  completion bash                  prints what completes these words in bash
 
   wenirako QUESTION --help says more; --version what the program is.
   Without --state kubectl is asked, read only. --format table|json|markdown,
@@ -65,6 +73,13 @@ HELP = """usage: wenirako QUESTION [--state FILE] [WORD ..]
 The status is 0 where there is nothing to tell, 3 where there is (a change, a
 promise that doesn't hold, a dropped flow, a slip, a denial), 4 where that is
 unsure, 1 where the input is bad, 2 where a word is, 70 without an answer."""
+
+
+class Wide(argparse.HelpFormatter):
+    """Help with a line for each word, so that it fits a screen."""
+
+    def __init__(self, prog: str):
+        super().__init__(prog, max_help_position=32, width=110)
 
 
 class Parser(argparse.ArgumentParser):
@@ -84,17 +99,18 @@ def help_text() -> str:
 def parser_of(command: str, name: str) -> Parser:
     """The parser of a question's words."""
     question = QUESTIONS[name]
-    parser = Parser(prog=command, usage=f"{command} {name} {' '.join([*question.places, '[--state FILE]', '[WORD ..]'])}", description=f"Asks {question.about}.", allow_abbrev=False)
+    parser = Parser(prog=command, usage=f"{command} {name} {' '.join([*question.places, '[--state FILE]', '[WORD ..]'])}", description=f"Asks {question.about}.", allow_abbrev=False, formatter_class=Wide)
     for place in question.places:
-        parser.add_argument(dest_of(place), metavar=place)
+        parser.add_argument(dest_of(place), metavar=place, help=PLACES[place])
     for option in (*COMMON, *question.options):
         if option in FLAGS:
             parser.add_argument(option, action="store_true", help=FLAGS[option])
             continue
         metavar, about, is_many = OPTIONS[option]
         how = {"action": "append", "default": []} if is_many else {"action": Once}
-        choices = {"choices": question.forms, "default": "table"} if option == "--format" else {"choices": CHOICES[option], "default": CHOICES[option][0]} if option in CHOICES else {"metavar": metavar}
-        parser.add_argument(option, help=about, **how, **choices)
+        listed = question.forms if option == "--format" else CHOICES.get(option)
+        choices = {"choices": listed, "default": listed[0]} if listed else {}
+        parser.add_argument(option, metavar=metavar, help=f"{about}: {', '.join(listed)}" if listed else about, **how, **choices)
     parser.add_argument("--quiet", action="store_true", help=FLAGS["--quiet"])
     labels.add_words(parser)
     return parser
