@@ -118,4 +118,5 @@ def main(words):
 
 
 if __name__ == "__main__":
+    sys.dont_write_bytecode = True
     sys.exit(main(sys.argv[1:]))
