@@ -20,4 +20,5 @@ def checks():
     listed = [it for module in (rows_checks, rewriting_checks, state_checks, lint_checks, made_checks) for it in module.checks()]
     named = [(f"bridge {it.__name__.replace('_', ' ')}", lambda it=it: run(it)) for it in listed]
     named += [(f"bridge random state {it}", lambda it=it: random_states.play(it)[0]) for it in SEEDS]
+    named += [(f"bridge slips of random state {it}", lambda it=it: random_states.play_slips(it)[0]) for it in SEEDS]
     return [*named, *((f"bridge random state with something unread {it}", lambda it=it: random_states.play_unread(it)[0]) for it in SEEDS)]

@@ -8,10 +8,12 @@ and after, and it then has the row of that change, and one row alone.
 import copy
 import ipaddress
 import random
+import re
 import sys
 
 from . import judged
 from .cilium import World
+from lib import lint
 from .objects import behind, group, namespace, network, pod, policy, service
 
 SPACES = ["a", "b"]
@@ -182,6 +184,32 @@ def play_unread(seed):
         elif got != ([(before, after)] if before != after else []):
             wrong.append(f"seed {seed}: {sent}: {before} before and {after} after, and the rows, of which none is unsure, say {got}")
     return wrong, count
+
+
+def without_entry(items, place):
+    """The objects with an entry that covers nothing, and isolates as it did, in the place of one."""
+    name, _, where = place.partition("#")
+    number, section, at = re.fullmatch(r"(\d+)\.(\w+)\[(\d+)\]", where).groups()
+    found = copy.deepcopy(items)
+    for it in found:
+        own = "/".join(it["metadata"][one] for one in ("namespace", "name") if one in it["metadata"])
+        if it["kind"].startswith("Cilium") and own == name and "Policy" in it["kind"]:
+            ([it["spec"]] if "spec" in it else it["specs"])[int(number)][section][int(at)] = {}
+    return found
+
+
+def play_slips(seed):
+    """What is wrong with the slips of a random state: an entry that is said to change nothing, or to deny nobody, may go."""
+    pick, wrong = random.Random(seed), []
+    items = [*cluster(pick), *(made(pick, f"p{at}") for at in range(7))]
+    found = [it for it in lint.slips(judged.read(items)) if it.kind in ("entry-changes-nothing", "deny-denies-none") and "networkpolicy" not in it.place]
+    for slip in found:
+        worlds = World(items), World(without_entry(items, slip.place))
+        for sent in (packet(pick, sorted(worlds[0].pods)) for _ in range(PACKETS)):
+            before, after = (it.passes(*sent) for it in worlds)
+            if before != after:
+                wrong.append(f"seed {seed}: {slip.text}: {sent}: {before} with it, and {after} without")
+    return wrong, len(found)
 
 
 def main(seeds):
