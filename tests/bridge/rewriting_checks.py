@@ -78,6 +78,10 @@ LINES = {
             {"endpointSelector": {"matchExpressions": [HAS(9090)]}, "ingress": [{"fromEndpoints": [{}], "toPorts": ports(9090)}]},
         ],
     ),
+    "a port by name, of some pods": (
+        {"endpointSelector": app("cart"), "ingress": [{"toPorts": ports("http")}]},
+        {"endpointSelector": app("cart"), "ingress": [{}]},
+    ),
     "a port by name beside a number": (
         ingress({"toPorts": [{"ports": [{"port": "dns"}, {"port": "22"}]}]}),
         [ingress({"toPorts": [{"ports": [{"port": "22"}]}]}), {"endpointSelector": {"matchExpressions": [HAS(53, "dns", "udp")]}, "ingress": [{"toPorts": ports(53, protocol="UDP")}]}],
@@ -213,7 +217,7 @@ def what_is_lacking(told):
         (egress({"toServices": [{"k8sServiceSelector": {"selector": {"matchLabels": {"env": "none"}}}}]}), ["pay/p: its Services by labels are none of the state"]),
         (egress({"toCIDRSet": [{"cidrGroupRef": "lost"}]}), ["pay/p: the CiliumCIDRGroup lost isn't in the state"]),
         (egress({"toCIDRSet": [{"cidrGroupSelector": {"matchLabels": {"kind": "none"}}}]}), ["pay/p: no CiliumCIDRGroup of the state has the labels that it asks for"]),
-        (ingress({"toPorts": ports("lost")}), ["pay/p: no pod of the state has a port of the name lost"]),
+        (ingress({"toPorts": ports("lost")}), ["pay/p: no pod that it selects has a port of the name lost"]),
     ]
     for rule, wanted in listed:
         told(wanted[0], read(policy("pay/p", rule)).rewritten["CiliumNetworkPolicy", "pay", "p"].lacking, wanted)

@@ -12,7 +12,7 @@ import re
 import typing
 
 from ..pods import PORT_PREFIX
-from ..policies import NAMESPACE_KEY
+from ..policies import NAMESPACE_KEY, holds
 from .work import Entry, Refused, Rule, Work, with_expressions
 
 NAME = re.compile(r"(?=.*[a-z])[a-z0-9]+(-[a-z0-9]+)*")
@@ -69,9 +69,9 @@ def of_name(work: Work, entry: Entry, word: str, port: dict) -> typing.Iterator[
     if protocol not in (*PROTOCOLS, "ANY"):
         raise Refused(f"bad-protocol at {work.path}")
     asked = PROTOCOLS if protocol == "ANY" else (protocol,)
-    numbers = sorted({(it[1], it[2]) for pod in work.state.cluster.ends for it in pod.ports if it[0] == name and it[1] in asked})
+    numbers = sorted({(it[1], it[2]) for pod in asked_of(work, word) for it in pod.ports if it[0] == name and it[1] in asked})
     if not numbers:
-        work.lacks(f"no pod of the state has a port of the name {name}")
+        work.lacks(f"no pod {'that it selects' if word == 'from' else 'of the state'} has a port of the name {name}")
     if numbers and word == "to" and not has_pods(entry.value):
         work.found.counted[OF_NO_POD] += 1
         numbers = []
@@ -81,6 +81,12 @@ def of_name(work: Work, entry: Entry, word: str, port: dict) -> typing.Iterator[
             yield dataclasses.replace(entry, value=value, port_label=label(name, protocol, number))
         else:
             yield dataclasses.replace(entry, value=with_port(value, label(name, protocol, number)))
+
+
+def asked_of(work: Work, word: str) -> list:
+    """The pods that a port may be asked of: those of the subject, or of any peer."""
+    pods, asked = work.state.cluster.ends, work.asked() or ()
+    return pods if word == "to" else [it for it in pods if all(holds(one, it.labels) for one in asked)]
 
 
 def has_pods(value: dict) -> bool:
