@@ -17,8 +17,8 @@ import front_random
 import schema
 from archive import Archive, Door, replaced
 from play_checks import told
-from recipes_checks import NAMESPACE, PODS, policy
-from wenirako import drawing, flows, kubectl, listing, progress, resolving, words, writing
+from recipes_checks import NAMESPACE, PODS, pod, policy
+from wenirako import coarse, drawing, flows, kubectl, listing, progress, resolving, words, writing
 from wenirako.report import Report
 
 TOP = compare.TOP
@@ -206,6 +206,19 @@ def slips_are_asked_of_the_bridge(folder, wrong):
     value = json.loads(out)
     wrong += schema.wrong_with(value, form, form)
     told(wrong, "the slip", (status, [it["policy"] for it in value["rows"]]), (3, ["shop/slip"]))
+
+
+def workloads_and_namespaces(folder, wrong):
+    """'Every pod' is said only where all that are asked about have it, those without a line too."""
+    door = Door(folder)
+    shut = policy("shut", {"endpointSelector": {"matchLabels": {"app": "cart"}}, "ingress": [{"fromEndpoints": [{"matchLabels": {"app": "web"}}], "toPorts": [{"ports": [{"port": "80", "protocol": "TCP"}]}]}]})
+    more = [pod("shop", "web-2", "n1", "10.0.0.3", {"app": "web"}), pod("shop", "db", "n1", "10.0.0.4", {"app": "db"})]
+    state = ["--state", door.write("state.json", listed(NAMESPACE, *PODS, *more, shut))]
+    rows = lambda *given: stripped(door.call("list", "--from", "*", "--to", "shop/cart", *given, *state)[1])
+    told(wrong, "by workload", rows("--by", "workload"), [["shop/web", "shop/cart", "TCP 80", "every pod"], ["shop/web-2", "shop/cart", "TCP 80", "every pod"]])
+    told(wrong, "by namespace", rows("--by", "namespace"), [["shop", "shop", "TCP 80", "some pods"]])
+    told(wrong, "of all", [it[2:] for it in stripped(door.call("list", "--from", "*", "--to", "shop/*", "--by", "namespace", *state)[1])], [["every protocol and port", "some pods"]])
+    told(wrong, "of the web alone", [it[3] for it in stripped(door.call("list", "--from", "shop/app=web", "--to", "shop/cart", "--by", "namespace", *state)[1])], ["every pod"])
 
 
 def what_is_not_sure_is_marked(folder, wrong):
@@ -414,9 +427,9 @@ def ports_are_read(_, wrong):
 
 
 def unions_and_flat_ranges(_, wrong):
-    told(wrong, "ranges", listing.flat([(5, 9), (1, 3), (2, 4), (20, 20)]), [(1, 9), (20, 20)])
+    told(wrong, "ranges", coarse.flat([(5, 9), (1, 3), (2, 4), (20, 20)]), [(1, 9), (20, 20)])
     one, other = ((("TCP",), ((1, 5),)),), ((("TCP", "UDP"), ((4, 9),)),)
-    told(wrong, "ports", listing.union([one, other]), ((("TCP",), ((1, 9),)), (("UDP",), ((4, 9),))))
+    told(wrong, "ports", coarse.union([one, other]), ((("TCP",), ((1, 9),)), (("UDP",), ((4, 9),))))
 
 
 def forms_are_safe(_, wrong):
@@ -462,7 +475,7 @@ def run(check):
 
 def checks():
     found = (a_change_is_told, forms_agree, what_is_open, why_is_told, expectations_are_held, flows_are_replayed)
-    found += (two_states_are_compared, slips_are_asked_of_the_bridge, what_is_not_sure_is_marked, names_are_ends, words_agree, bash_completes, kubectl_is_asked)
+    found += (two_states_are_compared, slips_are_asked_of_the_bridge, workloads_and_namespaces, what_is_not_sure_is_marked, names_are_ends, words_agree, bash_completes, kubectl_is_asked)
     found += (children_end_too, other_programs_are_not_asked, progress_lives, ports_are_read, unions_and_flat_ranges)
     found += (forms_are_safe, flows_are_read, modules_are_small, random_changes_are_told)
     return [(f"front door {it.__name__.replace('_', ' ')}", lambda it=it: run(it)) for it in found]

@@ -4,9 +4,9 @@ from __future__ import annotations
 import json
 from typing import Iterable
 
+from .coarse import union
 from .core import ALLOWED
 from .ends import ENTITIES, End, Outside
-from .listing import union
 from .naming import outer, workload_of
 from .report import Report
 from .rows import Line, written_ports
