@@ -155,13 +155,22 @@ def play(seed):
     return wrong, count
 
 
+def rules_of(items):
+    return [rule for it in items if it["kind"].startswith("Cilium") and it["kind"].endswith("Policy") for rule in [it.get("spec"), *it.get("specs", [])] if rule]
+
+
 def hidden(pick, items):
-    """The objects with something in an entry of one policy of Cilium's that nobody reads."""
-    found = copy.deepcopy(items)
-    entries = [one for it in found if it["kind"].startswith("Cilium") and it["kind"].endswith("Policy") for rule in [it.get("spec", {}), *it.get("specs", [])] for section in rule if isinstance(rule[section], list) for one in rule[section]]
-    if entries:
+    """The objects as they are, and with something of one policy of Cilium's that nobody reads: an entry, or what isolates."""
+    whole, found = copy.deepcopy(items), copy.deepcopy(items)
+    entries = [one for rule in rules_of(found) for section in rule if isinstance(rule[section], list) for one in rule[section]]
+    if pick.random() < 0.4 and rules_of(found):
+        at = pick.randrange(len(rules_of(found)))
+        rules_of(whole)[at]["enableDefaultDeny"] = {it: pick.random() < 0.5 for it in ("ingress", "egress")}
+        rules_of(found)[at].pop("enableDefaultDeny", None)
+        rules_of(found)[at]["news"] = {}
+    elif entries:
         pick.choice(entries)["news"] = 1
-    return found
+    return whole, found
 
 
 def play_unread(seed):
@@ -172,7 +181,8 @@ def play_unread(seed):
     pick = random.Random(seed)
     items = [*cluster(pick), *(made(pick, f"p{at}") for at in range(5))]
     new = made(pick, f"p{5 + pick.randrange(2)}")
-    rows = judged.rows_of(judged.changed(hidden(pick, items), [new]))
+    items, read = hidden(pick, items)
+    rows = judged.rows_of(judged.changed(read, [new]))
     worlds, wrong, count = (World(items), World([*items, new])), [], 0
     pods = sorted(worlds[0].pods)
     for sent in (packet(pick, pods) for _ in range(PACKETS)):
