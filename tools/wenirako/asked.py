@@ -53,6 +53,7 @@ class About:
     def __init__(self, asked: Asked, pairs: Sequence[tuple[End, End]], ports: PortRange, phase: int, is_open: Optional[bool]):
         self.asked, self.pairs, self.ports, self.phase, self.is_open = asked, pairs, ports, phase, is_open
         self.kept: dict[tuple, list[Stretch]] = {}
+        self.by_pair: dict[tuple[End, End], list[Stretch]] = {}
         halves = asked.halves
         halves.ask((it for pair in pairs for it in wanted(*pair, phase)), "asking about connections")
 
@@ -63,12 +64,19 @@ class About:
 
     def stretches(self, source: End, target: End) -> list[Stretch]:
         """The stretches of a connection that are asked for, made once for all that are judged alike."""
-        halves = self.asked.halves
-        keys = tuple(halves.key(*it) for it in wanted(source, target, self.phase))
+        found = self.by_pair.get((source, target))
+        if found is None:
+            found = self.by_pair[source, target] = self.judged(source, target)
+        return found
+
+    def judged(self, source: End, target: End) -> list[Stretch]:
+        halves, asked = self.asked.halves, wanted(source, target, self.phase)
+        # (most connections of an isolated pod are denied whole, and need no look at each stretch)
+        if self.is_open is True and any(halves.is_shut(*it) for it in asked):
+            return []
+        keys = tuple(halves.key(*it) for it in asked)
         if keys not in self.kept:
-            # (most connections of an isolated pod are denied whole, and need no look at each stretch)
-            is_shut = self.is_open is True and any(halves.is_shut(*it) for it in wanted(source, target, self.phase))
-            self.kept[keys] = [] if is_shut else list(self.cut(stretches(halves, source, target, self.phase)))
+            self.kept[keys] = list(self.cut(stretches(halves, source, target, self.phase)))
         return self.kept[keys]
 
     def cut(self, found: Iterable[Stretch]) -> Iterable[Stretch]:
