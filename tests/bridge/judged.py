@@ -7,22 +7,10 @@ import tempfile
 TOP = pathlib.Path(__file__).resolve().parent.parent.parent
 sys.path[:0] = [str(TOP / it) for it in ("recipes", "tools", "tests")]
 import front_random  # noqa: E402
-from judge import reading, rules  # noqa: E402
-from judge.documents import Refused  # noqa: E402
+from judge import rules  # noqa: E402
 from lib import change, state  # noqa: E402
 from lib.labels import Filter  # noqa: E402
 from wenirako import diffing, states, writing  # noqa: E402
-from .objects import policy  # noqa: E402
-
-
-def reads_default_deny():
-    """Whether the judge reads what a rule says of default deny; until the core does, it refuses the member."""
-    line = json.dumps({"op": "apply", "policy": policy("a/p", {"endpointSelector": {}, "enableDefaultDeny": {"egress": False}})})
-    try:
-        reading.read_line(line.encode())
-    except Refused:
-        return False
-    return True
 
 
 def remembering(select):

@@ -89,7 +89,7 @@ def rule(pick):
     for section, word in (("ingress", "from"), ("ingressDeny", "from"), ("egress", "to"), ("egressDeny", "to")):
         if pick.random() < (0.25 if section.endswith("Deny") else 0.6):
             found[section] = [entry(pick, word, section.endswith("Deny")) for _ in range(pick.randrange(1, 3))]
-    if judged.reads_default_deny() and pick.random() < 0.3:
+    if pick.random() < 0.3:
         found["enableDefaultDeny"] = {pick.choice(["ingress", "egress"]): pick.random() < 0.4}
     return found
 

@@ -37,8 +37,6 @@ def the_false_rows(told):
 
 def what_a_rule_says_of_default_deny(told):
     """One that says false shuts nothing, one that says true shuts all that no entry opens."""
-    if not judged.reads_default_deny():
-        return
     to_cart = {"endpointSelector": app("web"), "egress": [{"toEndpoints": [app("cart")], "toPorts": ports(8080)}]}
     told("false", judged.rows_of(judged.changed(SHOP, [policy("shop/p", {**to_cart, "enableDefaultDeny": {"egress": False}})])), [])
     told("false beside what isolates", [ends(it) for it in judged.rows_of(judged.changed([*SHOP, LOOKS_UP], [policy("shop/p", {**to_cart, "enableDefaultDeny": {"egress": False}})]))], [(["shop/web"], ["shop/cart"], [[[8080, 8080]]], "denied-by-default", "allowed")])
