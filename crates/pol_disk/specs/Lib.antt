@@ -1,0 +1,5 @@
+pub mod Images
+pub mod Record
+pub mod MemDisk
+pub mod Kept
+pub mod Past

@@ -1,0 +1,4 @@
+pub mod Records
+pub mod Log
+pub mod Steps
+pub mod Examples
