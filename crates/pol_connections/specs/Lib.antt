@@ -1,0 +1,4 @@
+pub mod Regions
+pub mod Ends
+pub mod Connections
+pub mod Examples

@@ -1,0 +1,4 @@
+pub mod Same
+pub mod Front
+pub mod Turns
+pub mod Normal

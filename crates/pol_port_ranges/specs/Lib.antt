@@ -1,0 +1,4 @@
+pub mod Said
+pub mod Ranges
+pub mod Walk
+pub mod Examples

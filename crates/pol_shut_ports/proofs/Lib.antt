@@ -1,0 +1,4 @@
+pub mod Between
+pub mod Open
+pub mod Places
+pub mod Found

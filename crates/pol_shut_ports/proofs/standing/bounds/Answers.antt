@@ -1,0 +1,11 @@
+use Rattle.pol_audit.proofs.Segments.{segment_is, segment_within}
+use Rattle.pol_shut_ports.specs.Shut.{entry_place}
+use Rattle.pol_shut_ports.proofs.standing.bounds.Goals as goal
+
+pub returns-clause-part : goal.returns-clause-part
+returns-clause-part c =
+    rw (c.count_below-from.ensures.count, c.count_below-to.ensures.count) (segment_is entry_place c.args.place c.args.entries.now c.requires.up)
+
+pub returns-clause-ordered : goal.returns-clause-ordered
+returns-clause-ordered c =
+    rw (c.count_below-from.ensures.count, c.count_below-to.ensures.count) (segment_within entry_place c.args.place c.args.entries.now c.requires.up)
