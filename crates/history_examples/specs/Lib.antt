@@ -1,3 +1,4 @@
+pub mod Held
 pub mod Histories
 pub mod Sessions
 pub mod Steps

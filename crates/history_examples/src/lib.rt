@@ -5,6 +5,7 @@
 #![tactic(auto)]
 
 pub mod growth;
+pub mod held;
 pub mod played;
 pub mod regenerations;
 pub mod steps;
