@@ -13,6 +13,7 @@ import sys
 import tarfile
 import tempfile
 from importlib.machinery import SourceFileLoader
+from unittest import mock
 
 import compare
 import program
@@ -80,12 +81,12 @@ def manifest(top, wrong):
 def only_what_is_proved(folder, wrong):
     """Without --unproved an archive is made of a proved build alone."""
     tool = release()
-    tool.program.is_proved = lambda: False
-    try:
-        tool.packed(False)
-        wrong.append("an archive is made without a proved build")
-    except tool.Cannot as cannot:
-        told(wrong, "why", str(cannot), "no proved build of the present sources stands: ./play --prove makes one")
+    with mock.patch.object(tool.program, "is_proved", lambda: False):
+        try:
+            tool.packed(False)
+            wrong.append("an archive is made without a proved build")
+        except tool.Cannot as cannot:
+            told(wrong, "why", str(cannot), "no proved build of the present sources stands: ./play --prove makes one")
 
 
 def run(check):
