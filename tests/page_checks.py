@@ -92,6 +92,19 @@ def cells_fold_and_are_filtered(wrong):
     told(wrong, "folded, filtered and printed", shown(example(), script), [both, both[1:], 2, True])
 
 
+def what_may_change_is_told(wrong):
+    value = example()
+    value["lines"].append({**value["lines"][0], "from": [1], "before": "denied-by-default", "after": "denied-by-default", "does": "unsure", "unsure": True})
+    value["lines"][0]["unsure"] = True
+    script = """
+        const cell = name => document.querySelector(`td[data-from="${name}"]`);
+        told.push(cell('shop/web').className, cell('shop/web').textContent, cell('shop/cart').className, document.getElementById('key').textContent.includes('? unsure'));
+        cell('shop/web').click();
+        told.push(document.querySelector('#why .verdict').textContent)
+    """
+    told(wrong, "what may change", shown(value, script), ["unsure marked", "?", "opens marked", True, "denied-by-default \u2192 unsure"])
+
+
 def thousands_of_rows_are_shown(wrong):
     script = """
         told.push(document.querySelectorAll('td[tabindex]').length > 0, document.getElementById('count').textContent.startsWith('8000 of 8000 lines, 12'));
@@ -111,7 +124,7 @@ def run(check):
 
 
 def checks():
-    listed = (a_click_tells_why, cells_fold_and_are_filtered, thousands_of_rows_are_shown)
+    listed = (a_click_tells_why, cells_fold_and_are_filtered, what_may_change_is_told, thousands_of_rows_are_shown)
     if browser() is None:
         print(f"left out, since there is no browser ({', '.join(BROWSERS)}): page, {len(listed)} checks")
         return []

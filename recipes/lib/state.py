@@ -41,6 +41,12 @@ class State:
             self.all_names += it.names
         self.all_unsure += [of_deciding(it) for it in self.cluster.deciding]
 
+    def around(self) -> str:
+        """What policies' entries speak of beside pods; it has the same text where it is the same."""
+        cluster = self.cluster
+        services = [(it.name, it.namespace, it.labels, it.selector, it.is_name) for it in cluster.listed_services.values()]
+        return repr([services, cluster.behind, cluster.groups, self.requirements])
+
     @property
     def ends(self) -> list:
         """The pods that can be ends of connections, and what stands for those that come."""
@@ -69,7 +75,7 @@ class State:
 
 def of_deciding(found) -> Unsure:
     """An object that decides beside policies, as what isn't read of one."""
-    how = {"directions": found.directions(), "isolates": not found.overrides, "overrides": found.overrides, "selector": found.selects}
+    how = {"directions": found.directions(), "isolates": not found.overrides, "overrides": found.overrides, "selector": found.selects, "said": repr(found.spec)}
     return Unsure(found.name, "it decides beside policies", "", **how)
 
 

@@ -94,9 +94,11 @@ class World:
         return int(text) == 0 or int(text) <= port <= max(int(text), end or 0)
 
     def mentions(self, pod, name):
-        """Whether a rule that selects a pod lets it send to a name."""
+        """Whether a rule that selects a pod lets it send to a name, at some port: its addresses have none by name."""
         entries = [it for namespace, rule in self.rules if self.selects(namespace, rule, pod) for it in rule.get("egress") or []]
-        return any(name in one.values() for it in entries for one in it.get("toFQDNs") or [])
+        ports = lambda entry: [str(it["port"]) for item in entry.get("toPorts") or [] for it in item["ports"]]
+        has_port = lambda entry: not ports(entry) or any(it.isdigit() for it in ports(entry))
+        return any(name in one.values() for it in entries if has_port(it) for one in it.get("toFQDNs") or [])
 
     def peers(self, namespace, kind, listed, other):
         """Whether the other end is one of an entry's peers of a kind."""

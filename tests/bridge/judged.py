@@ -10,7 +10,7 @@ import front_random  # noqa: E402
 from judge import rules  # noqa: E402
 from lib import change, state  # noqa: E402
 from lib.labels import Filter  # noqa: E402
-from wenirako import diffing, states, writing  # noqa: E402
+from wenirako import diffing, listing, states, writing  # noqa: E402
 
 
 def remembering(select):
@@ -55,6 +55,11 @@ def report_of(made, node=None):
 def rows_of(made, node=None):
     """The rows that are shown, as JSON has them."""
     return report_of(made, node).rows
+
+
+def open_rows_of(found):
+    """What is open in a state, as JSON has it."""
+    return listing.report(front_random.asked(states.States(found)), None, None, None, "pod").rows
 
 
 def text_of(made):

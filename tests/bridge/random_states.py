@@ -155,47 +155,6 @@ def play(seed):
     return wrong, count
 
 
-def rules_of(items):
-    return [rule for it in items if it["kind"].startswith("Cilium") and it["kind"].endswith("Policy") for rule in [it.get("spec"), *it.get("specs", [])] if rule]
-
-
-def hidden(pick, items):
-    """The objects as they are, and with something of one policy of Cilium's that nobody reads: an entry, or what isolates."""
-    whole, found = copy.deepcopy(items), copy.deepcopy(items)
-    entries = [one for rule in rules_of(found) for section in rule if isinstance(rule[section], list) for one in rule[section]]
-    if pick.random() < 0.4 and rules_of(found):
-        at = pick.randrange(len(rules_of(found)))
-        rules_of(whole)[at]["enableDefaultDeny"] = {it: pick.random() < 0.5 for it in ("ingress", "egress")}
-        rules_of(found)[at].pop("enableDefaultDeny", None)
-        rules_of(found)[at]["news"] = {}
-    elif entries:
-        pick.choice(entries)["news"] = 1
-    return whole, found
-
-
-def play_unread(seed):
-    """What is wrong with the rows of a random change where an entry isn't read, and how many packets are unsure.
-
-    A packet that no row marks changes as the model says, which reads the entry.
-    """
-    pick = random.Random(seed)
-    items = [*cluster(pick), *(made(pick, f"p{at}") for at in range(5))]
-    new = made(pick, f"p{5 + pick.randrange(2)}")
-    items, read = hidden(pick, items)
-    rows = judged.rows_of(judged.changed(read, [new]))
-    worlds, wrong, count = (World(items), World([*items, new])), [], 0
-    pods = sorted(worlds[0].pods)
-    for sent in (packet(pick, pods) for _ in range(PACKETS)):
-        before, after = (it.passes(*sent) for it in worlds)
-        of_packet = [row for row in rows if has(row, sent, worlds)]
-        got = [(row["before"] == "allowed", row["after"] == "allowed") for row in of_packet]
-        if any(row.get("unsure") for row in of_packet):
-            count += 1
-        elif got != ([(before, after)] if before != after else []):
-            wrong.append(f"seed {seed}: {sent}: {before} before and {after} after, and the rows, of which none is unsure, say {got}")
-    return wrong, count
-
-
 def without_entry(items, place):
     """The objects with an entry that covers nothing, and isolates as it did, in the place of one."""
     name, _, where = place.partition("#")

@@ -264,6 +264,15 @@ UNREAD = {
     "a subject": ({"endpointSelector": {"news": 1}, "ingress": [{}]}, ("spec.endpointSelector.news", ["ingress"], True, True, True), []),
     "a name": (egress({"toFQDNs": [{"matchNews": "a"}]}), ("spec.egress[0].toFQDNs[0].matchNews", ["egress"], True, False, False), [egress({})]),
     "ports without any": (ingress({"toPorts": [{"rules": {"http": []}}]}), ("spec.ingress[0]", ["ingress"], True, False, False), [ingress({})]),
+    # (what is rewritten goes with what stands in it, but not with what nobody reads)
+    "beside ICMP": (ingress({"icmps": [{"fields": [{"type": 8}]}], "news": 1}), ("spec.ingress[0].news", ["ingress"], True, False, False), [ingress({})]),
+    "beside a port of ICMP": (egress({"toPorts": [{"ports": [{"port": "8", "protocol": "ICMP"}], "news": 1}]}), ("spec.egress[0].toPorts[0].news", ["egress"], True, False, False), [egress({})]),
+    "beside names": (egress({"toFQDNs": [{"matchName": "a.example"}], "news": 1}), ("spec.egress[0].news", ["egress"], True, False, False), [egress({})]),
+    "beside a Service": (egress({"toServices": [{"k8sService": {"serviceName": "web", "news": 1}}]}), ("spec.egress[0].toServices[0].k8sService.news", ["egress"], True, False, False), [egress({})]),
+    "in the selector of groups": (egress({"toCIDRSet": [{"cidrGroupSelector": {"news": 1}}]}), ("spec.egress[0].toCIDRSet[0].cidrGroupSelector.news", ["egress"], True, False, False), [egress({})]),
+    "in what sorts nodes": (ingress({"fromNodes": [{"news": 1}]}), ("spec.ingress[0].fromNodes[0].news", ["ingress"], True, False, False), [ingress({})]),
+    "a subject of what isolates alone": ({"endpointSelector": {"news": 1}, "enableDefaultDeny": {"egress": True}}, ("spec.endpointSelector.news", ["egress"], True, True, True), []),
+    "what isolates": (ingress({}, enableDefaultDeny={"news": True}), ("spec.enableDefaultDeny.news", ["egress", "ingress"], True, True, True), [ingress({})]),
 }
 
 
@@ -278,6 +287,38 @@ def what_is_not_read(told):
     told("whom it touches", [one.touches(*it) for it in ((pay, "ingress"), (pay, "egress"), (shop, "ingress"))], [True, False, False])
 
 
+def what_is_not_read_beside_others(told):
+    """Of a rule, what its own entries deny isn't sure either; of an entry that requires something, what others allow."""
+    unsure = lambda item: [(it.path, it.allows, it.denies, it.overrides) for it in read(item).rewritten[item["kind"], "pay", "p"].unsure]
+    told("a rule that denies", unsure(policy("pay/p", {"endpointSelector": {}, "ingressDeny": [{}], "news": 1})), [("spec.news", True, True, True)])
+    told("a rule that doesn't", unsure(policy("pay/p", ingress({}, news=1))), [("spec.news", True, True, False)])
+    told("a requirement", unsure(policy("pay/p", ingress({"fromRequires": [app("web")], "news": 1}))), [("spec.ingress[0].news", True, True, False)])
+    told("no name is noted", read(policy("pay/p", UNREAD["beside names"][0])).all_names, [])
+
+
+def documents_that_are_not_read(told):
+    """A member of the document is of any pod of the namespace, and the rules stay in force; so of a NetworkPolicy."""
+    for item in (policy("pay/p", ingress({})), network("pay/p", {"podSelector": {}, "ingress": [{}]})):
+        found = read({**item, "news": 1}).rewritten[item["kind"], "pay", "p"]
+        told(f"a {item['kind']}", [(it.path, it.asked, it.namespace, it.isolates) for it in found.unsure], [("news", None, "pay", True)])
+        told(f"what policyd is given of a {item['kind']}", [(unread.why_unread(it.document), bool(it.rules())) for it in found.parts], [(None, True)])
+    web, of_pay = ("k8s", "app", "In", ("web",)), ("k8s", "io.kubernetes.pod.namespace", "In", ("pay",))
+    found = read(network("pay/p", {"podSelector": app("web"), "ingress": [{}], "news": 1})).rewritten["NetworkPolicy", "pay", "p"]
+    told("a member of its spec", ([(it.path, it.asked) for it in found.unsure], len(found.parts)), ([("spec.news", (web, of_pay))], 1))
+    found = read(network("pay/p", {"podSelector": {"news": 1}, "policyTypes": ["Egress"]})).rewritten["NetworkPolicy", "pay", "p"]
+    told("its subject", ([(it.path, it.asked, sorted(it.directions)) for it in found.unsure], found.refused, found.parts), ([("spec.podSelector.news", None, ["egress"])], None, []))
+
+
+def the_same_does_the_same(told):
+    """What isn't read is the same in two states where it stands in the same entry, and the state beside it is the same."""
+    unsure = lambda *items, state=STATE: read(*items, state=state).all_unsure
+    one = lambda port: policy("pay/p", ingress({"toPorts": ports(port), "news": 1}, {}))
+    told("the same", unsure(one(80)) == unsure(one(80)), True)
+    told("another entry changes", unsure(one(80)) == unsure(policy("pay/p", ingress({"toPorts": ports(80), "news": 1}, {"fromEntities": ["all"]}))), True)
+    told("it changes", unsure(one(80)) == unsure(one(81)), False)
+    told("a Service changes", unsure(one(80)) == unsure(one(80), state=[*STATE[:-1], service("shop/new", {"app": "cart"}), STATE[-1]]), False)
+
+
 def forty_policies_are_read(told):
     """Each form that is documented is read, and has the word beside it that the table says; nothing of it is unsure."""
     told("how many", len(FORTY), 40)
@@ -290,4 +331,4 @@ def forty_policies_are_read(told):
 
 
 def checks():
-    return [forty_policies_are_read, members_become, the_same_object, marks_and_names, places_lead_back, policies_of_hosts, what_is_required, the_clusters_own_name, network_policies, what_is_lacking, what_cilium_refuses_too, what_is_not_read]
+    return [forty_policies_are_read, members_become, the_same_object, marks_and_names, places_lead_back, policies_of_hosts, what_is_required, the_clusters_own_name, network_policies, what_is_lacking, what_cilium_refuses_too, what_is_not_read, what_is_not_read_beside_others, documents_that_are_not_read, the_same_does_the_same]

@@ -5,7 +5,6 @@ from typing import Callable, Iterable, Optional, Sequence
 
 from lib import regions
 
-from .beside import Plain
 from .connections import Stretch, stretches, wanted
 from .core import Core
 from .ends import End, Outside, Universe
@@ -13,7 +12,7 @@ from .halves import Halves, Segment
 from .naming import Names
 from .programs import Program
 from .progress import Progress
-from .reasons import isolating, of_half
+from .reasons import of_half
 from .resolving import EVERY_PORT, PortRange
 from .selecting import Half
 from .states import States
@@ -104,9 +103,8 @@ class About:
         halves = self.asked.halves
         if not halves.beside.has_doubts:
             return ()
-        asked = wanted(source, target, self.phase)
-        plain = [Plain(segment.word, segment.is_allowed and not isolating(halves.half(*one[:3]))) for one, (_, segment) in zip(asked, it.halves)]
-        return tuple(dict.fromkeys(halves.beside.doubts((*one[:3], each) for one, each in zip(asked, plain))))
+        asked = zip(wanted(source, target, self.phase), it.halves)
+        return tuple(dict.fromkeys(halves.beside.doubts((*one[:3], halves.plain(one, segment)) for one, (_, segment) in asked)))
 
     def names_beside(self, source: End, target: End, it: Stretch) -> tuple[str, ...]:
         """The names whose addresses are reached beside the world, where a connection is with the world."""

@@ -29,6 +29,7 @@ class Beside:
     def __init__(self, universe: Universe):
         self.universe = universe
         self.kept: dict[tuple, list] = {}
+        self.numbers: dict[frozenset, int] = {frozenset(): 0}
         self.has_doubts = any(it.all_unsure for it in universe.states)
         self.has_names = any(it.all_names for it in universe.states)
 
@@ -39,6 +40,22 @@ class Beside:
     def unsure(self, phase: int, at: int, direction: str) -> list:
         """What isn't read and may change what pods with the labels may receive, or send."""
         return self.asked("unsure", phase, at, direction) if self.has_doubts else []
+
+    def number(self, phase: int, at: int, direction: str) -> int:
+        """A number for what `unsure` gives: 0 for nothing, and the same for the same."""
+        return self.numbers.setdefault(frozenset(self.unsure(phase, at, direction)), len(self.numbers)) if self.has_doubts else 0
+
+    def turning(self, phase: int, at: int, direction: str, plain: Plain) -> frozenset:
+        """What isn't read and may turn the verdict of a half."""
+        return frozenset(unsure.of_half(plain, self.unsure(phase, at, direction)))
+
+    def may_differ(self, before: tuple, after: tuple, one: Plain, other: Plain) -> bool:
+        """Whether a half, asked about before and after a change, may be judged otherwise for what isn't read.
+
+        What is the same in both does the same there to pods of the same labels.
+        """
+        turning = self.turning(*before[:3], one), self.turning(*after[:3], other)
+        return any(turning) and (turning[0] != turning[1] or one != other or before[1:] != after[1:])
 
     def asked(self, what: str, phase: int, at: int, direction: str) -> list:
         key = (what, phase, at, direction)

@@ -7,7 +7,7 @@ from lib import ports as port_sets
 
 from .ends import ENTITIES, End, Group, Outside
 from .naming import ANY_OTHER, outer, workload_of
-from .rows import Line, Ports, alike, written_ports
+from .rows import Line, Ports, Told, alike, written_ports
 
 # The pods of an end that stand under a name; of what is no pod, one that is none.
 Members = dict[str, frozenset]
@@ -48,6 +48,7 @@ def coarse(lines: list[Line], by: str, sources: Iterable[Group], targets: Iterab
     """What is open between some pods of two names, and whether it is so between every two of those that are asked about."""
     known: dict[End, Members] = {}
     between: dict[tuple[str, str], dict[tuple[End, End], list]] = {}
+    doubts: dict[tuple[str, str], dict[str, None]] = {}
     for line in lines:
         for source in line.froms:
             for target in line.tos:
@@ -57,6 +58,7 @@ def coarse(lines: list[Line], by: str, sources: Iterable[Group], targets: Iterab
                 for one in known[source]:
                     for other in known[target]:
                         between.setdefault((one, other), {}).setdefault((source, target), []).append(line.ports)
+                        doubts.setdefault((one, other), {}).update(dict.fromkeys(line.told.unsure))
     asked = [all_members(groups, by) for groups in (sources, targets)]
     cells = []
     for (one, other), by_pair in sorted(between.items(), key=lambda it: (it[0][1], it[0][0])):
@@ -64,7 +66,8 @@ def coarse(lines: list[Line], by: str, sources: Iterable[Group], targets: Iterab
         open_ones = sum(count(known[source][one], known[target][other]) for source, target in whole)
         whole_count = count(asked[0].get(one, frozenset([one])), asked[1].get(other, frozenset([other])))
         is_every = len({*whole.values()}) == 1 and open_ones >= whole_count
-        cells.append([one, other, written_ports(union(whole.values())), "every pod" if is_every else "some pods"])
+        told = Told("", "", ("every pod" if is_every else "some pods",), unsure=tuple(doubts[one, other]))
+        cells.append([one, other, written_ports(union(whole.values())), told.written()])
     return cells
 
 

@@ -1,8 +1,11 @@
 """What a change opens and shuts: connections that are allowed before and not after, or after and not before.
 
 A half can change only where the rules that select its endpoint differ, or the labels at its other side. So those halves
-are asked about first, and where one changes, the other half of its connections. What may change for what isn't read of a
-policy is shown too, and marked.
+are asked about first, and where one changes, the other half of its connections.
+
+What isn't read of a policy that is there before and after does the same in both to pods whose labels are the same. So a
+half may change for it only where it may turn one verdict and not the other, or where labels differ: then its connection
+is shown too, and marked, though both verdicts are alike.
 """
 from __future__ import annotations
 
@@ -11,13 +14,12 @@ from typing import Iterable, NamedTuple
 from lib import regions
 from lib.reading import Bad
 
-from .beside import Plain
 from .connections import Wanted, pairs_with, profiles, wanted
 from .core import ALLOWED, BY_RULE
 from .ends import End, Outside
 from .halves import Halves, Segment, joined
 from .naming import Names
-from .reasons import isolating, of_change
+from .reasons import of_change
 from .rows import Line, Rows, Told
 from .selecting import DIRECTIONS, EGRESS, Half
 from .states import States
@@ -42,6 +44,11 @@ class Changed(NamedTuple):
     def is_shown(self) -> bool:
         """Whether the connection changes, or may for what isn't read."""
         return (self.word(0) == ALLOWED) != (self.word(1) == ALLOWED) or bool(self.unsure)
+
+    @property
+    def is_half(self) -> bool:
+        """Whether a half of it changes."""
+        return any(before.is_allowed != after.is_allowed for *_, before, after in self.halves)
 
 
 class Diff:
@@ -80,7 +87,7 @@ class Diff:
         for direction in DIRECTIONS:
             for group in groups:
                 asked = [(phase, group.at(phase), direction) for phase in (0, 1)]
-                is_touched = self.halves.half(*asked[0]) != self.halves.half(*asked[1])
+                is_touched = self.halves.half(*asked[0]) != self.halves.half(*asked[1]) or self.is_doubted(*asked)
                 for other in [*groups, *self.halves.outer(*asked)] if is_touched else relabelled:
                     pair = (group, other) if direction == EGRESS else (other, group)
                     if pairs_with(*pair, self.universe.node is not None):
@@ -89,7 +96,8 @@ class Diff:
 
     def touched(self, source: End, target: End) -> list[tuple[Wanted, Wanted]]:
         """The halves of a connection that may change, before and after."""
-        return [pair for pair in zip(wanted(source, target, 0), wanted(source, target, 1)) if self.halves.key(*pair[0]) != self.halves.key(*pair[1])]
+        both = zip(wanted(source, target, 0), wanted(source, target, 1))
+        return [pair for pair in both if self.halves.key(*pair[0]) != self.halves.key(*pair[1]) or self.is_doubted(*pair)]
 
     def first(self, candidates: Iterable[tuple[End, End]]) -> Iterable[Wanted]:
         for pair in candidates:
@@ -103,35 +111,30 @@ class Diff:
         return any(self.moves_in(*both) for both in self.touched(source, target))
 
     def moves_in(self, before: Wanted, after: Wanted) -> bool:
-        key = self.halves.key(*before), self.halves.key(*after), self.is_doubted(before, after)
+        key = tuple((self.halves.key(*it), self.beside.number(*it[:3])) for it in (before, after)), before[1:] == after[1:]
         if key not in self.moved:
             found = profiles(self.halves, (before, after))
-            self.moved[key] = bool(found) and any(self.is_other(before, after, *pair) for *_, pair in joined(found))
+            self.moved[key] = bool(found) and any(self.halves.differ(before, after, *pair) for *_, pair in joined(found))
         return self.moved[key]
 
-    def is_doubted(self, *asked: Wanted) -> bool:
-        return any(self.beside.unsure(*it[:3]) for it in asked)
-
-    def is_other(self, before: Wanted, after: Wanted, one: Segment, other: Segment) -> bool:
-        """Whether a half changes, or may for what isn't read."""
-        if one.is_allowed != other.is_allowed:
-            return True
-        return self.is_doubted(before, after) and self.plain(before, one) != self.plain(after, other)
-
-    def plain(self, asked: Wanted, segment: Segment) -> Plain:
-        return Plain(segment.word, segment.is_allowed and not isolating(self.halves.half(*asked[:3])))
+    def is_doubted(self, before: tuple, after: tuple) -> bool:
+        """Whether something else that isn't read touches a half after, or the same something touches other labels."""
+        numbers = [self.beside.number(*it[:3]) for it in (before, after)]
+        return numbers[0] != numbers[1] or bool(numbers[0]) and before[1:] != after[1:]
 
     def changed(self, source: End, target: End) -> Iterable[Changed]:
         before, after = wanted(source, target, 0), wanted(source, target, 1)
         found = profiles(self.halves, [*before, *after])
         for protocol, low, high, segments in joined(found) if found else ():
             halves = tuple(zip(before, after, segments, segments[len(before) :]))
-            if any(self.is_other(*it) for it in halves):
-                yield Changed(source, target, protocol, low, high, halves, self.doubts(halves))
+            if any(self.halves.differ(*it) for it in halves):
+                it = Changed(source, target, protocol, low, high, halves, self.doubts(halves))
+                if it.is_shown or it.is_half:
+                    yield it
 
     def doubts(self, halves: tuple) -> tuple[str, ...]:
         """The names of what isn't read and may turn a verdict of the connection, before or after."""
-        told = [name for at in (0, 1) for name in self.beside.doubts((*it[at][:3], self.plain(it[at], it[2 + at])) for it in halves)]
+        told = [name for at in (0, 1) for name in self.beside.doubts((*it[at][:3], self.halves.plain(it[at], it[2 + at])) for it in halves)]
         return tuple(dict.fromkeys(told))
 
     # What is told.

@@ -15,6 +15,8 @@ from .rows import Line, listed, written_ports
 from .statuses import NOTHING, TELLS, UNSURE
 
 HEADS = ("FROM", "TO", "PORTS", "BEFORE", "AFTER", "DECIDED BY")
+# What stands behind a change that may be, for what isn't read, and isn't by what is.
+MAY = "unsure"
 
 
 def report(asked: Asked) -> Report:
@@ -22,23 +24,18 @@ def report(asked: Asked) -> Report:
     found = Diff(asked.states, asked.halves)
     lines, others = found.lines(asked.names), found.lines(asked.names, False)
     notes = [*alone(asked.names, others), *asked.notes(), *missing(asked)]
-    doubts = doubtful(asked, lines)
+    doubts = list(dict.fromkeys(name for it in lines for name in it.told.unsure))
     more = {"halves": [row(it) for it in others], "unsure": doubts}
     status = UNSURE if doubts else TELLS if lines else NOTHING
-    above = doubt(doubts, asked.states.unsure_changes())
-    return Report("diff", summary(lines), HEADS, by_line(asked.names, lines), [row(it) for it in lines], notes, status, lines, asked.names, more, above)
-
-
-def doubtful(asked: Asked, lines: list[Line]) -> list[str]:
-    """The policies that aren't read whole and may turn a line, or that come or go."""
-    return list(dict.fromkeys([*(name for it in lines for name in it.told.unsure), *asked.states.unsure_changes()]))
+    return Report("diff", summary(lines), HEADS, by_line(asked.names, lines), [row(it) for it in lines], notes, status, lines, asked.names, more, doubt(doubts))
 
 
 def summary(lines: list[Line]) -> str:
-    opened = sum(it.told.after == ALLOWED != it.told.before for it in lines)
-    shut = sum(it.told.before == ALLOWED != it.told.after for it in lines)
+    changing = [it.told for it in lines if it.told.changes]
+    opened, others = sum(it.after == ALLOWED for it in changing), len(lines) - len(changing)
     parts = [counted(opened, "line of connections opens", "lines of connections open")] if opened else []
-    parts += [counted(shut, "line of connections shuts", "lines of connections shut")] if shut else []
+    parts += [counted(len(changing) - opened, "line of connections shuts", "lines of connections shut")] if len(changing) > opened else []
+    parts += [f"{counted(others, 'line', 'lines')} of connections may change"] if others else []
     return " and ".join(parts) or "no connection changes"
 
 
@@ -50,7 +47,8 @@ def by_line(names: Names, lines: Iterable[Line]) -> list[list[str]]:
     """A line for each target, in the order of targets."""
     cells = []
     for it in lines:
-        sources, rest = ", ".join(names.side(it.froms, it.tos)), [written_ports(it.ports), it.told.before, it.told.after, it.told.written()]
+        sources, after = ", ".join(names.side(it.froms, it.tos)), it.told.after if it.told.changes else MAY
+        rest = [written_ports(it.ports), it.told.before, after, it.told.written()]
         cells += [[sources, target, *rest] for target in names.side(it.tos, it.froms)]
     return sorted(cells, key=lambda it: (it[1], it[0], it[2]))
 

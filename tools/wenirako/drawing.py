@@ -11,15 +11,16 @@ from .naming import outer, workload_of
 from .report import Report
 from .rows import Line, written_ports
 
-COLOURS = {"open": "#1f6feb", "opens": "#1a7f37", "shuts": "#cf222e"}
+COLOURS = {"open": "#1f6feb", "opens": "#1a7f37", "shuts": "#cf222e", "unsure": "#6e7781"}
 PORTS_SHOWN = 60
 
 
-def what(line: Line) -> str:
-    """Whether a line's connections open, shut, or are open."""
-    if line.told.before == line.told.after:
-        return "open"
-    return "opens" if line.told.after == ALLOWED else "shuts"
+def what(line: Line, is_change: bool) -> str:
+    """Whether a line's connections open, shut, or are open; or whether that is unsure, for what isn't read."""
+    is_open = line.told.after == ALLOWED
+    if line.told.changes:
+        return "opens" if is_open else "shuts"
+    return "open" if is_open and not is_change else "unsure"
 
 
 def places_of(end: End) -> list[tuple[str, str]]:
@@ -29,29 +30,31 @@ def places_of(end: End) -> list[tuple[str, str]]:
     return sorted({(pod.namespace, workload_of(pod)) for pod in end.pods})
 
 
-def edges(lines: Iterable[Line]) -> dict[tuple, list]:
-    """The ports of each arrow: by what its connections do, from which workload and to which."""
+def edges(report: Report) -> dict[tuple, list]:
+    """The ports of each arrow: by what its connections do and whether that is marked, from which workload and to which."""
     found: dict[tuple, list] = {}
-    for line in lines:
+    for line in report.lines or []:
+        does = what(line, report.question == "diff"), bool(line.told.unsure)
         sources, targets = (sorted({it for end in ends for it in places_of(end)}) for ends in (line.froms, line.tos))
         for source in sources:
             for target in targets:
-                found.setdefault((what(line), source, target), []).append(line.ports)
+                found.setdefault((does, source, target), []).append(line.ports)
     return found
 
 
 def dot(report: Report) -> str:
     """The graph's text."""
-    found = edges(report.lines or [])
+    found = edges(report)
     nodes = sorted({it for _, source, target in found for it in (source, target)})
     text = ["digraph wenirako {", "  rankdir=LR; node [shape=box, style=rounded, fontname=Helvetica]; edge [fontname=Helvetica, fontsize=10];"]
     for number, namespace in enumerate(sorted({it[0] for it in nodes})):
         names = "; ".join(f"{quoted(name_of(it))} [label={quoted(it[1])}]" for it in nodes if it[0] == namespace)
         text.append(f"  subgraph cluster_{number} {{ label={quoted(namespace)}; {names} }}" if namespace else f"  {names}")
-    for (does, source, target), parts in sorted(found.items()):
+    for ((does, is_unsure), source, target), parts in sorted(found.items()):
         ports = written_ports(union(parts))
         label = ports if len(ports) <= PORTS_SHOWN else f"{ports[:PORTS_SHOWN]} .."
-        text.append(f"  {quoted(name_of(source))} -> {quoted(name_of(target))} [label={quoted(label)}, color={quoted(COLOURS[does])}, tooltip={quoted(does)}]")
+        more = ", style=dashed" if is_unsure else ""
+        text.append(f"  {quoted(name_of(source))} -> {quoted(name_of(target))} [label={quoted(label)}, color={quoted(COLOURS[does])}, tooltip={quoted(does)}{more}]")
     return "\n".join([*text, "}"]) + "\n"
 
 

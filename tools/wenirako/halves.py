@@ -12,10 +12,11 @@ from typing import Callable, Iterable, NamedTuple, Optional, Sequence, TypeVar, 
 
 from lib import ports, regions
 
-from .beside import Beside, named, parted
+from .beside import Beside, Plain, named, parted
 from .core import ALLOWED, Answer, Core, Misjudged, NoAnswer, Question
 from .ends import Outside, Universe, inside
 from .mentions import Mentions
+from .reasons import isolating
 from .selecting import Half, Interned, Selection
 
 # A number that nobody has.
@@ -143,6 +144,16 @@ class Halves:
         if side.kind == "name":
             return named(found, [it for it in entries if side.value in it.names])
         return parted(found, entries) if side.kind == "region" and side.value == regions.WORLD else found
+
+    def plain(self, asked: tuple, segment: Segment) -> Plain:
+        """A half's verdict as far as doubts about it ask."""
+        return Plain(segment.word, segment.is_allowed and not self.once(isolating, self.half(*asked[:3])))
+
+    def differ(self, before: tuple, after: tuple, one: Segment, other: Segment) -> bool:
+        """Whether a half changes at a stretch of ports, or may for what isn't read."""
+        if one.is_allowed != other.is_allowed or not self.beside.has_doubts:
+            return one.is_allowed != other.is_allowed
+        return self.beside.may_differ(before, after, self.plain(before, one), self.plain(after, other))
 
     def is_shut(self, phase: int, at: int, direction: str, side: Side) -> bool:
         """Whether no packet of a half is allowed."""

@@ -1,15 +1,17 @@
-"""`list`: what is open, between pods, workloads or namespaces."""
+"""`list`: what is open, between pods, workloads or namespaces; and, marked, what may be open for what isn't read."""
 from __future__ import annotations
 
 from typing import Iterable, Optional
 
 from .asked import Asked
 from .coarse import coarse
+from .connections import wanted
+from .core import ALLOWED
 from .ends import End
 from .naming import Names
 from .report import Report, counted, doubt
-from .resolving import EVERY_PORT, everything, named, pairs, port_range
-from .rows import Line, Rows, Told, listed, written_ports
+from .resolving import EVERY_PORT, PortRange, everything, named, pairs, port_range
+from .rows import Line, Ports, Rows, Told, listed, written_ports
 from .statuses import NOTHING, UNSURE
 
 BY = ("pod", "workload", "namespace")
@@ -22,15 +24,19 @@ def report(asked: Asked, source: Optional[str], target: Optional[str], port: Opt
     ends = [named(universe, text, word) if text is not None else everything(universe) for word, text in (("--from", source), ("--to", target))]
     ports = port_range(port, "--port") if port is not None else EVERY_PORT
     lines = asked.halves.foreseen(lambda: found(asked, list(pairs(asked.halves, *ends)), ports))
-    cells = by_line(asked.names, lines) if by == "pod" else coarse(lines, by, *(it.groups for it in ends))
+    open_ones, others = ([it for it in lines if (it.told.after == ALLOWED) == is_open] for is_open in (True, False))
+    written = lambda listed: by_line(asked.names, listed) if by == "pod" else coarse(listed, by, *(it.groups for it in ends))
+    cells, more = written(open_ones), written(others)
     heads = HEADS if by == "pod" else ("FROM", "TO", "PORTS", "BETWEEN")
     rows = [{"from": listed(it.froms), "to": listed(it.tos), "ports": for_programs(it.ports), "verdict": it.told.after, **it.told.for_programs()} for it in lines]
     summary = f"{counted(len(cells), 'line', 'lines')} of open connections" if cells else "nothing is open"
+    summary += f", and {counted(len(more), 'line', 'lines')} of some that may be" if more else ""
     doubts = list(dict.fromkeys(name for it in lines for name in it.told.unsure))
-    return Report("list", summary, heads, cells, rows, asked.notes(), UNSURE if doubts else NOTHING, lines, asked.names, above=doubt(doubts))
+    return Report("list", summary, heads, [*cells, *more], rows, asked.notes(), UNSURE if doubts else NOTHING, lines, asked.names, above=doubt(doubts))
 
 
-def found(asked: Asked, listed_pairs: list[tuple[End, End]], ports) -> list[Line]:
+def found(asked: Asked, listed_pairs: list[tuple[End, End]], ports: PortRange) -> list[Line]:
+    """The connections that are open, and those that may be."""
     about = asked.about(listed_pairs, ports, is_open=True)
     rows, told = Rows(), {}
     for pair in listed_pairs:
@@ -39,7 +45,21 @@ def found(asked: Asked, listed_pairs: list[tuple[End, End]], ports) -> list[Line
                 told[id(it)] = Told(it.word, it.word, about.reasons(it), marks=about.marks(it))
             more = {"names": about.names_beside(*pair, it), "unsure": about.unsure(*pair, it)}
             rows.add(*pair, it.protocol, it.low, it.high, told[id(it)]._replace(**more) if any(more.values()) else told[id(it)])
+    may_be_open(asked, listed_pairs, ports, rows)
     return rows.lines(asked.names)
+
+
+def may_be_open(asked: Asked, listed_pairs: list[tuple[End, End]], ports: PortRange, rows: Rows) -> None:
+    """Adds what is denied by what is read, and may be open for what isn't."""
+    beside = asked.halves.beside
+    touched = [pair for pair in listed_pairs if any(beside.number(*it[:3]) for it in wanted(*pair, 0))]
+    if not touched:
+        return
+    about = asked.about(touched, ports, is_open=False, explains=False)
+    doubted = [(pair, it, doubts) for pair in touched for it in about.stretches(*pair) for doubts in [about.unsure(*pair, it)] if doubts]
+    about.explain(it for _, it, _ in doubted)
+    for pair, it, doubts in doubted:
+        rows.add(*pair, it.protocol, it.low, it.high, Told(it.word, it.word, about.reasons(it), unsure=doubts))
 
 
 def by_line(names: Names, lines: Iterable[Line]) -> list[list[str]]:
@@ -51,5 +71,5 @@ def by_line(names: Names, lines: Iterable[Line]) -> list[list[str]]:
     return sorted(cells, key=lambda it: (it[1], it[0], it[2]))
 
 
-def for_programs(ports) -> list[dict]:
+def for_programs(ports: Ports) -> list[dict]:
     return [{"protocols": list(protocols), "ranges": [list(pair) for pair in ranges]} for protocols, ranges in ports]

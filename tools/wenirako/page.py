@@ -42,7 +42,7 @@ def line_of(line: Line, report: Report, ends: dict[tuple[str, str], int]) -> dic
         "to": sides[1],
         "froms": names[0],
         "tos": names[1],
-        "does": what(line),
+        "does": what(line, report.question == "diff"),
         "ports": written_ports(line.ports),
         "before": line.told.before,
         "after": line.told.after,

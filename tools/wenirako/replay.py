@@ -1,17 +1,19 @@
 """`replay`: which flows that were seen would be dropped, how often and when they were seen, and by what."""
 from __future__ import annotations
 
-from typing import NamedTuple
+from typing import NamedTuple, Optional
 
 from lib.reading import Bad
 
-from .asked import Asked
+from .asked import About, Asked
+from .connections import Stretch, wanted
 from .ends import End, Group, Outside, entity
 from .flows import Flow, FlowEnd, Flows, Seen
+from .halves import Halves
 from .naming import Names
 from .report import Report, counted, doubt
 from .resolving import PortRange
-from .rows import listed
+from .rows import Told, listed
 from .statuses import NOTHING, TELLS, UNSURE
 
 NAMESPACE_LABEL = "k8s:io.kubernetes.pod.namespace"
@@ -19,13 +21,14 @@ HEADS = ("FROM", "TO", "PORT", "FLOWS", "FIRST", "LAST", "VERDICT", "DROPPED BY"
 
 
 class Dropped(NamedTuple):
-    """Flows that would be dropped alike."""
+    """Flows that would be dropped alike, or may be for what isn't read: `unsure` has the policies that may turn it."""
 
     ends: tuple[End, End]
     protocol: str
     port: int
     word: str
     why: str
+    unsure: tuple[str, ...]
 
 
 def report(asked: Asked, text: str, name: str) -> Report:
@@ -38,21 +41,28 @@ def report(asked: Asked, text: str, name: str) -> Report:
     placed = {it: (ends.of(it.source), ends.of(it.target)) for it in flows.seen}
     if ends.gone:
         asked.halves.reselect()
-    found, already, doubts = asked.halves.foreseen(lambda: dropped(asked, placed, phase))
+    found, already = asked.halves.foreseen(lambda: dropped(asked, placed, phase))
     names = Names([*asked.universe.groups, *ends.gone.values()])
     cells, rows = [], []
     for it, seen in sorted(joined(found, flows).items(), key=lambda pair: (-pair[1].count, pair[0].port)):
         froms, tos = (frozenset([end]) for end in it.ends)
         sides = [", ".join(names.side(*both)) for both in ((froms, tos), (tos, froms))]
-        cells.append([*sides, f"{it.protocol} {it.port}", str(seen.count), seen.first, seen.last, it.word, it.why])
+        told = Told(it.word, it.word, (it.why,) if it.why else (), unsure=it.unsure)
+        cells.append([*sides, f"{it.protocol} {it.port}", str(seen.count), seen.first, seen.last, it.word, told.written()])
         times = {"count": seen.count, "first": seen.first, "last": seen.last}
-        rows.append({"from": listed(froms), "to": listed(tos), "protocol": it.protocol, "port": it.port, **times, "verdict": it.word, "dropped_by": it.why})
-    total = sum(it.count for it in flows.seen.values())
-    lost = sum(flows.seen[it].count for it in found)
-    told = f"{lost} of {counted(total, 'flow', 'flows')} would be dropped" if lost else f"none of {counted(total, 'flow', 'flows')} would be dropped"
+        more = {"unsure": list(it.unsure)} if it.unsure else {}
+        rows.append({"from": listed(froms), "to": listed(tos), "protocol": it.protocol, "port": it.port, **times, "verdict": it.word, "dropped_by": it.why, **more})
+    doubts = list(dict.fromkeys(name for it in found.values() for name in it.unsure))
+    status = TELLS if any(not it.unsure for it in found.values()) else UNSURE if found else NOTHING
     notes = [*asked.notes(), *flows.notes(), *ends.notes(), *denied_already(already, flows)]
-    status = TELLS if lost else UNSURE if doubts else NOTHING
-    return Report("replay", told, HEADS, cells, rows, notes, status, above=doubt(doubts))
+    return Report("replay", summary(found, flows), HEADS, cells, rows, notes, status, above=doubt(doubts))
+
+
+def summary(found: dict[Flow, Dropped], flows: Flows) -> str:
+    """How many flows would be dropped, and how many may be for what isn't read."""
+    total = counted(sum(it.count for it in flows.seen.values()), "flow", "flows")
+    lost, others = (sum(flows.seen[it].count for it, how in found.items() if bool(how.unsure) == is_unsure) for is_unsure in (False, True))
+    return f"{lost or 'none'} of {total} would be dropped" + (f", and {others} may be" if others else "")
 
 
 def denied_already(already: list[Flow], flows: Flows) -> list[str]:
@@ -60,37 +70,40 @@ def denied_already(already: list[Flow], flows: Flows) -> list[str]:
     return [f"{counted(count, 'flow is', 'flows are')} denied before the change too, so the policies or labels of the state aren't those of that time"] if count else []
 
 
-def dropped(asked: Asked, placed: dict[Flow, tuple[End, End]], phase: int) -> tuple[dict[Flow, Dropped], list[Flow], list[str]]:
-    """The flows that are denied after the change and not before, those that are denied before it too, and what isn't read
-    and may turn one."""
-    by_port: dict[tuple[str, int], dict[tuple[End, End], list[Flow]]] = {}
-    for flow, pair in placed.items():
-        by_port.setdefault((flow.protocol, flow.port), {}).setdefault(pair, []).append(flow)
-    after = asked.about([pair for it in by_port.values() for pair in it], phase=phase, is_open=False)
-    before = asked.about([pair for it in by_port.values() for pair in it], phase=0, is_open=False) if phase else None
-    found: dict[Flow, Dropped] = {}
+def dropped(asked: Asked, placed: dict[Flow, tuple[End, End]], phase: int) -> tuple[dict[Flow, Dropped], list[Flow]]:
+    """The flows that are denied after the change and not before, or may be, and those that are denied before it too."""
+    pairs = list(dict.fromkeys(placed.values()))
+    after, before = (asked.about(pairs, phase=it, explains=False) for it in (phase, 0))
+    found: dict[Flow, tuple[Stretch, tuple[str, ...]]] = {}
     already: list[Flow] = []
-    for (protocol, port), pairs in by_port.items():
-        ports = PortRange((protocol,), port, port)
-        for pair, flows in pairs.items():
-            denied = next((it for it in after.stretches(*pair) if ports.cut(it.protocol, it.low, it.high)), None)
-            was_denied = before is not None and any(ports.cut(it.protocol, it.low, it.high) for it in before.stretches(*pair))
-            if was_denied:
-                already += flows
-            elif denied:
-                found.update((it, Dropped(pair, protocol, port, denied.word, "; ".join(after.reasons(denied)))) for it in flows)
-    return found, already, doubts_of(asked, by_port, phase)
+    for flow, pair in placed.items():
+        now, was = (stretch_of(it, pair, flow) for it in (after, before))
+        if now is None:
+            continue
+        if phase and was is not None and not was.is_allowed and not before.unsure(*pair, was):
+            already.append(flow)
+            continue
+        unsure = after.unsure(*pair, now)
+        # (what was seen to pass passes where nothing changes, whatever isn't read)
+        if phase and was is not None and is_same(asked.halves, pair, was, now):
+            continue
+        if unsure or not now.is_allowed:
+            found[flow] = now, unsure
+    after.explain(it for it, _ in found.values())
+    why = lambda it: "" if it.is_allowed else "; ".join(after.reasons(it))
+    return {flow: Dropped(placed[flow], flow.protocol, flow.port, it.word, why(it), unsure) for flow, (it, unsure) in found.items()}, already
 
 
-def doubts_of(asked: Asked, by_port: dict[tuple[str, int], dict], phase: int) -> list[str]:
-    """The policies that aren't read whole and may turn the verdict on a flow."""
-    if not asked.halves.beside.has_doubts:
-        return []
-    pairs = [pair for it in by_port.values() for pair in it]
-    about = asked.about(pairs, phase=phase, explains=False)
-    ranges = [(PortRange((protocol,), port, port), pair) for (protocol, port), it in by_port.items() for pair in it]
-    listed = [(pair, it) for ports, pair in ranges for it in about.stretches(*pair) if ports.cut(it.protocol, it.low, it.high)]
-    return list(dict.fromkeys(name for pair, it in listed for name in about.unsure(*pair, it)))
+def is_same(halves: Halves, pair: tuple[End, End], was: Stretch, now: Stretch) -> bool:
+    """Whether a flow is judged after a change as it was before, whatever isn't read."""
+    both = zip(wanted(*pair, 0), wanted(*pair, 1), was.halves, now.halves)
+    return not any(halves.differ(before, after, one, other) for before, after, (_, one), (_, other) in both)
+
+
+def stretch_of(about: About, pair: tuple[End, End], flow: Flow) -> Optional[Stretch]:
+    """The stretch of a connection in which a flow is; None where no such packet is asked about."""
+    ports = PortRange((flow.protocol,), flow.port, flow.port)
+    return next((it for it in about.stretches(*pair) if ports.cut(it.protocol, it.low, it.high)), None)
 
 
 def joined(found: dict[Flow, Dropped], flows: Flows) -> dict[Dropped, Seen]:

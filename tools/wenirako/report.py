@@ -31,12 +31,9 @@ class Report:
     above: str = ""
 
 
-def doubt(policies: Sequence[str], of_change: Sequence[str] = ()) -> str:
-    """What is said above a table of policies that aren't read whole, some of which come or go; empty where there is none."""
-    if not policies:
-        return ""
-    more = "; what a policy that comes or goes may change besides isn't shown" if of_change else ""
-    return f"unsure: {', '.join(policies)} isn't read whole, so rows marked unsure may be others{more}"
+def doubt(policies: Sequence[str]) -> str:
+    """What is said above a table of policies that aren't read whole; empty where there is none."""
+    return f"unsure: {', '.join(policies)} isn't read whole, so rows marked unsure may be others" if policies else ""
 
 
 def counted(count: int, one: str, many: str) -> str:

@@ -5,6 +5,7 @@ from typing import Iterable, NamedTuple
 
 from lib import ports
 
+from .core import ALLOWED
 from .ends import ENTITIES, End, Group, Outside
 from .naming import Names, of_names, of_regions
 
@@ -23,6 +24,11 @@ class Told(NamedTuple):
     unsure: tuple[str, ...] = ()
     # What lets it pass beside the entries, where no entry without a mark does: a proxy (`L7`), say.
     marks: tuple[str, ...] = ()
+
+    @property
+    def changes(self) -> bool:
+        """Whether it is open before and not after, or after and not before, as far as it is read."""
+        return (self.before == ALLOWED) != (self.after == ALLOWED)
 
     def written(self) -> str:
         names = [f"and names: {', '.join(self.names)}"] if self.names else []

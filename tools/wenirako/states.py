@@ -53,13 +53,8 @@ class States:
         return [] if self.is_one else lint.slips(self.after, {it.key for it in self.incoming()})
 
     def unread(self) -> list[str]:
-        """What is said of what isn't read of the state's policies."""
-        return list(force.said(self.before, {}, self.before.ends))
-
-    def unsure_changes(self) -> list[str]:
-        """The policies that come or go and aren't read whole: what else they may change isn't shown."""
-        changed = self.change.changed()
-        return sorted({it.policy.name for state in self.ends() for key, it in state.rewritten.items() if it.unsure and key in changed})
+        """What is said of what isn't read of policies, before a change and after it."""
+        return list(dict.fromkeys(it for state in self.ends() for it in force.said(state, {}, state.ends)))
 
     def marks(self, listed: Iterable[str]) -> list[str]:
         """The marks of entries that let a half pass, where each of them has one."""

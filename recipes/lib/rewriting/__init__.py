@@ -6,10 +6,8 @@ together into what policyd is given, with the way back from the places in its an
 """
 from __future__ import annotations
 
-import copy
-
 from ..policies import NAMESPACED, Policy
-from ..unread import SECTIONS
+from ..unread import SECTIONS, SHAPES
 from . import network, rules
 from .results import Names, Rewritten, Unsure  # noqa: F401
 from .work import Refused, Work
@@ -28,6 +26,7 @@ def rewrite(policy, state) -> Rewritten:
         if is_network and not network.is_rewritten(policy, state):
             found.parts = [policy]
             return found
+        note_unknown(work, "network policy" if is_network else "policy")
         written = network.as_rules(work) if is_network else rules.written(work)
         made = [one for number, rule in written for one in rules.rewritten(work, number, rule)]
     except Refused as refused:
@@ -38,16 +37,21 @@ def rewrite(policy, state) -> Rewritten:
     return found
 
 
+def note_unknown(work: Work, form: str) -> None:
+    """Notes the members of a document that nobody knows."""
+    document = work.policy.document
+    for name in sorted(it for it in document if document[it] is not None and it not in SHAPES[form]):
+        work.rules_are_unsure(document, "unknown-member", name, work.policy.rules())
+
+
 def assembled(work: Work, made: list, name: str):
     """The policy of rules that were rewritten, and the places of its entries as they were written."""
     policy = work.policy
     documents = [it.document() for it in made]
-    if name == policy.key[2] and documents == [it for it in policy.rules()]:
+    if name == policy.key[2] and documents == policy.rules() and not {*policy.document} - {*SHAPES["policy"]}:
         note_places(work, made, policy.name)
         return policy
-    document = copy.copy(policy.document)
-    document.pop("spec", None)
-    document.pop("specs", None)
+    document = {it: value for it, value in policy.document.items() if it in ("apiVersion", "kind", "metadata")}
     document.update({"spec": documents[0]} if len(documents) == 1 else {"specs": documents})
     if name != policy.key[2]:
         document.update({"apiVersion": "cilium.io/v2", "kind": NAMESPACED})

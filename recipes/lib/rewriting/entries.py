@@ -9,7 +9,7 @@ import typing
 
 from .. import unread
 from ..unread import Unread
-from . import clusters, groups, icmp, ipv6, layer7, named_ports, names, nodes, refusals, requires, services
+from . import clusters, groups, icmp, ipv6, layer7, named_ports, names, nodes, refusals, requires, services, unknown
 from .work import Entry, Refused, Work
 
 NOTHING: dict = {}
@@ -24,6 +24,7 @@ def rewritten(work: Work, number: int, value: dict) -> typing.List[Entry]:
     refusals.check(work, value, word)
     found = [Entry(number, value)]
     try:
+        unknown.check(value, word, work.path)
         for step in STEPS:
             found = [it for one in found for it in step(work, one, word)]
         found = [it for one in found for it in named_ports.rewrite(work, one, word)]
@@ -33,7 +34,7 @@ def rewritten(work: Work, number: int, value: dict) -> typing.List[Entry]:
     except Unread as wrong:
         if refusals.refused_by_cilium(wrong.what):
             raise Refused(f"{wrong.what} at {wrong.path}")
-        work.entry_is_unsure(wrong.what, wrong.path)
+        work.entry_is_unsure(value, wrong.what, wrong.path)
         return [Entry(number, dict(NOTHING))]
     except (AttributeError, KeyError, TypeError, ValueError):
         raise Refused(f"wrong-shape at {work.path}")

@@ -5,7 +5,6 @@ import dataclasses
 import typing
 
 from .. import unread
-from ..unread import Unread
 from . import named_ports
 from .work import Entry, Refused, Work
 
@@ -46,9 +45,6 @@ def written(work: Work, member: str, at: int, item: dict) -> str:
         inner = next((it for it in item.values() if isinstance(it, dict)), {})
         texts = [str(one) for it in inner.values() for one in (it if isinstance(it, list) else [it])]
         return f"group {', '.join(texts)}"
-    unknown = sorted(it for it in item if it not in ("matchName", "matchPattern") and item[it] is not None)
-    if unknown:
-        raise Unread("unknown-member", f"{path}.{unknown[0]}")
     text = item.get("matchName") or item.get("matchPattern")
     if not isinstance(text, str):
         raise Refused(f"wrong-shape at {path}")

@@ -34,11 +34,12 @@ def as_rules(work: Work) -> Rules:
     spec = work.policy.document.get("spec")
     if not isinstance(spec, dict):
         raise Refused("no-spec at spec")
+    if not is_subject_read(work, spec):
+        return []
+    work.subject = of_labels(spec["podSelector"])
     for name in sorted(spec):
         if spec[name] is not None and name not in unread.SHAPES["network spec"]:
-            work.is_unsure("unknown-member", f"spec.{name}", isolates=True)
-    check_subject(work, spec)
-    work.subject = of_labels(spec["podSelector"])
+            work.rules_are_unsure(spec, "unknown-member", f"spec.{name}", [])
     rule: dict = {"endpointSelector": work.subject, "": "spec"}
     for section, word in WORDS:
         if section not in work.policy.directions():
@@ -54,14 +55,19 @@ def as_rules(work: Work) -> Rules:
     return [(0, rule)]
 
 
-def check_subject(work: Work, spec: dict):
+def is_subject_read(work: Work, spec: dict) -> bool:
+    """Whether it can be told whom the object selects; Refused where the API server doesn't keep it."""
     try:
         for name in ("podSelector", "policyTypes"):
             if spec.get(name) is not None:
                 unread.walk(spec[name], unread.SHAPES["network spec"][name], f"spec.{name}")
         unread.judge_network({"podSelector": spec.get("podSelector"), "policyTypes": spec.get("policyTypes")})
     except Unread as found:
-        raise Refused(f"{found.what} at {found.path}")
+        if refused_by_cilium(found.what):
+            raise Refused(f"{found.what} at {found.path}")
+        work.is_unsure(spec, found.what, found.path, directions=frozenset(work.policy.directions()), isolates=True)
+        return False
+    return True
 
 
 def entries(work: Work, entry: dict, word: str) -> typing.List[dict]:
@@ -71,7 +77,7 @@ def entries(work: Work, entry: dict, word: str) -> typing.List[dict]:
     except Unread as found:
         if refused_by_cilium(found.what):
             raise Refused(f"{found.what} at {found.path}")
-        work.entry_is_unsure(found.what, found.path)
+        work.entry_is_unsure(entry, found.what, found.path)
         return [{}]
     peers, ports = entry.get(word) or [], [port_of(it) for it in entry.get("ports") or []]
     items = [{"ports": ports[at : at + PORTS_MOST]} for at in range(0, len(ports), PORTS_MOST)]

@@ -21,11 +21,13 @@ class Unsure:
     allows: bool = True
     denies: bool = True
     isolates: bool = False
-    # Whether it may let pass what an entry of another policy denies.
+    # Whether it may let pass what an entry denies.
     overrides: bool = False
     # Whom it selects: what is asked of their labels, or None where it can't be told; and the namespace that it is of.
     asked: typing.Optional[tuple] = None
     namespace: str = ""
+    # What isn't read with all that it stands in: where that is the same in two states, it does the same to the same pods.
+    said: str = ""
     # An object that decides and isn't a policy says by itself whom it selects.
     selector: typing.Optional[typing.Callable[[typing.Sequence[str]], bool]] = dataclasses.field(default=None, compare=False)
 

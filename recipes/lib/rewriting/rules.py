@@ -4,6 +4,7 @@ from __future__ import annotations
 import typing
 
 from .. import unread
+from ..policies import DIRECTIONS, is_isolating
 from ..unread import SECTIONS, SHAPES, Unread
 from . import clusters, entries, named_ports, requires
 from .refusals import refused_by_cilium
@@ -25,9 +26,6 @@ def written(work: Work) -> typing.List[typing.Tuple[int, dict]]:
     for path, rule in listed:
         if not isinstance(rule, dict):
             raise Refused(f"wrong-shape at {path}")
-    for name in sorted(document):
-        if document[name] is not None and name not in SHAPES["policy"]:
-            work.is_unsure("unknown-member", name, isolates=True)
     return [(number, {**rule, "": path}) for number, (path, rule) in enumerate(listed)]
 
 
@@ -42,19 +40,18 @@ def rewritten(work: Work, number: int, rule: dict) -> typing.List[Rule]:
         return []
     if rule.get("endpointSelector") is None:
         raise Refused(f"no-selector at {path}")
-    directions = frozenset(it for it in ("ingress", "egress") if rule.get(it) or rule.get(f"{it}Deny"))
-    if not subject(work, rule, path, directions):
+    if not subject(work, rule, path):
         return []
     for name in sorted(rule):
         if rule[name] is not None and name not in KNOWN:
-            work.is_unsure("unknown-member", f"{path}.{name}", isolates=True)
+            work.rules_are_unsure(rule, "unknown-member", f"{path}.{name}", [rule])
     rest = {name: it for name, it in rule.items() if name in KNOWN and name not in (*SECTIONS, "endpointSelector") and it is not None}
-    check_rest(work, rest, path)
+    check_rest(work, rule, rest, path)
     found = Rule(number, clusters.selector(work, rule["endpointSelector"]), sections(work, number, rule, path), rest)
     return [it for one in named_ports.by_subject(found) for it in requires.by_subject(work, one)]
 
 
-def subject(work: Work, rule: dict, path: str, directions: frozenset) -> bool:
+def subject(work: Work, rule: dict, path: str) -> bool:
     """Reads whom a rule selects; whether that can be told."""
     selector, path = rule["endpointSelector"], f"{path}.endpointSelector"
     try:
@@ -63,13 +60,14 @@ def subject(work: Work, rule: dict, path: str, directions: frozenset) -> bool:
     except Unread as found:
         if refused_by_cilium(found.what):
             raise Refused(f"{found.what} at {found.path}")
-        work.is_unsure(found.what, found.path, directions=directions, isolates=True)
+        directions = frozenset(it for it in DIRECTIONS if rule.get(it) or rule.get(f"{it}Deny") or is_isolating(rule, it))
+        work.is_unsure(rule, found.what, found.path, directions=directions, isolates=True)
         return False
     work.subject = clusters.selector(work, selector)
     return True
 
 
-def check_rest(work: Work, rest: dict, path: str):
+def check_rest(work: Work, rule: dict, rest: dict, path: str):
     """The members of a rule that are passed on, or left out where they aren't read."""
     for name in sorted(rest):
         try:
@@ -77,7 +75,7 @@ def check_rest(work: Work, rest: dict, path: str):
         except Unread as found:
             if refused_by_cilium(found.what):
                 raise Refused(f"{found.what} at {found.path}")
-            work.is_unsure(found.what, found.path, isolates=True)
+            work.rules_are_unsure(rule, found.what, found.path, [rule])
             del rest[name]
 
 

@@ -11,6 +11,9 @@ from ..policies import NAMESPACE_KEY, holds, requirements
 from ..unread import Unread
 from .work import Entry, Work
 
+# What isn't read where the state has no Service at all: most likely nobody asked for them.
+WITHOUT = "toServices without a Service in the state"
+
 
 def rewrite(work: Work, entry: Entry, word: str) -> typing.List[Entry]:
     """An entry over the selectors of its Services, and one over the addresses of those without."""
@@ -18,7 +21,7 @@ def rewrite(work: Work, entry: Entry, word: str) -> typing.List[Entry]:
     listed = value.pop("toServices", None)
     if not listed:
         return [dataclasses.replace(entry, value={"toEndpoints": [], **value} if listed is not None else value)]
-    found = [it for at, one in enumerate(listed) for it in meant(work, one, f"{work.path}.toServices[{at}]")]
+    found = [it for one in listed for it in meant(work, one)]
     pods = [of_pods(it) for it in found if it.selector]
     behind = work.state.cluster.behind
     addresses = [f"{one}/32" for it in found if not it.selector and not it.is_name for one in behind.get(it.name, [])]
@@ -35,11 +38,8 @@ def of_pods(service) -> dict:
     return {"matchLabels": {**labels, f"k8s:{NAMESPACE_KEY}": service.namespace}}
 
 
-def meant(work: Work, item: dict, path: str) -> list:
+def meant(work: Work, item: dict) -> list:
     """The Services of the state that an item means."""
-    unknown = sorted(it for it in item if it not in ("k8sService", "k8sServiceSelector") and item[it] is not None)
-    if unknown:
-        raise Unread("unknown-member", f"{path}.{unknown[0]}")
     if item.get("k8sService"):
         return by_name(work, item["k8sService"])
     return by_labels(work, item.get("k8sServiceSelector") or {})
@@ -50,8 +50,8 @@ def by_name(work: Work, item: dict) -> list:
     cluster = work.state.cluster
     found = [it for it in cluster.listed_services.values() if it.name == f"{namespace or it.namespace}/{name}"]
     if not found and not cluster.has_services:
-        work.entry_is_unsure("toServices without a Service in the state")
-    elif not found:
+        raise Unread(WITHOUT, work.path)
+    if not found:
         work.lacks(f"no Service {namespace or '*'}/{name} is in the state")
     return found
 
@@ -59,13 +59,13 @@ def by_name(work: Work, item: dict) -> list:
 def by_labels(work: Work, item: dict) -> list:
     namespace, cluster = item.get("namespace"), work.state.cluster
     if not cluster.has_services:
-        work.entry_is_unsure("toServices without a Service in the state")
+        raise Unread(WITHOUT, work.path)
     asked = [("k8s", *it[1:]) for it in requirements(item.get("selector") or {}, "")]
     found = []
     for it in cluster.listed_services.values():
         labels = [f"k8s:{key}={text}" for key, text in it.labels.items()]
         if namespace in (None, "", it.namespace) and all(holds(one, labels) for one in asked):
             found.append(it)
-    if not found and cluster.has_services:
+    if not found:
         work.lacks("its Services by labels are none of the state")
     return found
