@@ -487,7 +487,7 @@ def flows_are_read(_, wrong):
 
 def modules_are_small(_, wrong):
     """Each module is of Python 3.9, under 400 lines, and each function under 40."""
-    for path in sorted((TOP / "tools" / "wenirako").glob("*.py")):
+    for path in sorted([*(TOP / "tools" / "wenirako").glob("*.py"), *(TOP / "recipes" / "lib").rglob("*.py")]):
         text = path.read_text()
         tree = ast.parse(text, feature_version=(3, 9))
         told(wrong, f"{path.name} under 400 lines", len(text.splitlines()) < 400, True)

@@ -4,20 +4,12 @@ from __future__ import annotations
 import typing
 
 from . import deciding, network, services, workloads
-from .pods import (  # noqa: F401
-    CLUSTER_KEY,
-    FINISHED,
-    NAME,
-    NAMESPACE_KEY,
-    NO_ADDRESS,
-    OWN_PREFIX,
-    SAME_ADDRESS,
-    AnyOther,
-    Pod,
-    workload_of,
-)
+from .pods import SAME_ADDRESS, AnyOther, Pod
 from .policies import POLICY_KINDS, Policy
 from .reading import IPV4, Bad, labels_of, member, name_of, objects
+
+if typing.TYPE_CHECKING:
+    from .labels import Filter
 
 ENDPOINTS_MOST = 256
 IDENTITIES_FROM, IDENTITIES_MOST = 256, 65_280
@@ -39,19 +31,19 @@ APIS = ("v1", network.API, "cilium.io/v2")
 class Cluster:
     """The objects of the input."""
 
-    def __init__(self, text: str, choice, cluster: str = "default", whole: str = "standard input", part: str = "document"):
+    def __init__(self, text: str, choice: Filter, cluster: str = "default", whole: str = "standard input", part: str = "document"):
         self.warned: typing.List[str] = []
         self.begin(choice, cluster, list(objects(text, whole, part, self.warned)))
 
     @classmethod
-    def of(cls, given: list, choice, cluster: str = "default", relabelled: typing.Sequence = ()) -> Cluster:
+    def of(cls, given: list, choice: Filter, cluster: str = "default", relabelled: typing.Sequence = ()) -> Cluster:
         """The cluster of objects with their places; templates that come give their pods other labels."""
         found = cls.__new__(cls)
         found.warned = []
         found.begin(choice, cluster, given, relabelled)
         return found
 
-    def begin(self, choice, cluster: str, given: list, relabelled: typing.Sequence = ()):
+    def begin(self, choice: Filter, cluster: str, given: list, relabelled: typing.Sequence = ()) -> None:
         self.namespaces, self.pods, self.policies, self.templates = {}, {}, [], []
         # What addresses are: the name of a Service by its own ones and by those outside the cluster, the node's name.
         self.services, self.balancers, self.nodes = {}, {}, {}
@@ -67,7 +59,7 @@ class Cluster:
         self.settle_nodes()
         self.settle_pods()
 
-    def settle_nodes(self):
+    def settle_nodes(self) -> None:
         """The addresses of nodes, and which of them are the API server's."""
         for pod in self.pods.values():
             self.nodes.update((it, pod.node) for it in pod.of_node)
@@ -75,7 +67,7 @@ class Cluster:
         self.api_nodes = {it.node for it in self.pods.values() if it.is_host and API_LABEL in it.own.items()}
         self.api_nodes |= {self.nodes[it] for it in self.api_addresses if it in self.nodes}
 
-    def settle_pods(self):
+    def settle_pods(self) -> None:
         """The pods that are endpoints, and those that come."""
         self.live, by_address, coming = [], {}, []
         for pod in self.pods.values():
@@ -96,7 +88,7 @@ class Cluster:
         self.live.sort(key=lambda it: order[id(it)])
         self.settle_coming([*coming, *(it for it in self.templates if it.comes())])
 
-    def settle_coming(self, coming: typing.List[Pod]):
+    def settle_coming(self, coming: typing.List[Pod]) -> None:
         """What stands for pods that come: where no pod and nothing before it has the workload with the same labels."""
         known, self.coming = {(it.namespace, it.workload, it.labels) for it in self.live}, []
         for it in coming:
@@ -108,7 +100,7 @@ class Cluster:
             self.coming.append(AnyOther(name))
             self.derive(self.coming[-1])
 
-    def derive(self, pod: Pod):
+    def derive(self, pod: Pod) -> None:
         pod.derive(self.namespaces.get(pod.namespace, {}), self.choice)
 
     @property
@@ -116,7 +108,7 @@ class Cluster:
         """The pods and what stands for those that come."""
         return [*self.live, *self.coming]
 
-    def take(self, place: str, value: dict):
+    def take(self, place: str, value: dict) -> None:
         api, kind = value["apiVersion"], value["kind"]
         if api in APIS:
             self.kinds[kind] = self.kinds.get(kind, 0) + 1
@@ -155,18 +147,18 @@ class Cluster:
             return False
         return True
 
-    def take_template(self, template: workloads.Template):
+    def take_template(self, template: workloads.Template) -> None:
         """A workload's template; a Job of a CronJob is that one's."""
         if not template.owner or template.owner[0] != "CronJob":
             self.templates.append(template)
 
-    def take_service(self, service: services.Service):
+    def take_service(self, service: services.Service) -> None:
         self.has_services = True
         self.listed_services[service.name] = service
         self.services.update((it, service.name) for it in service.own)
         self.balancers.update((it, service.name) for it in service.outer)
 
-    def take_node(self, place: str, value: dict):
+    def take_node(self, place: str, value: dict) -> None:
         """Further addresses of a node, beside those that its pods tell."""
         _, name = name_of(place, value)
         status = member(f"{place}: Node {name}", value, "status", dict, {})
@@ -178,7 +170,7 @@ class Cluster:
             if IPV4.fullmatch(address):
                 self.nodes[address] = name
 
-    def leave_out(self, reason: str, name: str):
+    def leave_out(self, reason: str, name: str) -> None:
         self.left_out.setdefault(reason, []).append(name)
 
     def node_number(self, node: str, local: str) -> int:

@@ -5,8 +5,11 @@ import typing
 
 from .cluster import NAMED_MOST
 
+if typing.TYPE_CHECKING:
+    from .state import State
 
-def said(state, answers: typing.Dict[str, list], pods: typing.Iterable) -> typing.Iterator[str]:
+
+def said(state: State, answers: typing.Dict[str, list], pods: typing.Iterable) -> typing.Iterator[str]:
     """The summary of what isn't read, and which endpoints, and which answers by their lines, it may change."""
     unread = {}
     for it in state.all_unsure:
@@ -22,7 +25,7 @@ def said(state, answers: typing.Dict[str, list], pods: typing.Iterable) -> typin
             yield f"the verdicts of {some(names)} may be others by {name}, which selects {'it' if len(names) == 1 else 'them'}{told}"
 
 
-def beside(state) -> typing.Iterator[str]:
+def beside(state: State) -> typing.Iterator[str]:
     """What is said of policies that Cilium refuses too, and of what was left out or is lacking where one is rewritten."""
     for it in state.rewritten.values():
         if it.refused:
@@ -37,7 +40,7 @@ def beside(state) -> typing.Iterator[str]:
         yield from it.lacking
 
 
-def renamed(state) -> typing.Iterator[str]:
+def renamed(state: State) -> typing.Iterator[str]:
     """What is said of places in answers that aren't those of the policies as they are written."""
     others = [(answer.removeprefix("/"), place) for answer, place in state.places.items() if answer.removeprefix("/") != place]
     for answer, place in others[:NAMED_MOST]:

@@ -5,6 +5,9 @@ begins with what the expression matches. A label counts where the longest match 
 the shortest match of one with `!`; and, where the list adds no pattern without `!` to the default ones, also where none
 with `!` matches. (Cilium goes through the patterns in their order, and a match of nothing counts as none from there on.)
 """
+from __future__ import annotations
+
+import argparse
 import re
 
 from .reading import Bad
@@ -38,7 +41,7 @@ DEFAULT = r"""
 class Pattern:
     """One pattern of a filter."""
 
-    def __init__(self, text):
+    def __init__(self, text: str):
         source, colon, rest = text.partition(":")
         self.source, rest = (source, rest) if colon else ("", text)
         self.is_out = rest.startswith("!")
@@ -51,7 +54,7 @@ class Pattern:
         except re.error as error:
             raise Bad(f"--labels: {text!r} is no pattern: {error}")
 
-    def length(self, source, key):
+    def length(self, source: str, key: str) -> int:
         """How much of the key it matches, and -1 where it matches nothing."""
         found = self.expression.match(key) if self.source in ("", source) else None
         return found.end() if found else -1
@@ -60,7 +63,7 @@ class Pattern:
 class Filter:
     """The default patterns with those of a list; without a filter every label counts."""
 
-    def __init__(self, listed="", is_off=False):
+    def __init__(self, listed: str = "", is_off: bool = False):
         self.is_off = is_off
         more = [Pattern(it) for it in listed.split()]
         self.patterns = [*(Pattern(it) for it in DEFAULT), *more]
@@ -82,7 +85,7 @@ class Filter:
         return (not self.is_closed and not out) or taken > out
 
 
-def add_words(parser):
+def add_words(parser: argparse.ArgumentParser) -> None:
     """The words of a command that say which labels count."""
     parser.add_argument("--cluster-name", metavar="NAME", default="default", action=Once, type=cluster_name, help="the cluster's name in the pods' labels (default: default)")
     some = parser.add_mutually_exclusive_group()
@@ -90,5 +93,5 @@ def add_words(parser):
     some.add_argument("--all-labels", action="store_true", help="no label filter: every label counts")
 
 
-def choice(words):
+def choice(words: argparse.Namespace) -> Filter:
     return Filter(words.labels, words.all_labels)

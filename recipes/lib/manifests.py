@@ -51,7 +51,7 @@ class Manifests:
             if len(self.objects) == count:
                 raise Bad(f"--add {name}: nothing in it is read; {', '.join(self.said()) or 'it has no object'}")
 
-    def take(self, place: str, value: dict):
+    def take(self, place: str, value: dict) -> None:
         kind = (value["apiVersion"], value["kind"])
         if kind not in READ:
             self.skipped[kind] = self.skipped.get(kind, 0) + 1

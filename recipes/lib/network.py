@@ -1,4 +1,8 @@
 """NetworkPolicies of Kubernetes as kubectl prints them: which labels they select, and what their entries say."""
+from __future__ import annotations
+
+import typing
+
 from .policies import NAMESPACE_KEY, Policy, holds, requirements
 from .reading import line_of
 
@@ -9,18 +13,18 @@ SECTIONS = {"ingress": "Ingress", "egress": "Egress"}
 class NetworkPolicy(Policy):
     """A NetworkPolicy. Its name stands in answers as NAMESPACE/networkpolicy/NAME."""
 
-    def __init__(self, place, value):
+    def __init__(self, place: str, value: dict):
         super().__init__(place, value)
         self.name = f"{self.namespace}/networkpolicy/{self.key[2]}"
 
-    def spec(self):
+    def spec(self) -> dict:
         found = self.document.get("spec")
         return found if isinstance(found, dict) else {}
 
-    def parts(self):
+    def parts(self) -> typing.List[Policy]:
         return [self]
 
-    def selects(self, labels):
+    def selects(self, labels: typing.Sequence[str]) -> bool:
         """Whether it selects the labels; a selector that isn't read counts as selecting."""
         try:
             asked = [("k8s", *it[1:]) for it in requirements(self.spec()["podSelector"], "")]
@@ -28,7 +32,7 @@ class NetworkPolicy(Policy):
         except (AttributeError, KeyError, TypeError, ValueError):
             return True
 
-    def entries(self):
+    def entries(self) -> typing.Iterator[typing.Tuple[str, dict]]:
         """Its entries, each with its direction, as far as the recipes ask: prefixes and ports, as an entry of Cilium's."""
         for section, word in (("ingress", "from"), ("egress", "to")):
             for entry in self.spec().get(section) or []:
@@ -36,16 +40,16 @@ class NetworkPolicy(Policy):
                     blocks = [it["ipBlock"] for it in entry.get(word) or [] if it.get("ipBlock") is not None]
                     yield section, {f"{word}CIDRSet": blocks, "toPorts": [{"ports": list(map(port_of, entry.get("ports") or []))}]}
 
-    def directions(self):
+    def directions(self) -> typing.Set[str]:
         """The directions in which it isolates."""
         listed = self.spec().get("policyTypes")
         types = listed if isinstance(listed, list) and listed else ["Ingress", *(["Egress"] if self.spec().get("egress") else [])]
         return {section for section, word in SECTIONS.items() if word in types}
 
-    def names_cluster(self):
+    def names_cluster(self) -> bool:
         return False
 
 
-def port_of(value):
+def port_of(value: dict) -> dict:
     """A port as Cilium's are written, where 0 is every port."""
     return {"port": str(value.get("port") or 0), "protocol": value.get("protocol") or "TCP", "endPort": value.get("endPort")}

@@ -6,6 +6,9 @@ import typing
 
 from .reading import VALUE, Bad, addresses_of, labels_of, member, name_of
 
+if typing.TYPE_CHECKING:
+    from .labels import Filter
+
 NAME = re.compile(r"[A-Za-z0-9._/-]{1,253}")
 NAMESPACE_KEY = "io.kubernetes.pod.namespace"
 OWN_PREFIX = "io.cilium.k8s."
@@ -64,7 +67,7 @@ class Pod:
             return "finished" if self.is_owned else ""
         return "" if self.has_address or self.is_ending else "pending"
 
-    def derive(self, of_namespace: typing.Dict[str, str], choice):
+    def derive(self, of_namespace: typing.Dict[str, str], choice: Filter) -> None:
         """The labels that Cilium derives and that make the identity. A pod can't give itself those that Cilium writes."""
         labels = {key: value for key, value in self.own.items() if not key.startswith(OWN_PREFIX)}
         labels[NAMESPACE_KEY] = self.namespace
@@ -75,7 +78,7 @@ class Pod:
             labels[f"{OWN_PREFIX}namespace.labels.{key}"] = value
         self.labels = tuple(f"k8s:{key}={value}" for key, value in sorted(labels.items()) if choice.counts(key))
 
-    def add_labels(self, more: typing.Dict[str, str]):
+    def add_labels(self, more: typing.Dict[str, str]) -> None:
         """Labels of the bridge's own, which no selector of a user's names."""
         if more:
             listed = {*self.labels, *(f"k8s:{key}={value}" for key, value in more.items())}

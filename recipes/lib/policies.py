@@ -1,16 +1,22 @@
 """Policies as kubectl prints them: what policyd is given of one, and which labels its rules select."""
+from __future__ import annotations
+
+import typing
+
 from .reading import line_of, name_of
 from .unread import SECTIONS, why_unread
 
 NAMESPACED, CLUSTER_WIDE = POLICY_KINDS = ("CiliumNetworkPolicy", "CiliumClusterwideNetworkPolicy")
 NAMESPACE_KEY = "io.kubernetes.pod.namespace"
 DIRECTIONS = ("ingress", "egress")
+# What is asked of labels: source, key, operator and values.
+Asked = typing.Tuple[str, str, str, typing.Sequence[str]]
 
 
 class Policy:
     """A policy, and its document as policyd is given it: without `status`, and with no other metadata than its names."""
 
-    def __init__(self, place, value):
+    def __init__(self, place: str, value: dict):
         metadata, name = name_of(place, value)
         kept = {it: metadata[it] for it in ("name", "namespace") if metadata.get(it) is not None}
         self.place, self.document = place, {**value, "metadata": kept}
@@ -22,17 +28,17 @@ class Policy:
         self.line = line_of(place, {"op": "apply", "policy": self.document})
         self.whole = self
 
-    def why_unread(self):
+    def why_unread(self) -> typing.Optional[typing.Tuple[str, str]]:
         """What policyd doesn't read in it, with its place, or None."""
         return why_unread(self.document)
 
-    def rules(self):
+    def rules(self) -> typing.List[dict]:
         """Its rules that are objects."""
         listed = self.document.get("specs")
         found = [self.document.get("spec"), *(listed if isinstance(listed, list) else [])]
         return [it for it in found if isinstance(it, dict)]
 
-    def parts(self):
+    def parts(self) -> typing.List[Policy]:
         """Its rules, each by itself as a policy of the same names."""
         rules, found = self.rules(), []
         for rule in rules if len(rules) > 1 else []:
@@ -41,11 +47,11 @@ class Policy:
             found.append(part)
         return found or [self]
 
-    def selects(self, labels):
+    def selects(self, labels: typing.Sequence[str]) -> bool:
         """Whether some rule selects the labels, as far as its subject is read; one that isn't counts as selecting."""
         return any(is_selected(it, self.namespace, labels) for it in self.rules())
 
-    def entries(self):
+    def entries(self) -> typing.Iterator[typing.Tuple[str, dict]]:
         """The entries of its rules, each with its direction."""
         for rule in self.rules():
             for section in SECTIONS:
@@ -53,37 +59,37 @@ class Policy:
                     if isinstance(entry, dict):
                         yield section.removesuffix("Deny"), entry
 
-    def directions(self):
+    def directions(self) -> typing.Set[str]:
         """The directions in which it has a section that isn't empty or isolates without one, so that it may decide."""
         of_sections = {section.removesuffix("Deny") for rule in self.rules() for section in SECTIONS if listed(rule, section)}
         return of_sections | self.isolates()
 
-    def isolates(self):
+    def isolates(self) -> typing.Set[str]:
         """The directions in which it isolates: what its rules say of that, or where one has a section that isn't empty."""
         return {it for rule in self.rules() for it in DIRECTIONS if is_isolating(rule, it)}
 
-    def deletion(self):
+    def deletion(self) -> str:
         kind, namespace, name = self.key
         return line_of("", {"op": "delete", "kind": kind, **({"namespace": namespace} if namespace else {}), "name": name})
 
-    def names_cluster(self):
+    def names_cluster(self) -> bool:
         """Whether it speaks of the entity `cluster`."""
         return any("cluster" in (it.get(name) or []) for _, it in self.entries() for name in ("fromEntities", "toEntities"))
 
 
-def listed(rule, section):
+def listed(rule: dict, section: str) -> list:
     found = rule.get(section)
     return found if isinstance(found, list) else []
 
 
-def is_isolating(rule, direction):
+def is_isolating(rule: dict, direction: str) -> bool:
     """Whether a rule isolates in a direction: Cilium, `enableDefaultDeny` of the API."""
     said = rule.get("enableDefaultDeny")
     said = said.get(direction) if isinstance(said, dict) else None
     return said if isinstance(said, bool) else bool(listed(rule, direction) or listed(rule, f"{direction}Deny"))
 
 
-def is_selected(rule, namespace, labels):
+def is_selected(rule: dict, namespace: str, labels: typing.Sequence[str]) -> bool:
     if rule.get("nodeSelector") is not None and rule.get("endpointSelector") is None:
         return False
     try:
@@ -93,7 +99,7 @@ def is_selected(rule, namespace, labels):
         return True
 
 
-def requirements(selector, namespace):
+def requirements(selector: dict, namespace: str) -> typing.List[Asked]:
     """What a subject asks of labels: source, key, operator and values. A namespaced one is bound to its namespace."""
     asked = [(*source_and_key(key), "In", [value]) for key, value in (selector.get("matchLabels") or {}).items()]
     for it in selector.get("matchExpressions") or []:
@@ -106,12 +112,12 @@ def requirements(selector, namespace):
     return asked
 
 
-def source_and_key(key):
+def source_and_key(key: str) -> typing.Tuple[str, str]:
     source, colon, rest = key.partition(":")
     return (source, rest) if colon else ("any", key)
 
 
-def holds(asked, labels):
+def holds(asked: Asked, labels: typing.Sequence[str]) -> bool:
     source, key, operator, values = asked
     heads = [f"{it}:{key}=" for it in ([source] if source != "any" else ["k8s", "reserved"])]
     found = [it[len(head) :] for it in labels for head in heads if it.startswith(head)]

@@ -4,11 +4,16 @@ An entry covers whole ranges of ports of a protocol. So from one port where some
 ended, to the next such port every packet between the same two ends has the same verdict: the first port of each such
 stretch stands for all of it, and asking there is exact for every port.
 """
+from __future__ import annotations
+
+import typing
+
 PROTOCOLS = ("TCP", "UDP", "SCTP")
 LAST = 65_535
+Ranges = typing.List[typing.Tuple[int, int]]
 
 
-def ranges(entry):
+def ranges(entry: dict) -> typing.Dict[str, Ranges]:
     """The ranges of an entry's ports, by protocol; an entry without ports has none."""
     found = {it: [] for it in PROTOCOLS}
     for item in entry.get("toPorts") or []:
@@ -21,7 +26,7 @@ def ranges(entry):
     return found
 
 
-def stretches(entries):
+def stretches(entries: typing.Iterable[dict]) -> typing.Dict[str, typing.Tuple[typing.Dict[int, int], typing.Tuple[str, ...]]]:
     """The stretches of ports, each with its last port, of each protocol that the entries tell from those before it, and
     which protocols they treat like it."""
     all_ranges, alike = [ranges(it) for it in entries], {}
@@ -34,7 +39,7 @@ def stretches(entries):
     return found
 
 
-def merged(stretches):
+def merged(stretches: typing.Iterable[typing.Tuple[int, int]]) -> typing.Tuple[typing.Tuple[int, int], ...]:
     """Stretches, with those that touch made one."""
     found = []
     for low, high in sorted(stretches):
@@ -45,7 +50,7 @@ def merged(stretches):
     return tuple(found)
 
 
-def written(stretches):
+def written(stretches: typing.Sequence[typing.Tuple[int, int]]) -> str:
     if stretches == ((0, LAST),):
         return "every port"
     return ", ".join(f"{low}" if low == high else f"{low}-{high}" for low, high in stretches)

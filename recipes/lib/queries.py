@@ -1,8 +1,15 @@
 """Query lines: their form, and what stands in the place of pods and addresses."""
+from __future__ import annotations
+
 import json
+import typing
 
 from .reading import IPV4, Bad, line_of, text_of
 from .script import numbers_of
+
+if typing.TYPE_CHECKING:
+    from .cluster import Cluster
+    from .pods import Pod
 
 OPERATIONS, DIRECTIONS, PROTOCOLS = ("verdict", "trace"), ("ingress", "egress"), ("TCP", "UDP", "SCTP")
 REMOTES = ("pod", "identity", "address")
@@ -12,7 +19,7 @@ MEMBERS = {"op", "endpoint", "direction", *REMOTES, "protocol", "port", "session
 class Queries:
     """What turns the query lines of a file into those of policyd."""
 
-    def __init__(self, cluster, pods, node):
+    def __init__(self, cluster: Cluster, pods: typing.Sequence[Pod], node: typing.Optional[str]):
         self.cluster, self.node, self.numbers = cluster, node, numbers_of(cluster, pods)
         self.endpoints = {it.name: it for it in pods}
         # policyd knows the addresses of endpoints alone, and would take those of other pods for the world's
@@ -20,7 +27,7 @@ class Queries:
         self.others = {it.address: it.name for it in cluster.live if it.address not in own}
         self.own, self.notes = own, []
 
-    def lines(self, name):
+    def lines(self, name: str) -> typing.Iterator[typing.Tuple[str, str]]:
         """The query lines of a file, each with the name of its endpoint."""
         for number, text in enumerate(text_of(name).split("\n"), 1):
             if text.strip():
@@ -28,7 +35,7 @@ class Queries:
                 value = self.query(place, text)
                 yield value["endpoint"], line_of(place, value)
 
-    def query(self, place, text):
+    def query(self, place: str, text: str) -> dict:
         try:
             value = json.loads(text)
         except (ValueError, RecursionError) as error:
@@ -45,7 +52,7 @@ class Queries:
             found[key] = it
         return found
 
-    def endpoint(self, place, name):
+    def endpoint(self, place: str, name: str) -> Pod:
         if name in self.endpoints:
             return self.endpoints[name]
         pod = self.cluster.pods.get(name)
@@ -55,7 +62,7 @@ class Queries:
             raise Bad(f"{place}: the pod {name} is left out: {pod.reason()}")
         raise Bad(f"{place}: {name} is on {pod.node or 'no node'}, and the endpoints are the pods of {self.node}")
 
-    def remote(self, place, endpoint, name):
+    def remote(self, place: str, endpoint: Pod, name: str) -> typing.Tuple[str, int]:
         """The identity of a pod, as the endpoint sees it."""
         pod = self.cluster.pods.get(name)
         if pod is None:
@@ -66,7 +73,7 @@ class Queries:
             raise Bad(f"{place}: the pod {name} is left out: {pod.reason()}")
         return "identity", self.numbers[pod.labels]
 
-    def address(self, place, endpoint, address):
+    def address(self, place: str, endpoint: Pod, address: str) -> typing.Tuple[str, typing.Union[int, str]]:
         """What an address is: a node's is the node's identity, and that of a pod or a Service isn't the world's."""
         if address in self.others:
             pod = self.others[address]
@@ -82,7 +89,7 @@ class Queries:
         return "address", address
 
 
-def checked(place, value):
+def checked(place: str, value: dict) -> None:
     """The form of a query."""
     unknown = sorted({*value} - MEMBERS)
     if unknown:
@@ -104,5 +111,5 @@ def checked(place, value):
             raise Bad(f"{place}: {name} is {what}" + ("" if name in value else ", and is missing"))
 
 
-def is_number(value, least, most):
+def is_number(value: object, least: int, most: int) -> bool:
     return isinstance(value, int) and not isinstance(value, bool) and least <= value <= most

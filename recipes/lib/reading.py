@@ -1,6 +1,9 @@
 """What kubectl prints, as objects with their places, and what is wrong with it."""
+from __future__ import annotations
+
 import json
 import re
+import typing
 
 KEY, VALUE = re.compile(r"[!-<>-~]+"), re.compile(r"[!-~]*")
 BYTE = r"(0|[1-9]\d?|1\d\d|2[0-4]\d|25[0-5])"
@@ -17,14 +20,14 @@ class Bad(Exception):
     """What is wrong with the input, and where."""
 
 
-def line_of(place, value):
+def line_of(place: str, value: object) -> str:
     try:
         return json.dumps(value, separators=(",", ":"), allow_nan=False)
     except ValueError:
         raise Bad(f"{place}: a number is too large")
 
 
-def text_of(name):
+def text_of(name: str) -> str:
     """The text of a file."""
     try:
         with open(name, "rb") as file:
@@ -33,18 +36,18 @@ def text_of(name):
         raise Bad(f"{name}: {error.strerror}")
 
 
-def decoded(name, data):
+def decoded(name: str, data: bytes) -> str:
     try:
         return data.decode("utf-8-sig")
     except UnicodeDecodeError as error:
         raise Bad(f"{name} isn't UTF-8, at byte {error.start}")
 
 
-def no_constant(name):
+def no_constant(name: str) -> typing.NoReturn:
     raise ValueError(f"{name} is no number")
 
 
-def documents(text, whole="standard input", part="document", warned=None):
+def documents(text: str, whole: str = "standard input", part: str = "document", warned: typing.Optional[typing.List[str]] = None) -> typing.Iterator[typing.Tuple[str, object]]:
     """The JSON values that stand one after another in the text, each with its place; kubectl's warnings go to a list."""
     warned = [] if warned is None else warned
     at, number = past_lines_of_kubectl(text, 0, warned, whole), 0
@@ -55,7 +58,7 @@ def documents(text, whole="standard input", part="document", warned=None):
         raise Bad(f"{whole} is empty: it takes what kubectl get .. -o json prints")
 
 
-def past_lines_of_kubectl(text, at, warned, whole):
+def past_lines_of_kubectl(text: str, at: int, warned: typing.List[str], whole: str) -> int:
     """Where the text goes on behind blanks and kubectl's warnings; Bad where kubectl says there that it failed."""
     while True:
         at = BLANKS.match(text, at).end()
@@ -68,7 +71,7 @@ def past_lines_of_kubectl(text, at, warned, whole):
         at = warns.end()
 
 
-def of_json(text, at, part, warned, whole):
+def of_json(text: str, at: int, part: str, warned: typing.List[str], whole: str) -> typing.Iterator[object]:
     """The JSON values of a text from a place on."""
     decoder, number = json.JSONDecoder(parse_constant=no_constant), 0
     while True:
@@ -86,7 +89,7 @@ def of_json(text, at, part, warned, whole):
         yield value
 
 
-def of_yaml(text, whole):
+def of_yaml(text: str, whole: str) -> typing.Iterator[object]:
     """The values of a text in YAML, where PyYAML is there; documents of nothing are passed over."""
     try:
         import yaml
@@ -98,7 +101,7 @@ def of_yaml(text, whole):
         raise Bad(f"{whole}: no YAML: {' '.join(str(error).split())}")
 
 
-def loader(yaml):
+def loader(yaml: typing.Any) -> type:
     """PyYAML's safe loader with the texts that kubectl reads as texts: dates, `yes` and `no`, and numbers like 1:30."""
 
     class Loader(yaml.SafeLoader):
@@ -116,7 +119,7 @@ def loader(yaml):
     return Loader
 
 
-def objects(text, whole="standard input", part="document", warned=None):
+def objects(text: str, whole: str = "standard input", part: str = "document", warned: typing.Optional[typing.List[str]] = None) -> typing.Iterator[typing.Tuple[str, dict]]:
     """The objects of all documents with their places: a list's items, and what stands alone."""
     for place, value in documents(text, whole, part, warned):
         kind = kind_of(place, value)
@@ -134,7 +137,7 @@ def objects(text, whole="standard input", part="document", warned=None):
             yield f"{place}, item {number}", item
 
 
-def kind_of(place, value):
+def kind_of(place: str, value: object) -> str:
     if not isinstance(value, dict):
         raise Bad(f"{place}: it is no object")
     for name in ("apiVersion", "kind"):
@@ -143,7 +146,7 @@ def kind_of(place, value):
     return value["kind"]
 
 
-def member(place, value, name, shape, otherwise):
+def member(place: str, value: dict, name: str, shape: type, otherwise: typing.Any) -> typing.Any:
     """A member of an object, and `otherwise` where it is absent or null."""
     found = value.get(name)
     if found is None:
@@ -154,7 +157,7 @@ def member(place, value, name, shape, otherwise):
     return found
 
 
-def name_of(place, value):
+def name_of(place: str, value: dict) -> typing.Tuple[dict, str]:
     """An object's metadata and name."""
     metadata = member(place, value, "metadata", dict, {})
     name = member(f"{place}: metadata", metadata, "name", str, "")
@@ -163,7 +166,7 @@ def name_of(place, value):
     return metadata, name
 
 
-def labels_of(place, metadata):
+def labels_of(place: str, metadata: dict) -> typing.Dict[str, str]:
     labels = member(f"{place}: metadata", metadata, "labels", dict, {})
     for key, value in labels.items():
         if not isinstance(value, str) or not KEY.fullmatch(key) or not VALUE.fullmatch(value):
@@ -171,7 +174,7 @@ def labels_of(place, metadata):
     return labels
 
 
-def addresses_of(place, value, many, one):
+def addresses_of(place: str, value: dict, many: str, one: str) -> typing.List[str]:
     """The IPv4 addresses among the objects `{"ip": ..}`, or texts, of a list, and then the one that stands alone."""
     texts = []
     for number, it in enumerate(member(place, value, many, list, [])):

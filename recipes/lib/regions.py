@@ -4,14 +4,20 @@ A region is a prefix without the prefixes in it that are named too, and the worl
 name whole prefixes, so all addresses of a region have the same verdicts, and one that is no pod's and no node's stands
 for it.
 """
+from __future__ import annotations
+
 import ipaddress
+import typing
 
 from .unread import prefix
 
-WORLD = ipaddress.ip_network("0.0.0.0/0")
+WORLD = ipaddress.IPv4Network("0.0.0.0/0")
+Network = ipaddress.IPv4Network
+# A region as a prefix and its exceptions.
+Joined = typing.Tuple[Network, typing.List[Network]]
 
 
-def named(entries):
+def named(entries: typing.Iterable[dict]) -> typing.Set[Network]:
     """The prefixes that entries name, those of their exceptions too, and the world."""
     found = {WORLD}
     for entry in entries:
@@ -21,7 +27,7 @@ def named(entries):
     return found
 
 
-def listed(entries):
+def listed(entries: typing.Iterable[dict]) -> typing.Set[Network]:
     """The prefixes that are peers of entries."""
     found = set()
     for entry in entries:
@@ -30,29 +36,17 @@ def listed(entries):
     return found
 
 
-def sets(entry):
+def sets(entry: dict) -> typing.List[dict]:
     return [it for kind in ("from", "to") for it in entry.get(f"{kind}CIDRSet") or []]
 
 
-def inside(whole, prefixes):
+def inside(whole: Network, prefixes: typing.Iterable[Network]) -> typing.List[Network]:
     """The widest of the prefixes that lie in another one."""
     lying = [it for it in prefixes if it != whole and it.subnet_of(whole)]
     return [it for it in lying if not any(it != other and it.subnet_of(other) for other in lying)]
 
 
-def representative(whole, prefixes, taken):
-    """The first address of a region that isn't taken, or None."""
-    at, last = int(whole.network_address), int(whole.broadcast_address)
-    holes = [(int(it.network_address), int(it.broadcast_address)) for it in inside(whole, prefixes)]
-    holes = sorted([*holes, *((int(it), int(it)) for it in map(ipaddress.ip_address, taken))])
-    for low, high in holes:
-        if low > at:
-            break
-        at = max(at, high + 1)
-    return str(ipaddress.ip_address(at)) if at <= last else None
-
-
-def joined(regions, prefixes):
+def joined(regions: typing.Collection[Network], prefixes: typing.Iterable[Network]) -> typing.List[Joined]:
     """Regions as pairs of a prefix and its exceptions: a region in which another of them lies takes that one in."""
     found = []
     for whole in sorted(regions):
@@ -63,7 +57,7 @@ def joined(regions, prefixes):
     return found
 
 
-def missing(whole, regions, prefixes):
+def missing(whole: Network, regions: typing.Collection[Network], prefixes: typing.Iterable[Network]) -> typing.Iterator[Network]:
     """The prefixes inside a region that aren't among the regions, and through which it isn't left."""
     for it in inside(whole, prefixes):
         if it in regions:
@@ -72,7 +66,7 @@ def missing(whole, regions, prefixes):
             yield it
 
 
-def written(pairs):
+def written(pairs: typing.Iterable[Joined]) -> typing.Iterator[str]:
     for whole, but in pairs:
         name = "world" if whole == WORLD else str(whole)
         more = f" and {len(but) - 3} more" if len(but) > 3 else ""

@@ -1,11 +1,19 @@
 """The script of a cluster: endpoints, identities and policies."""
+from __future__ import annotations
+
+import typing
+
 from .cluster import ENDPOINTS_MOST, IDENTITIES_FROM, IDENTITIES_MOST
 from .reading import Bad, line_of
+
+if typing.TYPE_CHECKING:
+    from .cluster import Cluster
+    from .pods import Pod
 
 BYTES_MOST, LINES_MOST = 67_108_864, 1_000_000
 
 
-def chosen(cluster, node):
+def chosen(cluster: Cluster, node: typing.Optional[str]) -> typing.List[Pod]:
     """The pods that are endpoints."""
     nodes = {}
     for pod in cluster.live:
@@ -19,7 +27,7 @@ def chosen(cluster, node):
     return pods
 
 
-def numbers_of(cluster, pods):
+def numbers_of(cluster: Cluster, pods: typing.Sequence[Pod]) -> typing.Dict[tuple, int]:
     """The numbers that policyd gives the label sets: the least free one, in the order of the lines."""
     numbers = {}
     for pod in [*pods, *cluster.live]:
@@ -27,7 +35,7 @@ def numbers_of(cluster, pods):
     return numbers
 
 
-def lines_about(cluster, pods):
+def lines_about(cluster: Cluster, pods: typing.Sequence[Pod]) -> typing.List[str]:
     """The lines of endpoints and of the other pods' identities."""
     lines, seen = [], set()
     for pod in pods:
@@ -42,7 +50,7 @@ def lines_about(cluster, pods):
     return lines
 
 
-def joined(lines):
+def joined(lines: typing.Sequence[str]) -> str:
     """The text of a script, which isn't larger than policyd takes."""
     text = "".join(f"{it}\n" for it in lines)
     if len(lines) > LINES_MOST or len(text) > BYTES_MOST:

@@ -3,11 +3,14 @@ from __future__ import annotations
 
 import typing
 
+if typing.TYPE_CHECKING:
+    from .cluster import Cluster
+
 # What stands for any other pod of a namespace.
 ANY_OTHER = "any other"
 
 
-def whose(cluster, address: str) -> typing.Optional[str]:
+def whose(cluster: Cluster, address: str) -> typing.Optional[str]:
     """Whose an address is, where it is no address outside the cluster; or None."""
     if address in cluster.services:
         return f"the ClusterIP of the Service {cluster.services[address]}, which is a pod's address before policies are asked; name the pods by their labels"

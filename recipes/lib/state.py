@@ -7,6 +7,10 @@ from . import rewriting
 from .cluster import Cluster
 from .rewriting import Names, Unsure, named_ports, requires
 
+if typing.TYPE_CHECKING:
+    from .deciding import Deciding
+    from .labels import Filter
+
 
 class State:
     """Objects of a cluster with the policies rewritten.
@@ -21,7 +25,7 @@ class State:
         self.has_own_labels = False
         self.settle(names)
 
-    def settle(self, names: typing.Iterable[str]):
+    def settle(self, names: typing.Iterable[str]) -> None:
         """Gives pods the labels of the bridge's own, and rewrites the policies."""
         self.names_of_ports = named_ports.asked_by(self.policies.values()) | {*names}
         self.requirements = requires.gather(self.policies.values())
@@ -73,13 +77,13 @@ class State:
         return [it for it in self.all_names if it.touches(labels, direction)]
 
 
-def of_deciding(found) -> Unsure:
+def of_deciding(found: Deciding) -> Unsure:
     """An object that decides beside policies, as what isn't read of one."""
     how = {"directions": found.directions(), "isolates": not found.overrides, "overrides": found.overrides, "selector": found.selects, "said": repr(found.spec)}
     return Unsure(found.name, "it decides beside policies", "", **how)
 
 
-def read(text: str, choice, cluster: str = "default", whole: str = "standard input", part: str = "document") -> State:
+def read(text: str, choice: Filter, cluster: str = "default", whole: str = "standard input", part: str = "document") -> State:
     """The state of a text that kubectl printed; Bad where an object of it is bad."""
     return State(Cluster(text, choice, cluster, whole, part))
 

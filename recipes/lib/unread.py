@@ -4,11 +4,16 @@ NetworkPolicies', walked once more.
 policyd alone decides. This says beforehand, and with the path, what it will refuse: `tests/recipes_checks.py` compares
 it with the answers of every case.
 """
+from __future__ import annotations
+
 import ipaddress
 import re
+import typing
 
 ANY, TEXT, NAME, NUMBER, BOOL = "any", "text", "name", "number", "bool"
-SHAPES = {
+# The name of a shape of the table, of a text or a number, or a list of one: its items are of that.
+Shape = typing.Union[str, typing.List[str]]
+SHAPES: typing.Dict[str, typing.Dict[str, Shape]] = {
     "policy": {"apiVersion": TEXT, "kind": TEXT, "metadata": "metadata", "spec": "rule", "specs": ["rule"], "status": ANY},
     "metadata": {"name": NAME, "namespace": NAME},
     "rule": {
@@ -53,11 +58,11 @@ PROTOCOLS = ("", "TCP", "UDP", "SCTP", "ANY")
 class Unread(Exception):
     """What isn't read, and its path."""
 
-    def __init__(self, what, path):
+    def __init__(self, what: str, path: str):
         self.what, self.path = what, path
 
 
-def why_unread(document):
+def why_unread(document: dict) -> typing.Optional[typing.Tuple[str, str]]:
     """The first thing that policyd refuses in a policy's document, and its path; None where it reads all."""
     is_network = is_network_policy(document)
     try:
@@ -73,20 +78,20 @@ def why_unread(document):
     return None
 
 
-def is_network_policy(document):
+def is_network_policy(document: dict) -> bool:
     return document.get("apiVersion") == "networking.k8s.io/v1" and document.get("kind") == "NetworkPolicy"
 
 
 # What the document's members are.
 
 
-def below(path, name):
+def below(path: str, name: str) -> str:
     """The path of a member; a byte that isn't printed is a question mark, as in policyd's answers."""
     name = "".join(chr(it) if 0x21 <= it <= 0x7E else "?" for it in name.encode(errors="surrogatepass"))
     return f"{path}.{name}" if path else name
 
 
-def walk(value, shape, path):
+def walk(value: object, shape: Shape, path: str) -> None:
     """Visits a value before what it holds: the members of an object by their bytes, and items in order."""
     if isinstance(shape, list):
         if not isinstance(value, list):
@@ -103,7 +108,7 @@ def walk(value, shape, path):
         leaf(value, shape, path)
 
 
-def visit(value, shape, path):
+def visit(value: dict, shape: str, path: str) -> None:
     for name in LEFT_OUT["set"].split() if shape == "set" else []:
         if value.get(name) is not None:
             raise Unread(name, path)
@@ -122,7 +127,7 @@ def visit(value, shape, path):
             raise Unread("unknown-member", below(path, name))
 
 
-def leaf(value, shape, path):
+def leaf(value: object, shape: str, path: str) -> None:
     if shape == ANY:
         return
     if shape == "port number" and isinstance(value, str):
@@ -146,7 +151,7 @@ def leaf(value, shape, path):
 # What its rules say.
 
 
-def judge(document):
+def judge(document: dict) -> None:
     rules = [("spec", document["spec"])] if document.get("spec") is not None else []
     rules += [(f"specs[{at}]", it) for at, it in enumerate(document.get("specs") or [])]
     for path, rule in rules:
@@ -158,7 +163,7 @@ def judge(document):
                 judge_entry(entry, f"{path}.{section}[{at}]")
 
 
-def judge_selector(selector, path):
+def judge_selector(selector: dict, path: str) -> None:
     asked = [(key, "In", [value]) for key, value in (selector.get("matchLabels") or {}).items() if value is not None]
     asked += [(it["key"], it["operator"], it.get("values") or []) for it in selector.get("matchExpressions") or []]
     for key, operator, values in asked:
@@ -168,11 +173,11 @@ def judge_selector(selector, path):
             raise Unread("bad-selector", path)
 
 
-def peers(entry, kind):
+def peers(entry: dict, kind: str) -> list:
     return entry.get(f"from{kind}") or entry.get(f"to{kind}") or []
 
 
-def judge_entry(entry, path):
+def judge_entry(entry: dict, path: str) -> None:
     """The faults of an entry, by their numbers."""
     sets, listed = peers(entry, "CIDRSet"), peers(entry, "CIDR")
     kinds = [it for it in (peers(entry, "Endpoints"), listed, sets, peers(entry, "Entities")) if it]
@@ -190,7 +195,7 @@ def judge_entry(entry, path):
     judge_ports([it.get("ports") or [] for it in entry.get("toPorts") or []], path)
 
 
-def judge_ports(items, path):
+def judge_ports(items: typing.Sequence[list], path: str) -> None:
     ports = [port for item in items for port in item]
     if any(not re.fullmatch("[0-9]{1,5}", it["port"]) or int(it["port"]) > 65535 or (it.get("endPort") or 0) > 65535 for it in ports):
         raise Unread("bad-port", path)
@@ -205,7 +210,7 @@ def judge_ports(items, path):
 # What a NetworkPolicy says.
 
 
-def judge_network(spec):
+def judge_network(spec: dict) -> None:
     if spec.get("podSelector") is None:
         raise Unread("no-selector", "spec")
     judge_pod_selector(spec["podSelector"], "spec.podSelector")
@@ -216,14 +221,14 @@ def judge_network(spec):
             judge_network_entry(entry.get(word) or [], entry.get("ports") or [], f"spec.{section}[{at}]")
 
 
-def judge_pod_selector(selector, path):
+def judge_pod_selector(selector: dict, path: str) -> None:
     keys = [*without_nulls(selector.get("matchLabels") or {}), *(it["key"] for it in selector.get("matchExpressions") or [])]
     if any(":" in it for it in keys):
         raise Unread("bad-selector", path)
     judge_selector(selector, path)
 
 
-def judge_network_entry(listed, ports, path):
+def judge_network_entry(listed: typing.Sequence[dict], ports: typing.Sequence[dict], path: str) -> None:
     """The faults of an entry, by their numbers."""
     for selector in (peer.get(name) for peer in listed for name in ("podSelector", "namespaceSelector")):
         if selector is not None:
@@ -241,18 +246,18 @@ def judge_network_entry(listed, ports, path):
         raise Unread("bad-end-port", path)
 
 
-def judge_blocks(blocks, path):
+def judge_blocks(blocks: typing.Sequence[dict], path: str) -> None:
     if any(prefix(text) is None for it in blocks for text in [it["cidr"], *(it.get("except") or [])]):
         raise Unread("bad-cidr", path)
     if not all(prefix(text).subnet_of(prefix(it["cidr"])) for it in blocks for text in it.get("except") or []):
         raise Unread("except-outside", path)
 
 
-def without_nulls(value):
+def without_nulls(value: dict) -> dict:
     return {key: it for key, it in value.items() if it is not None}
 
 
-def prefix(text):
+def prefix(text: str) -> typing.Optional[ipaddress.IPv4Network]:
     """The prefix of a CIDR text, without its host bits, or None."""
     octet = r"(?:0|[1-9]\d{0,2})"
     if not re.fullmatch(rf"{octet}(\.{octet}){{3}}(/(0|[12]?[0-9]|3[0-2]))?", text, re.ASCII):

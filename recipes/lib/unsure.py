@@ -5,7 +5,7 @@ import typing
 
 
 
-def of_half(answer, listed: typing.Sequence) -> list:
+def of_half(answer: typing.Any, listed: typing.Sequence) -> list:
     """The unread things among those that touch a half that may turn its verdict."""
     if answer.is_allowed:
         return [it for it in listed if it.denies or it.isolates and answer.is_free()]

@@ -11,6 +11,10 @@ import typing
 from . import covered, peers, prefixes, subjects
 from .ground import Ground
 
+if typing.TYPE_CHECKING:
+    from ..policies import Policy
+    from ..state import State
+
 KINDS = ("peer-matches-none", "subject-selects-none", "deny-denies-none", "prefix-means-none", "entry-changes-nothing", "policy-without-effect")
 
 
@@ -25,7 +29,7 @@ class Slip:
     text: str
 
 
-def slips(state, only: typing.Optional[typing.Collection[tuple]] = None) -> typing.List[Slip]:
+def slips(state: State, only: typing.Optional[typing.Collection[tuple]] = None) -> typing.List[Slip]:
     """The slips of the state's policies, in the order of the policies; `only` has the keys of those that are asked about."""
     ground, found = Ground(state), []
     for key, policy in state.policies.items():
@@ -34,7 +38,7 @@ def slips(state, only: typing.Optional[typing.Collection[tuple]] = None) -> typi
     return found
 
 
-def of_policy(ground: Ground, policy) -> typing.List[tuple]:
+def of_policy(ground: Ground, policy: Policy) -> typing.List[tuple]:
     """The slips of one policy, as triples of kind, place and text."""
     whole = list(subjects.of_policy(ground, policy))
     if any(kind == "policy-without-effect" for kind, _, _ in whole):

@@ -7,10 +7,13 @@ from ..pods import NAMESPACE_KEY, OWN_PREFIX
 from ..policies import holds
 from .ground import Asked, Ground
 
+if typing.TYPE_CHECKING:
+    from ..policies import Policy
+
 NAMED_MOST = 2
 
 
-def likely(ground: Ground, policy, asked: Asked, is_bound: bool) -> str:
+def likely(ground: Ground, policy: Policy, asked: Asked, is_bound: bool) -> str:
     """The likely cause, as the end of a line; empty where none is seen."""
     own = tuple(it for it in asked if not (is_bound and it[1] == NAMESPACE_KEY))
     for find in (of_another_namespace, of_no_namespace, of_no_identity, of_the_host, of_one_letter):
@@ -20,7 +23,7 @@ def likely(ground: Ground, policy, asked: Asked, is_bound: bool) -> str:
     return ""
 
 
-def of_another_namespace(ground: Ground, policy, asked: Asked, own: Asked, is_bound: bool) -> str:
+def of_another_namespace(ground: Ground, policy: Policy, asked: Asked, own: Asked, is_bound: bool) -> str:
     pods = ground.pods_of(ground.matching(own)) if is_bound and own else []
     if not pods:
         return ""
@@ -28,7 +31,7 @@ def of_another_namespace(ground: Ground, policy, asked: Asked, own: Asked, is_bo
     return f"the namespace {named(names)} has pods with {ground.written(own)}, and without a namespace a peer is of {policy.namespace}"
 
 
-def of_no_namespace(ground: Ground, policy, asked: Asked, own: Asked, is_bound: bool) -> str:
+def of_no_namespace(ground: Ground, policy: Policy, asked: Asked, own: Asked, is_bound: bool) -> str:
     known = {*ground.cluster.namespaces, *(it.namespace for it in ground.pods)}
     for source, key, operator, values in own:
         gone = [it for it in values if it not in known] if key == NAMESPACE_KEY and operator == "In" else []
@@ -38,21 +41,21 @@ def of_no_namespace(ground: Ground, policy, asked: Asked, own: Asked, is_bound: 
     return ""
 
 
-def of_no_identity(ground: Ground, policy, asked: Asked, own: Asked, is_bound: bool) -> str:
+def of_no_identity(ground: Ground, policy: Policy, asked: Asked, own: Asked, is_bound: bool) -> str:
     for _, key, _, _ in own:
         if not ground.cluster.choice.counts(key) and any(f"k8s:{key}=" in it for pod in ground.pods for it in ground.all_labels(pod)):
             return f"the label {key} is no part of identities"
     return ""
 
 
-def of_the_host(ground: Ground, policy, asked: Asked, own: Asked, is_bound: bool) -> str:
+def of_the_host(ground: Ground, policy: Policy, asked: Asked, own: Asked, is_bound: bool) -> str:
     pods = [it for it in ground.cluster.pods.values() if it.is_host and all(holds(one, ground.all_labels(it)) for one in asked)]
     if not pods:
         return ""
     return f"{named([it.name for it in pods])} on the host's network alone has these labels; name it by the entity `host` or `remote-node`"
 
 
-def of_one_letter(ground: Ground, policy, asked: Asked, own: Asked, is_bound: bool) -> str:
+def of_one_letter(ground: Ground, policy: Policy, asked: Asked, own: Asked, is_bound: bool) -> str:
     for at, (source, key, operator, values) in enumerate(own):
         if key.startswith(OWN_PREFIX) or operator not in ("In", "Exists"):
             continue

@@ -9,6 +9,10 @@ from ..policies import requirements
 from ..unread import ENTITIES, SECTIONS, prefix
 from .ground import Ground
 
+if typing.TYPE_CHECKING:
+    from ..policies import Policy
+    from ..rewriting.results import Rewritten
+
 Found = typing.Iterator[typing.Tuple[str, str, str]]
 WORLD = "world"
 
@@ -55,7 +59,7 @@ def holds_prefix(mine: tuple, other: tuple) -> bool:
     return inner.subnet_of(whole) and all(not it.overlaps(inner) or any(it.subnet_of(one) for one in inner_out) for it in out)
 
 
-def of_policy(ground: Ground, policy) -> Found:
+def of_policy(ground: Ground, policy: Policy) -> Found:
     """The entries of a policy that another one covers, and the policy where that is so of all of them."""
     listed = covers(ground)
     mine = [it for it in listed if it.policy == policy.name]
@@ -92,7 +96,7 @@ def covers(ground: Ground) -> typing.List[Cover]:
     return ground.covers
 
 
-def of_part(ground: Ground, whole, part, marked: typing.Container[str], order: int) -> typing.Iterator[tuple]:
+def of_part(ground: Ground, whole: Rewritten, part: Policy, marked: typing.Container[str], order: int) -> typing.Iterator[tuple]:
     front = "" if part.namespace else "/"
     for number, rule in enumerate(rules_of(ground, part)):
         subject = ground.matching(requirements(rule["endpointSelector"], part.namespace))
@@ -105,14 +109,14 @@ def of_part(ground: Ground, whole, part, marked: typing.Container[str], order: i
                 yield place, cover_of(ground, part, place, order, whole.policy.name, section, subject, value, place in marked)
 
 
-def rules_of(ground: Ground, part) -> typing.List[dict]:
+def rules_of(ground: Ground, part: Policy) -> typing.List[dict]:
     """The rules of a policy that policyd is given, a NetworkPolicy's in Cilium's terms."""
     if part.document.get("apiVersion") == "cilium.io/v2":
         return part.rules()
     return [rule for _, rule in ground.rules(part)]
 
 
-def cover_of(ground, part, place, order, policy, section, subject, value, is_marked) -> Cover:
+def cover_of(ground: Ground, part: Policy, place: str, order: int, policy: str, section: str, subject: frozenset, value: dict, is_marked: bool) -> Cover:
     word = "from" if section.startswith("ingress") else "to"
     peers = [name for name in value if name.startswith(word) and name != "toPorts"]
     sets = frozenset().union(*(ground.matching(ground.peer(part, it)[0]) for it in value.get(f"{word}Endpoints") or []))

@@ -14,6 +14,11 @@ from ..rewriting.work import Refused, Work
 from ..sides import ANY_OTHER
 from ..unread import SECTIONS
 
+if typing.TYPE_CHECKING:
+    from ..pods import Pod
+    from ..policies import Policy
+    from ..state import State
+
 Asked = typing.Tuple[tuple, ...]
 
 
@@ -38,7 +43,7 @@ class Written:
 class Ground:
     """A state's pods by their labels, and its policies' entries."""
 
-    def __init__(self, state):
+    def __init__(self, state: State):
         self.state, self.cluster = state, state.cluster
         self.work = Work(None, state, Rewritten(None))
         self.pods = [it for it in state.ends if it.stands_for != ANY_OTHER]
@@ -61,7 +66,7 @@ class Ground:
         return [pod for at in sorted(sets) for pod in self.of_set[at] if pod.stands_for != ANY_OTHER]
 
     @functools.lru_cache(maxsize=None)
-    def rules(self, policy) -> typing.List[typing.Tuple[int, dict]]:
+    def rules(self, policy: Policy) -> typing.List[typing.Tuple[int, dict]]:
         """A policy's rules in Cilium's terms, with their numbers."""
         work = Work(policy, self.state, Rewritten(policy))
         try:
@@ -71,7 +76,7 @@ class Ground:
         return [(number, {name: it for name, it in rule.items() if name}) for number, rule in listed if rule.get("endpointSelector") is not None]
 
     @functools.lru_cache(maxsize=None)
-    def entries(self, policy) -> typing.List[Written]:
+    def entries(self, policy: Policy) -> typing.List[Written]:
         """A policy's entries in Cilium's terms."""
         found = []
         for number, rule in self.rules(policy):
@@ -81,11 +86,11 @@ class Ground:
                     found.append(Written(place, number, section, {name: it for name, it in value.items() if name}))
         return found
 
-    def subject(self, policy, rule: dict) -> Asked:
+    def subject(self, policy: Policy, rule: dict) -> Asked:
         """What a rule asks of its pods."""
         return tuple(requirements(clusters.selector(self.work, rule["endpointSelector"]), policy.namespace))
 
-    def peer(self, policy, selector: dict) -> typing.Tuple[Asked, bool]:
+    def peer(self, policy: Policy, selector: dict) -> typing.Tuple[Asked, bool]:
         """What a selector asks of a peer, and whether it is bound to the policy's namespace without saying so."""
         selector = clusters.selector(self.work, selector)
         asked, own = requirements(selector, ""), ("k8s", NAMESPACE_KEY, "In", [policy.namespace])
@@ -103,7 +108,7 @@ class Ground:
         back = lambda it: (*it[:3], [name.get(text, text) for text in it[3]] if it[1] == CLUSTER_KEY else it[3])
         return ", ".join(one(back(it)) for it in asked) or "every label"
 
-    def all_labels(self, pod) -> typing.Tuple[str, ...]:
+    def all_labels(self, pod: Pod) -> typing.Tuple[str, ...]:
         """Every label of a pod, those that are no part of identities too."""
         labels = {**pod.own, NAMESPACE_KEY: pod.namespace, CLUSTER_KEY: CORE_CLUSTER}
         labels.update({f"{OWN_PREFIX}namespace.labels.{key}": it for key, it in self.cluster.namespaces.get(pod.namespace, {}).items()})

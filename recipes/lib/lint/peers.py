@@ -6,10 +6,13 @@ import typing
 from .causes import likely
 from .ground import Ground, Written, is_reserved
 
+if typing.TYPE_CHECKING:
+    from ..policies import Policy
+
 Found = typing.Iterator[typing.Tuple[str, str, str]]
 
 
-def of_policy(ground: Ground, policy) -> Found:
+def of_policy(ground: Ground, policy: Policy) -> Found:
     for entry in ground.entries(policy):
         listed = [it for it in entry.value.get(f"{entry.word}Endpoints") or [] if isinstance(it, dict)]
         told = [it for selector in listed for it in [told_of(ground, policy, entry, selector)] if it]
@@ -26,7 +29,7 @@ def is_nothing(entry: Written) -> bool:
     return not any(it or name != "toPorts" for name, it in entry.value.items() if it is not None)
 
 
-def told_of(ground: Ground, policy, entry: Written, selector: dict) -> str:
+def told_of(ground: Ground, policy: Policy, entry: Written, selector: dict) -> str:
     """What is said of a peer that matches no pod, or nothing."""
     try:
         asked, is_bound = ground.peer(policy, selector)

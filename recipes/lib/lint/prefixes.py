@@ -8,12 +8,16 @@ from ..sides import whose
 from ..unread import prefix
 from .ground import Ground, Written
 
+if typing.TYPE_CHECKING:
+    from ..cluster import Cluster
+    from ..policies import Policy
+
 Found = typing.Iterator[typing.Tuple[str, str, str]]
 # What is in a prefix, one and many.
 WORDS = {"pods": ("pod", "pods"), "nodes": ("node's address", "nodes' addresses"), "services": ("ClusterIP", "ClusterIPs"), "balancers": ("load balancer's address", "load balancers' addresses")}
 
 
-def of_policy(ground: Ground, policy) -> Found:
+def of_policy(ground: Ground, policy: Policy) -> Found:
     for entry in ground.entries(policy):
         for whole, out in sorted(listed(entry), key=lambda it: it[0]):
             text = told_of(ground, whole, out)
@@ -32,7 +36,7 @@ def listed(entry: Written) -> typing.Iterator[tuple]:
             yield prefix(it["cidr"]), [prefix(out) for out in it.get("except") or [] if isinstance(out, str) and prefix(out)]
 
 
-def told_of(ground: Ground, whole, out: list) -> str:
+def told_of(ground: Ground, whole: ipaddress.IPv4Network, out: list) -> str:
     """What is said of a prefix, or nothing."""
     if whole.prefixlen == 32:
         found = whose(ground.cluster, str(whole.network_address))
@@ -42,12 +46,12 @@ def told_of(ground: Ground, whole, out: list) -> str:
     return f"holds {', '.join(parts)}, and doesn't mean {'them' if sum(counts.values()) > 1 else 'it'}" if parts else ""
 
 
-def addresses_of(cluster) -> typing.Dict[str, typing.List[str]]:
+def addresses_of(cluster: Cluster) -> typing.Dict[str, typing.List[str]]:
     pods = [it.address for it in cluster.live]
     nodes = {*cluster.nodes, *cluster.api_addresses}
     return {"pods": pods, "nodes": sorted(nodes), "services": sorted(cluster.services), "balancers": sorted(cluster.balancers)}
 
 
-def inside(addresses: typing.Iterable[str], whole, out: list) -> typing.List[str]:
+def inside(addresses: typing.Iterable[str], whole: ipaddress.IPv4Network, out: list) -> typing.List[str]:
     found = [(it, ipaddress.ip_address(it)) for it in addresses]
     return [text for text, it in found if it in whole and not any(it in one for one in out)]

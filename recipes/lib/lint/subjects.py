@@ -6,10 +6,13 @@ import typing
 from .causes import likely
 from .ground import Ground
 
+if typing.TYPE_CHECKING:
+    from ..policies import Policy
+
 Found = typing.Iterator[typing.Tuple[str, str, str]]
 
 
-def of_policy(ground: Ground, policy) -> Found:
+def of_policy(ground: Ground, policy: Policy) -> Found:
     """A rule that selects none; a policy without a section, or of which no rule selects a pod, is one slip."""
     state = ground.state
     whole = state.rewritten[policy.key]
@@ -32,7 +35,7 @@ def of_policy(ground: Ground, policy) -> Found:
         yield "subject-selects-none", f"{policy.name}#{number}", text
 
 
-def behind(ground: Ground, policy, asked: tuple) -> str:
+def behind(ground: Ground, policy: Policy, asked: tuple) -> str:
     """The likely cause, behind a colon; a subject is always of its policy's namespace."""
     found = likely(ground, policy, asked, bool(policy.namespace))
     return f": {found}".replace("a peer is of", "a subject is of").replace(", and without a namespace", ", and") if found else ""

@@ -6,14 +6,19 @@ together into what policyd is given, with the way back from the places in its an
 """
 from __future__ import annotations
 
+import typing
+
 from ..policies import NAMESPACED, Policy
 from ..unread import SECTIONS, SHAPES
 from . import network, rules
 from .results import Names, Rewritten, Unsure  # noqa: F401
 from .work import Refused, Work
 
+if typing.TYPE_CHECKING:
+    from ..state import State
 
-def rewrite(policy, state) -> Rewritten:
+
+def rewrite(policy: Policy, state: State) -> Rewritten:
     """A policy of the state rewritten, with what was rewritten and what wasn't.
 
     `policy` is a policies.Policy or network.NetworkPolicy, `state` the state.State that it is judged in: its Services,
@@ -44,7 +49,7 @@ def note_unknown(work: Work, form: str) -> None:
         work.rules_are_unsure(document, "unknown-member", name, work.policy.rules())
 
 
-def assembled(work: Work, made: list, name: str):
+def assembled(work: Work, made: list, name: str) -> Policy:
     """The policy of rules that were rewritten, and the places of its entries as they were written."""
     policy = work.policy
     documents = [it.document() for it in made]
@@ -62,7 +67,7 @@ def assembled(work: Work, made: list, name: str):
     return found
 
 
-def note_places(work: Work, made: list, name: str):
+def note_places(work: Work, made: list, name: str) -> None:
     """Notes where each entry of an answer stands in the policy as it was written."""
     front = "" if work.policy.namespace else "/"
     for number, rule in enumerate(made):

@@ -35,12 +35,12 @@ def selector(work: Work, written: dict) -> dict:
     return found
 
 
-def of_expression(written, become):
+def of_expression(written: object, become: typing.Callable[[str], str]) -> object:
     if not isinstance(written, dict) or not is_cluster(written.get("key")) or not isinstance(written.get("values"), list):
         return written
     return {**written, "values": [become(it) if isinstance(it, str) else it for it in written["values"]]}
 
 
-def is_cluster(key) -> bool:
+def is_cluster(key: object) -> bool:
     source, rest = source_and_key(key) if isinstance(key, str) else ("", "")
     return source in ("any", "k8s") and rest == CLUSTER_KEY

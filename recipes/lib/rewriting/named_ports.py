@@ -15,6 +15,9 @@ from ..pods import PORT_PREFIX
 from ..policies import NAMESPACE_KEY, holds
 from .work import Entry, Refused, Rule, Work, with_expressions
 
+if typing.TYPE_CHECKING:
+    from ..pods import Pod
+
 NAME = re.compile(r"(?=.*[a-z])[a-z0-9]+(-[a-z0-9]+)*")
 PROTOCOLS = ("TCP", "UDP", "SCTP")
 OF_NO_POD = "ports by name of peers that are no pods, which have none"
@@ -26,7 +29,7 @@ def label(name: str, protocol: str, number: int) -> str:
     return f"{PORT_PREFIX}{name}.{protocol.lower()}.{number}"
 
 
-def is_named(port) -> bool:
+def is_named(port: object) -> bool:
     return isinstance(port, str) and bool(re.search("[A-Za-z]", port))
 
 
@@ -40,11 +43,11 @@ def asked_by(policies: typing.Iterable) -> typing.Set[str]:
     return found
 
 
-def listed(value) -> typing.List[dict]:
+def listed(value: object) -> typing.List[dict]:
     return [it for it in value if isinstance(it, dict)] if isinstance(value, list) else []
 
 
-def labels_of(pod, names: typing.Collection[str]) -> typing.Dict[str, str]:
+def labels_of(pod: Pod, names: typing.Collection[str]) -> typing.Dict[str, str]:
     """The labels of a pod for its ports of these names."""
     return {label(*it): "" for it in pod.ports if it[0] in names}
 

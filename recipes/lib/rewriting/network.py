@@ -14,6 +14,10 @@ from . import named_ports
 from .refusals import refused_by_cilium
 from .work import Refused, Work, with_expressions
 
+if typing.TYPE_CHECKING:
+    from ..policies import Policy
+    from ..state import State
+
 # The names of policies that NetworkPolicies become: no object of Kubernetes has two dots in its name.
 FRONT = "networkpolicy.."
 WORDS = (("ingress", "from"), ("egress", "to"))
@@ -25,7 +29,7 @@ def is_network(document: dict) -> bool:
     return unread.is_network_policy(document)
 
 
-def is_rewritten(policy, state) -> bool:
+def is_rewritten(policy: Policy, state: State) -> bool:
     return bool(why_unread(policy.document) or state.requirements)
 
 
@@ -90,7 +94,7 @@ def entries(work: Work, entry: dict, word: str) -> typing.List[dict]:
     return [*found, {f"{word}CIDRSet": blocks, **rest}] if blocks else found
 
 
-def check(entry: dict, word: str, path: str):
+def check(entry: dict, word: str, path: str) -> None:
     """What policyd says of the entry without its ports by name and its prefixes of IPv6."""
     number = lambda it: {**it, "port": 1} if isinstance(it, dict) and named_ports.is_named(it.get("port")) else it
     copy = dict(entry)
@@ -101,7 +105,7 @@ def check(entry: dict, word: str, path: str):
     unread.judge_network_entry(copy.get(word) or [], copy.get("ports") or [], path)
 
 
-def without_ipv6(peer):
+def without_ipv6(peer: object) -> object:
     """A peer with a prefix of IPv4 in the place of one of IPv6."""
     block = peer.get("ipBlock") if isinstance(peer, dict) else None
     if not isinstance(block, dict) or ":" not in str(block.get("cidr")):

@@ -36,7 +36,7 @@ def refused_by_cilium(what: str) -> bool:
     return what in FAULTS
 
 
-def check(work: Work, value: dict, word: str):
+def check(work: Work, value: dict, word: str) -> None:
     """Refused where an entry has what can't stand together, or in a section that denies."""
     kinds = [f"{word}{it}" for it in PEERS if value.get(f"{word}{it}")]
     if len(kinds) > 1:

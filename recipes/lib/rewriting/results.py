@@ -41,7 +41,7 @@ class Unsure:
             return all(holds(it, labels) for it in self.asked)
         return not self.namespace or holds(("k8s", NAMESPACE_KEY, "In", [self.namespace]), labels)
 
-    def __str__(self):
+    def __str__(self) -> str:
         return f"{self.policy}: {self.what} at {self.path}" if self.path else f"{self.policy}: {self.what}"
 
 

@@ -67,7 +67,7 @@ def subject(work: Work, rule: dict, path: str) -> bool:
     return True
 
 
-def check_rest(work: Work, rule: dict, rest: dict, path: str):
+def check_rest(work: Work, rule: dict, rest: dict, path: str) -> None:
     """The members of a rule that are passed on, or left out where they aren't read."""
     for name in sorted(rest):
         try:

@@ -11,6 +11,9 @@ from ..policies import NAMESPACE_KEY, holds, requirements
 from ..unread import Unread
 from .work import Entry, Work
 
+if typing.TYPE_CHECKING:
+    from ..services import Service
+
 # What isn't read where the state has no Service at all: most likely nobody asked for them.
 WITHOUT = "toServices without a Service in the state"
 
@@ -33,7 +36,7 @@ def rewrite(work: Work, entry: Entry, word: str) -> typing.List[Entry]:
     return [dataclasses.replace(entry, value=it) for it in made or [{}]]
 
 
-def of_pods(service) -> dict:
+def of_pods(service: Service) -> dict:
     labels = {f"k8s:{key}": it for key, it in service.selector.items()}
     return {"matchLabels": {**labels, f"k8s:{NAMESPACE_KEY}": service.namespace}}
 

@@ -66,28 +66,28 @@ class Work:
             return None
         return tuple((*it[:3], tuple(it[3])) for it in requirements(self.subject, self.namespace))
 
-    def is_unsure(self, whole: dict, what: str, path: str, **how):
+    def is_unsure(self, whole: dict, what: str, path: str, **how: typing.Any) -> None:
         """Notes what isn't read of a whole: a document, a rule or an entry."""
         said = json.dumps([whole, self.state.around()], sort_keys=True, default=str)
         how = {"namespace": self.namespace, "asked": self.asked(), "said": said, **how}
         self.found.unsure.append(Unsure(self.policy.name, what, path, **how))
 
-    def rules_are_unsure(self, whole: dict, what: str, path: str, rules: typing.Iterable[dict]):
+    def rules_are_unsure(self, whole: dict, what: str, path: str, rules: typing.Iterable[dict]) -> None:
         """Notes what isn't read beside the entries of rules: then what these deny isn't sure either."""
         denies = any(rule.get(f"{it}Deny") for rule in rules for it in DIRECTIONS)
         self.is_unsure(whole, what, path, isolates=True, overrides=denies)
 
-    def entry_is_unsure(self, entry: dict, what: str, path: str = ""):
+    def entry_is_unsure(self, entry: dict, what: str, path: str = "") -> None:
         """Notes what isn't read of the entry that is being rewritten; what it requires may shut what others allow."""
         requires = any(name.endswith("Requires") and it for name, it in entry.items())
         how = {"directions": frozenset((self.direction,)), "allows": not self.denies, "denies": self.denies or requires}
         self.is_unsure(entry, what, path or self.path, **how)
 
-    def names(self, names: typing.Sequence[str], ports: dict):
+    def names(self, names: typing.Sequence[str], ports: dict) -> None:
         """Notes addresses that nobody knows here."""
         self.found.names.append(Names(self.place, self.direction, tuple(names), ports, self.asked() or ()))
 
-    def lacks(self, what: str):
+    def lacks(self, what: str) -> None:
         text = f"{self.policy.name}: {what}"
         if text not in self.found.lacking:
             self.found.lacking.append(text)
