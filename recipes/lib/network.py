@@ -3,7 +3,7 @@ from __future__ import annotations
 
 import typing
 
-from .policies import NAMESPACE_KEY, Policy, holds, requirements
+from .policies import NAMESPACE_KEY, Asked, Policy, asked_of_subject
 from .reading import line_of
 
 API, KIND = "networking.k8s.io/v1", "NetworkPolicy"
@@ -24,13 +24,11 @@ class NetworkPolicy(Policy):
     def parts(self) -> typing.List[Policy]:
         return [self]
 
-    def selects(self, labels: typing.Sequence[str]) -> bool:
-        """Whether it selects the labels; a selector that isn't read counts as selecting."""
-        try:
-            asked = [("k8s", *it[1:]) for it in requirements(self.spec()["podSelector"], "")]
-            return all(holds(it, labels) for it in [*asked, ("k8s", NAMESPACE_KEY, "In", [self.namespace])])
-        except (AttributeError, KeyError, TypeError, ValueError):
-            return True
+    def subjects(self) -> typing.List[typing.Optional[typing.List[Asked]]]:
+        """What it asks of the labels that it selects, or None where its selector isn't read."""
+        found = asked_of_subject({"endpointSelector": self.spec().get("podSelector")}, "")
+        own = ("k8s", NAMESPACE_KEY, "In", [self.namespace])
+        return [None if found is None else [*(("k8s", *it[1:]) for it in found), own]]
 
     def entries(self) -> typing.Iterator[typing.Tuple[str, dict]]:
         """Its entries, each with its direction, as far as the recipes ask: prefixes and ports, as an entry of Cilium's."""

@@ -9,6 +9,7 @@ from .unread import SECTIONS, why_unread
 NAMESPACED, CLUSTER_WIDE = POLICY_KINDS = ("CiliumNetworkPolicy", "CiliumClusterwideNetworkPolicy")
 NAMESPACE_KEY = "io.kubernetes.pod.namespace"
 DIRECTIONS = ("ingress", "egress")
+OPERATORS = ("In", "NotIn", "Exists", "DoesNotExist")
 # What is asked of labels: source, key, operator and values.
 Asked = typing.Tuple[str, str, str, typing.Sequence[str]]
 
@@ -47,9 +48,13 @@ class Policy:
             found.append(part)
         return found or [self]
 
+    def subjects(self) -> typing.List[typing.Optional[typing.List[Asked]]]:
+        """What its rules ask of the labels that they select, but for those of hosts; None for one that isn't read."""
+        return [asked_of_subject(it, self.namespace) for it in self.rules() if not is_of_hosts(it)]
+
     def selects(self, labels: typing.Sequence[str]) -> bool:
         """Whether some rule selects the labels, as far as its subject is read; one that isn't counts as selecting."""
-        return any(is_selected(it, self.namespace, labels) for it in self.rules())
+        return any(asked is None or all(holds(it, labels) for it in asked) for asked in self.subjects())
 
     def entries(self) -> typing.Iterator[typing.Tuple[str, dict]]:
         """The entries of its rules, each with its direction."""
@@ -89,14 +94,23 @@ def is_isolating(rule: dict, direction: str) -> bool:
     return said if isinstance(said, bool) else bool(listed(rule, direction) or listed(rule, f"{direction}Deny"))
 
 
-def is_selected(rule: dict, namespace: str, labels: typing.Sequence[str]) -> bool:
-    if rule.get("nodeSelector") is not None and rule.get("endpointSelector") is None:
-        return False
+def is_of_hosts(rule: dict) -> bool:
+    return rule.get("nodeSelector") is not None and rule.get("endpointSelector") is None
+
+
+def asked_of_subject(rule: dict, namespace: str) -> typing.Optional[typing.List[Asked]]:
+    """What a rule asks of the labels that it selects, or None where that isn't read."""
     try:
-        asked = list(requirements(rule["endpointSelector"], namespace))
-        return all(holds(it, labels) for it in asked)
+        found = requirements(rule["endpointSelector"], namespace)
+        return found if all(map(is_read, found)) else None
     except (AttributeError, KeyError, TypeError, ValueError):
-        return True
+        return None
+
+
+def is_read(asked: Asked) -> bool:
+    """Whether something that is asked has texts and an operator that is known."""
+    source, key, operator, values = asked
+    return operator in OPERATORS and all(isinstance(it, str) for it in (key, *values))
 
 
 def requirements(selector: dict, namespace: str) -> typing.List[Asked]:

@@ -1,9 +1,10 @@
 """What is read of a state: pods that come, addresses, the API server, kinds that decide, what kubectl said, and manifests."""
 import json
+import random
 
 from . import judged
 from .objects import app, behind, deployment, namespace, network, pod, policy, ports, service
-from lib import change, cluster as clusters, reading
+from lib import change, cluster as clusters, label_index, policies, reading
 from lib.sides import whose
 from wenirako.ends import Universe
 from wenirako.naming import Names
@@ -266,6 +267,22 @@ def yaml_is_read(told):
     ])
 
 
+def labels_are_indexed(told):
+    """An index of many sets of labels finds those of which each by itself holds."""
+    pick, values = random.Random(1), ["", "a", "b"]
+    keys = ["k8s:app", "k8s:tier", "reserved:init", "k8s:a.b/c"]
+    sets = [tuple(f"{key}={pick.choice(values)}" for key in keys if pick.random() < 0.6) for _ in range(40)]
+    index = label_index.LabelIndex(sets)
+    for source, key in (("any", "app"), ("k8s", "app"), ("k8s", "tier"), ("any", "init"), ("reserved", "init"), ("k8s", "init"), ("k8s", "a.b/c"), ("any", "none")):
+        for operator in policies.OPERATORS:
+            for listed in ((), ("a",), ("", "b"), ("c",)):
+                asked = (source, key, operator, listed)
+                told(f"{asked}", index.matching([asked]), {at for at, it in enumerate(sets) if policies.holds(asked, it)})
+    both = [("any", "app", "In", ["a"]), ("any", "tier", "NotIn", ["b"])]
+    told("two things", index.matching(both), {at for at, it in enumerate(sets) if all(policies.holds(one, it) for one in both)})
+    told("nothing asked", index.matching([]), set(range(40)))
+
+
 def checks():
     found = [pods_that_come, how_ends_that_come_are_written, a_default_deny_that_goes, two_pods_of_one_address, the_api_server, addresses_of_services, kinds_that_decide, what_is_marked]
-    return [*found, names_of_addresses, labels_that_change, two_whole_states, manifests_come_whole, what_the_state_lacks, what_kubectl_said, yaml_is_read]
+    return [labels_are_indexed, *found, names_of_addresses, labels_that_change, two_whole_states, manifests_come_whole, what_the_state_lacks, what_kubectl_said, yaml_is_read]

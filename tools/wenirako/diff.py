@@ -25,30 +25,36 @@ from .selecting import DIRECTIONS, EGRESS, Half
 from .states import States
 
 
-class Changed(NamedTuple):
-    """A stretch of a connection that changes, or of which a half changes, with its halves before and after."""
+class Stretch(NamedTuple):
+    """A stretch of ports in which a connection changes, or a half of it does, with its halves before and after."""
 
-    source: End
-    target: End
     protocol: str
     low: int
     high: int
     halves: tuple[tuple[Wanted, Wanted, Segment, Segment], ...]
+    # The verdicts before and after, and what isn't read and may turn one of them.
+    words: tuple[str, str]
     unsure: tuple[str, ...]
-
-    def word(self, phase: int) -> str:
-        words = [it[2 + phase].word for it in self.halves]
-        return BY_RULE if BY_RULE in words else next((it for it in words if it != ALLOWED), ALLOWED)
 
     @property
     def is_shown(self) -> bool:
         """Whether the connection changes, or may for what isn't read."""
-        return (self.word(0) == ALLOWED) != (self.word(1) == ALLOWED) or bool(self.unsure)
+        return (self.words[0] == ALLOWED) != (self.words[1] == ALLOWED) or bool(self.unsure)
 
     @property
     def is_half(self) -> bool:
         """Whether a half of it changes."""
         return any(before.is_allowed != after.is_allowed for *_, before, after in self.halves)
+
+
+# A connection by its ends, and a stretch of it.
+Changed = tuple[End, End, Stretch]
+
+
+def word_of(segments: Iterable[Segment]) -> str:
+    """The verdict on a connection by its halves'."""
+    words = [it.word for it in segments]
+    return BY_RULE if BY_RULE in words else next((it for it in words if it != ALLOWED), ALLOWED)
 
 
 class Diff:
@@ -61,12 +67,14 @@ class Diff:
 
     def find(self) -> list[Changed]:
         self.moved: dict[tuple, bool] = {}
+        self.kept: dict[tuple, list[Stretch]] = {}
         candidates = self.candidates()
         self.halves.ask(self.first(candidates), "asking about what may change")
         moving = [it for it in candidates if self.moves(*it)]
         self.halves.ask((it for pair in moving for phase in (0, 1) for it in wanted(*pair, phase)), "asking about other halves")
-        found = [it for pair in moving for it in self.changed(*pair)]
-        self.halves.explain((segment for it in found for half in it.halves for segment in half[2:]), "asking for reasons")
+        found = [(*pair, it) for pair in moving for it in self.changed(*pair)]
+        once = {id(it): it for *_, it in found}
+        self.halves.explain((segment for it in once.values() for half in it.halves for segment in half[2:]), "asking for reasons")
         return found
 
     def hold_unforeseen(self) -> None:
@@ -111,7 +119,7 @@ class Diff:
         return any(self.moves_in(*both) for both in self.touched(source, target))
 
     def moves_in(self, before: Wanted, after: Wanted) -> bool:
-        key = tuple((self.halves.key(*it), self.beside.number(*it[:3])) for it in (before, after)), before[1:] == after[1:]
+        key = self.kind(before, after)
         if key not in self.moved:
             found = profiles(self.halves, (before, after))
             self.moved[key] = bool(found) and any(self.halves.differ(before, after, *pair) for *_, pair in joined(found))
@@ -122,15 +130,25 @@ class Diff:
         numbers = [self.beside.number(*it[:3]) for it in (before, after)]
         return numbers[0] != numbers[1] or bool(numbers[0]) and before[1:] != after[1:]
 
-    def changed(self, source: End, target: End) -> Iterable[Changed]:
+    def changed(self, source: End, target: End) -> list[Stretch]:
+        """The stretches in which a connection changes, made once for all that are judged alike."""
         before, after = wanted(source, target, 0), wanted(source, target, 1)
+        key = tuple(map(self.kind, before, after))
+        if key not in self.kept:
+            self.kept[key] = [it for it in self.stretches(before, after) if it.is_shown or it.is_half]
+        return self.kept[key]
+
+    def kind(self, before: Wanted, after: Wanted) -> tuple:
+        """What the verdicts on a half depend on, and the doubts about them."""
+        return (*((self.halves.key(*it), self.beside.number(*it[:3])) for it in (before, after)), before[1:] == after[1:])
+
+    def stretches(self, before: list[Wanted], after: list[Wanted]) -> Iterable[Stretch]:
         found = profiles(self.halves, [*before, *after])
         for protocol, low, high, segments in joined(found) if found else ():
             halves = tuple(zip(before, after, segments, segments[len(before) :]))
             if any(self.halves.differ(*it) for it in halves):
-                it = Changed(source, target, protocol, low, high, halves, self.doubts(halves))
-                if it.is_shown or it.is_half:
-                    yield it
+                words = word_of(segments[: len(before)]), word_of(segments[len(before) :])
+                yield Stretch(protocol, low, high, halves, words, self.doubts(halves))
 
     def doubts(self, halves: tuple) -> tuple[str, ...]:
         """The names of what isn't read and may turn a verdict of the connection, before or after."""
@@ -141,14 +159,16 @@ class Diff:
 
     def lines(self, names: Names, is_shown: bool = True) -> list[Line]:
         """The connections that change; or those that don't, though a half of them does."""
-        rows = Rows()
-        for it in self.found:
+        rows, told = Rows(), {}
+        for source, target, it in self.found:
             if it.is_shown == is_shown:
-                rows.add(it.source, it.target, it.protocol, it.low, it.high, self.told(it))
+                if id(it) not in told:
+                    told[id(it)] = self.told(it)
+                rows.add(source, target, it.protocol, it.low, it.high, told[id(it)])
         return rows.lines(names)
 
-    def told(self, it: Changed) -> Told:
-        is_allowed = it.word(1) == ALLOWED
+    def told(self, it: Stretch) -> Told:
+        is_allowed = it.words[1] == ALLOWED
         texts = []
         for was, asked, before, after in sorted(it.halves, key=lambda half: half[1][2]):
             new = self.new(self.halves.half(*was[:3]), self.halves.half(*asked[:3]))
@@ -156,15 +176,16 @@ class Diff:
             if why:
                 texts.append(f"{asked[2]}: {why}")
         marked = [one for half in it.halves for one in self.states.marks(self.halves.why(half[3]).allows)] if is_allowed else []
-        return Told(it.word(0), it.word(1), tuple(texts), self.names_beside(it), it.unsure, tuple(dict.fromkeys(marked)))
+        return Told(*it.words, tuple(texts), self.names_beside(it), it.unsure, tuple(dict.fromkeys(marked)))
 
     def new(self, before: Half, after: Half) -> list[str]:
         """The policies that isolate after a change and didn't before."""
         old = {*before.rules}
         return list(dict.fromkeys(it.policy.name for it in after.rules if it not in old and after.direction in it.part.isolates()))
 
-    def names_beside(self, it: Changed) -> tuple[str, ...]:
+    def names_beside(self, it: Stretch) -> tuple[str, ...]:
         """The names whose addresses are reached beside the world, where the connection is with the world."""
-        if not any(isinstance(end, Outside) and end.kind == "region" and end.value == regions.WORLD for end in (it.source, it.target)):
+        sides = [half[0][3] for half in it.halves] if self.beside.has_names else []
+        if not any(isinstance(side, Outside) and side.kind == "region" and side.value == regions.WORLD for side in sides):
             return ()
         return self.beside.names_at((one[:3] for half in it.halves for one in half[:2]), it.protocol, it.low)

@@ -11,6 +11,7 @@ from __future__ import annotations
 from typing import Callable, Iterable, NamedTuple, Optional, Sequence, TypeVar, Union
 
 from lib import ports, regions
+from lib.label_index import LabelIndex
 
 from .beside import Beside, Plain, named, parted
 from .core import ALLOWED, Answer, Core, Misjudged, NoAnswer, Question
@@ -63,8 +64,8 @@ class Halves:
     def select(self, refused: set[str]) -> None:
         """Works out who selects whom, where the core refuses these policies."""
         self.core.refused = refused
-        interned = Interned()
-        self.selections = [Selection(self.universe.sets, it, refused, interned) for it in self.policies]
+        interned, index = Interned(), LabelIndex([it.labels for it in self.universe.sets])
+        self.selections = [Selection(index, it, refused, interned) for it in self.policies]
         self.profiles: dict[tuple, Profile] = {}
         self.pending: dict[tuple, dict] = {}
         self.stand_ins: dict[Half, tuple[int, int]] = {}

@@ -5,7 +5,10 @@ something isolates it, and each entry that an answer names must be of a rule tha
 """
 from __future__ import annotations
 
-from typing import Any, Iterable, NamedTuple, Sequence
+from typing import Any, Iterable, NamedTuple
+
+from lib.label_index import LabelIndex
+from lib.policies import NAMESPACE_KEY
 
 EGRESS, INGRESS = "egress", "ingress"
 DIRECTIONS = (EGRESS, INGRESS)
@@ -43,6 +46,12 @@ class Rule(NamedTuple):
         return hash(self.line)
 
 
+def selected(index: LabelIndex, part: Any) -> frozenset[int]:
+    """The sets of labels that some rule of a policy selects; a subject that isn't read may select each of its namespace."""
+    of_namespace = [("k8s", NAMESPACE_KEY, "In", [part.namespace])] if part.namespace else []
+    return frozenset().union(*(index.matching(of_namespace if it is None else it) for it in part.subjects()))
+
+
 class Half:
     """A direction with the rules that select an endpoint and say something of it: endpoints of one half are judged alike.
 
@@ -72,25 +81,17 @@ class Interned:
 class Selection:
     """The rules of one state of policies, and the sets of labels that each selects."""
 
-    def __init__(self, sets: Sequence, policies: Iterable, refused: set[str], interned: Interned):
+    def __init__(self, index: LabelIndex, policies: Iterable, refused: set[str], interned: Interned):
+        """`index` has the sets of labels."""
         self.rules = [Rule(part.line, part, it) for it in policies if it.line not in refused for part in it.parts()]
-        self.by_namespace: dict[str, list[int]] = {}
-        for at, it in enumerate(sets):
-            self.by_namespace.setdefault(it.namespace, []).append(at)
         selecting: dict[tuple[int, str], list[Rule]] = {}
         for rule in self.rules:
             ways = rule.part.directions()
-            for at in self.candidates(rule, len(sets)):
-                if ways and rule.part.selects(sets[at].labels):
-                    for direction in ways:
-                        selecting.setdefault((at, direction), []).append(rule)
+            for at in sorted(selected(index, rule.part)) if ways else ():
+                for direction in ways:
+                    selecting.setdefault((at, direction), []).append(rule)
         self.halves = {key: interned.half(key[1], tuple(found)) for key, found in selecting.items()}
         self.free = {it: interned.half(it, ()) for it in DIRECTIONS}
-
-    def candidates(self, rule: Rule, count: int) -> Iterable[int]:
-        """The sets that it may select: a policy of a namespace selects nobody of another one."""
-        namespace = rule.part.namespace
-        return self.by_namespace.get(namespace, ()) if namespace else range(count)
 
     def half(self, at: int, direction: str) -> Half:
         return self.halves.get((at, direction)) or self.free[direction]

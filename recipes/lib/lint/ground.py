@@ -5,8 +5,9 @@ import dataclasses
 import functools
 import typing
 
+from ..label_index import LabelIndex
 from ..pods import CLUSTER_KEY, CORE_CLUSTER, NAMESPACE_KEY, OWN_PREFIX
-from ..policies import holds, requirements
+from ..policies import requirements
 from ..rewriting import clusters, network, rules
 from ..rewriting.results import Rewritten
 from ..rewriting.requires import says_namespace
@@ -52,14 +53,11 @@ class Ground:
             by_labels.setdefault(it.labels, []).append(it)
         self.sets = list(by_labels)
         self.of_set = list(by_labels.values())
-        self.kept: typing.Dict[Asked, frozenset] = {}
+        self.index = LabelIndex(self.sets)
 
-    def matching(self, asked: typing.Iterable[tuple]) -> frozenset:
-        """The numbers of the sets of labels of which something asked is so."""
-        key = tuple((*it[:3], tuple(it[3])) for it in asked)
-        if key not in self.kept:
-            self.kept[key] = frozenset(at for at, labels in enumerate(self.sets) if all(holds(it, labels) for it in key))
-        return self.kept[key]
+    def matching(self, asked: typing.Iterable[tuple]) -> typing.FrozenSet[int]:
+        """The numbers of the sets of labels of which all that is asked is so."""
+        return self.index.matching(asked)
 
     def pods_of(self, sets: typing.Iterable[int]) -> list:
         """The pods of sets of labels, but for those that stand for any other pod of a namespace."""
