@@ -497,6 +497,15 @@ def modules_are_small(_, wrong):
         told(wrong, f"functions of {path.name} without a type", [it for it in bare if not it.startswith("_")], [])
 
 
+def one_formatter_lays_them_out(_, wrong):
+    """`black` has nothing to change, where it is there."""
+    if shutil.which("black") is None:
+        print("left out, since black isn't there: the layout of tools and recipes")
+        return
+    done = subprocess.run(["black", "--check", "-q", "tools", "recipes", "tools/release", "recipes/from-kubectl", "recipes/what-if"], cwd=TOP)
+    told(wrong, "whether black would change something: `black tools recipes`", done.returncode, 0)
+
+
 def random_changes_are_told(_, wrong):
     for seed in (1, 2):
         wrong += front_random.play(seed)[0]
@@ -514,5 +523,5 @@ def checks():
     found += (two_states_are_compared, slips_are_asked_of_the_bridge, workloads_and_namespaces, what_is_not_sure_is_marked)
     found += (what_comes_unread_marks_all_that_it_may_change, names_are_ends, words_agree, bash_completes, kubectl_is_asked)
     found += (children_end_too, other_programs_are_not_asked, progress_lives, ports_are_read, unions_and_flat_ranges)
-    found += (forms_are_safe, flows_are_read, modules_are_small, random_changes_are_told)
+    found += (forms_are_safe, flows_are_read, modules_are_small, one_formatter_lays_them_out, random_changes_are_told)
     return [(f"front door {it.__name__.replace('_', ' ')}", lambda it=it: run(it)) for it in found]

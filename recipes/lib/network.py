@@ -4,7 +4,6 @@ from __future__ import annotations
 import typing
 
 from .policies import NAMESPACE_KEY, Asked, Policy, asked_of_subject
-from .reading import line_of
 
 API, KIND = "networking.k8s.io/v1", "NetworkPolicy"
 SECTIONS = {"ingress": "Ingress", "egress": "Egress"}

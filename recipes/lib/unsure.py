@@ -4,7 +4,6 @@ from __future__ import annotations
 import typing
 
 
-
 def of_half(answer: typing.Any, listed: typing.Sequence) -> list:
     """The unread things among those that touch a half that may turn its verdict."""
     if answer.is_allowed:

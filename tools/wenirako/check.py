@@ -10,7 +10,7 @@
 from __future__ import annotations
 
 import re
-from typing import Iterable, NamedTuple, Optional
+from typing import Iterable, NamedTuple
 
 from lib.reading import Bad
 

@@ -2,7 +2,6 @@
 from __future__ import annotations
 
 import json
-from typing import Iterable
 
 from .coarse import union
 from .core import ALLOWED

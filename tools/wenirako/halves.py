@@ -105,8 +105,7 @@ class Halves:
             if remote is not None:
                 phase, at = self.stand_ins.setdefault(half, (phase, at))
                 self.pending[key] = {
-                    protocol: [(low, high, Question(phase, at, direction, remote, protocol, low)) for low, high in cuts.items()]
-                    for protocol, (cuts, _) in self.stretches(half).items()
+                    protocol: [(low, high, Question(phase, at, direction, remote, protocol, low)) for low, high in cuts.items()] for protocol, (cuts, _) in self.stretches(half).items()
                 }
                 asked.update(it for each in self.pending[key].values() for _, _, it in each)
                 asked.add(Question(phase, at, direction, NOBODY, "TCP", 0))

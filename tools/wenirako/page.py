@@ -55,5 +55,3 @@ def numbers(side: Iterable, ends: dict[tuple[str, str], int]) -> list[int]:
     """The numbers of an end's workloads; new ones are given a number."""
     places = sorted({place for end in side for place in places_of(end)})
     return [ends.setdefault(it, len(ends)) for it in places]
-
-

@@ -89,8 +89,7 @@ def build(say: Callable[[str], None], progress: Progress) -> None:
 
 
 def version() -> str:
-    """What `--version` says: the commit, the kit, and what the program is."""
-    told = manifest()
+    """What `--version` says: the commit, and what the program is."""
     try:
         standing = there()
         what = standing.origin if standing else "not built yet: the first question builds it without proof"

@@ -166,4 +166,3 @@ def pairs(halves: Halves, sources: Named, targets: Named, phase: int = 0) -> Ite
     for target in there:
         at = target.at(phase)
         yield from ((it, target) for it in sources.outside(halves, (phase, at, INGRESS)))
-

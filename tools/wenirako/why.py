@@ -41,7 +41,9 @@ def told(asked: Asked, ends: list[Named], ports, phase: int) -> Report:
         verdict = (it.word if was == it.word else f"{it.word}, and {was} before") + (f", unsure: {', '.join(unsure)} isn't read whole" if unsure else "")
         cells += [[*written, verdict, of_whom(direction, written), segment.word, why] for direction, (segment, why) in sorted(halves.items())]
         parts = [{"direction": direction, "verdict": segment.word, "reason": why} for direction, (segment, why) in sorted(halves.items())]
-        rows.append({"from": listed(froms), "to": listed(tos), "protocol": it.protocol, "port": it.low, "before": was, "verdict": it.word, "halves": parts, **({"unsure": list(unsure)} if unsure else {})})
+        rows.append(
+            {"from": listed(froms), "to": listed(tos), "protocol": it.protocol, "port": it.low, "before": was, "verdict": it.word, "halves": parts, **({"unsure": list(unsure)} if unsure else {})}
+        )
     status = UNSURE if doubts else NOTHING if words == {"allowed"} else TELLS
     return Report("why", summary(ends, ports, words), HEADS, cells, rows, asked.notes(), status)
 

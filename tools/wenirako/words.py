@@ -99,7 +99,9 @@ def help_text() -> str:
 def parser_of(command: str, name: str) -> Parser:
     """The parser of a question's words."""
     question = QUESTIONS[name]
-    parser = Parser(prog=command, usage=f"{command} {name} {' '.join([*question.places, '[--state FILE]', '[WORD ..]'])}", description=f"Asks {question.about}.", allow_abbrev=False, formatter_class=Wide)
+    parser = Parser(
+        prog=command, usage=f"{command} {name} {' '.join([*question.places, '[--state FILE]', '[WORD ..]'])}", description=f"Asks {question.about}.", allow_abbrev=False, formatter_class=Wide
+    )
     for place in question.places:
         parser.add_argument(dest_of(place), metavar=place, help=PLACES[place])
     for option in (*COMMON, *question.options):

@@ -12,7 +12,7 @@ from ..policies import NAMESPACED, Policy
 from ..unread import SECTIONS, SHAPES
 from . import network, rules
 from .results import Names, Rewritten, Unsure  # noqa: F401
-from .work import Refused, Work
+from .work import Refused, Rule, Work
 
 if typing.TYPE_CHECKING:
     from ..state import State
@@ -49,7 +49,7 @@ def note_unknown(work: Work, form: str) -> None:
         work.rules_are_unsure(document, "unknown-member", name, work.policy.rules())
 
 
-def assembled(work: Work, made: list, name: str) -> Policy:
+def assembled(work: Work, made: typing.List[Rule], name: str) -> Policy:
     """The policy of rules that were rewritten, and the places of its entries as they were written."""
     policy = work.policy
     documents = [it.document() for it in made]
@@ -67,7 +67,7 @@ def assembled(work: Work, made: list, name: str) -> Policy:
     return found
 
 
-def note_places(work: Work, made: list, name: str) -> None:
+def note_places(work: Work, made: typing.List[Rule], name: str) -> None:
     """Notes where each entry of an answer stands in the policy as it was written."""
     front = "" if work.policy.namespace else "/"
     for number, rule in enumerate(made):

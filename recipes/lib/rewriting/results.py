@@ -5,7 +5,7 @@ import collections
 import dataclasses
 import typing
 
-from ..policies import NAMESPACE_KEY, holds
+from ..policies import NAMESPACE_KEY, Policy, holds
 
 
 @dataclasses.dataclass(frozen=True)
@@ -64,10 +64,10 @@ class Names:
 class Rewritten:
     """A policy as policyd is given it. `policy` is it as it was written."""
 
-    policy: object
+    policy: Policy
     # What is applied in its place: most often one policy, none where no rule of it can be in force. Each has `whole`,
     # which is `policy`.
-    parts: list = dataclasses.field(default_factory=list)
+    parts: typing.List[Policy] = dataclasses.field(default_factory=list)
     # A place of an answer, such as `pay/web#0.ingress[1]`, and the place in the policy as it was written.
     places: typing.Dict[str, str] = dataclasses.field(default_factory=dict)
     # Marks of entries by their places as written: `L7`, `auth`, `nodes`.

@@ -5,8 +5,11 @@ import dataclasses
 import json
 import typing
 
-from ..policies import DIRECTIONS, requirements
+from ..policies import DIRECTIONS, Policy, requirements
 from .results import Names, Rewritten, Unsure
+
+if typing.TYPE_CHECKING:
+    from ..state import State
 
 MARKS = ("L7", "auth", "nodes")
 
@@ -45,8 +48,8 @@ class Rule:
 class Work:
     """A rewriting that goes on."""
 
-    policy: object
-    state: object
+    policy: Policy
+    state: State
     found: Rewritten
     # The place of the entry that is being rewritten, its direction, whether it denies, and what its subject asks.
     place: str = ""
