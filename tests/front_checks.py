@@ -319,7 +319,7 @@ def words_agree(folder, wrong):
     for name in words.QUESTIONS:
         status, out, _ = door.call(name, "--help")
         told(wrong, f"the help of {name}", (status, len(out.splitlines()) <= 24), (0, True))
-    for given, what in ((["diff", "--state", "lost", *BOTH], "lost: No such file"), (["list", *STATE, "--from", "lost"], "--from: lost names nobody"), (["list", *STATE, "--node", "n9"], "--node n9: no pod")):
+    for given, what in ((["diff", "--state", "lost", *BOTH], "lost: No such file"), (["list", *STATE, "--from", "lost"], "--from: lost names nobody"), (["why", "shop/node-logger-w4m2c", "pay/ledger-0", "TCP/1", *STATE], "FROM: shop/node-logger-w4m2c is on the host's network, so it stands with its node: name it `host` for the pods of east-1, and `remote-node` for those of other nodes"), (["list", *STATE, "--node", "n9"], "--node n9: no pod")):
         status, out, err = door.call(*given)
         told(wrong, f"at {given}", (status, out, err.startswith(f"wenirako: {what}")), (1, "", True))
     told(wrong, "with no word of a script", door.call("play")[0], 2)

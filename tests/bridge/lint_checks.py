@@ -119,6 +119,8 @@ def entries_that_change_nothing(told):
     found = slips(wide, policy("pay/p", rule(egress=[CART])), only={("CiliumNetworkPolicy", "pay", "p")})
     told("all of a policy", found[-1], ("policy-without-effect", "pay/p changes nothing: each of its entries is covered by another policy's"))
     twins = [policy(f"pay/{it}", rule(egress=[CART])) for it in "ab"]
+    unread = policy("pay/a", {**rule(egress=[CART]), "news": 1})
+    told("of twins, one of which isn't read whole", [text for kind, text in slips(unread, twins[1]) if kind == "entry-changes-nothing"], [])
     told("of twins the second", [text for kind, text in slips(*twins) if kind == "entry-changes-nothing"], ["pay/b#0.egress[0] changes nothing: pay/a#0.egress[0] allows it already"])
 
 

@@ -31,6 +31,7 @@ MORE = (
     "cronjobs.batch",
     "adminnetworkpolicies.policy.networking.k8s.io",
     "baselineadminnetworkpolicies.policy.networking.k8s.io",
+    "clusternetworkpolicies.policy.networking.k8s.io",
 )
 ALL_NAMESPACES = "-A"
 ABSENT = re.compile(r"the server doesn't have a resource type|could not find the requested resource|no matches for kind", re.I)

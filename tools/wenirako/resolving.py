@@ -14,7 +14,7 @@ from lib.reading import Bad
 
 from .ends import ENTITIES, End, Group, Outside, Universe, entity
 from .halves import Halves
-from .naming import ANY_OTHER
+from .naming import ANY_OTHER, NAMED_MOST, some
 from .selecting import EGRESS, INGRESS
 
 NUMBERS = {name: number for number, name in ENTITIES.items()}
@@ -53,8 +53,19 @@ def named(universe: Universe, text: str, place: str) -> Named:
         return of_addresses(universe, text, network, place)
     groups = restricted(universe.groups, wanted(text))
     if not groups:
-        raise Bad(f"{place}: {text} names nobody: {close_to(universe, text)}")
+        raise Bad(f"{place}: {text} {of_the_host(universe, text) or f'names nobody: {close_to(universe, text)}'}")
     return Named(text, groups, [])
+
+
+def of_the_host(universe: Universe, text: str) -> str:
+    """What stands for pods that are on the host's network alone, where a text names these; empty where it names none."""
+    cluster = universe.states[-1].cluster
+    pods = [it for it in cluster.pods.values() if it.is_host and wanted(text)(it)]
+    if not pods:
+        return ""
+    others = sorted({"kube-apiserver" if it.node in cluster.api_nodes else "remote-node" for it in pods})
+    nodes = sorted({it.node for it in pods})
+    return f"is on the host's network, so it stands with its node: name it `host` for the pods of {some(nodes, NAMED_MOST)}, and {' or '.join(f'`{it}`' for it in others)} for those of other nodes"
 
 
 def network_of(text: str) -> Optional[ipaddress.IPv4Network]:

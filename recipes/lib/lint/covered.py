@@ -33,6 +33,8 @@ class Cover:
     prefixes: tuple
     ranges: dict
     is_marked: bool
+    # Whether its rule is read whole.
+    is_sure: bool
 
     def has(self, other: "Cover") -> bool:
         """Whether all that the other covers is covered."""
@@ -62,7 +64,7 @@ def holds_prefix(mine: tuple, other: tuple) -> bool:
 def of_policy(ground: Ground, policy: Policy) -> Found:
     """The entries of a policy that another one covers, and the policy where that is so of all of them."""
     listed = covers(ground)
-    mine = [it for it in listed if it.policy == policy.name]
+    mine = [it for it in listed if it.policy == policy.name and it.is_sure]
     told = [(it, other) for it in mine for other in [other_of(listed, it)] if other]
     for it, other in told:
         word = "denies" if other.denies else "allows"
@@ -75,7 +77,7 @@ def of_policy(ground: Ground, policy: Policy) -> Found:
 def other_of(listed: typing.List[Cover], mine: Cover) -> typing.Optional[Cover]:
     """The first other entry that covers all of one: a deny covers an allow too."""
     for it in listed:
-        if it is mine or mine.denies and not it.denies or it.is_marked and not it.denies or not it.has(mine):
+        if it is mine or mine.denies and not it.denies or it.is_marked and not it.denies or not it.is_sure or not it.has(mine):
             continue
         is_same = it.denies == mine.denies and mine.has(it)
         if not is_same or it.order < mine.order:
@@ -106,7 +108,7 @@ def of_part(ground: Ground, whole: Rewritten, part: Policy, marked: typing.Conta
                 place = whole.places.get(answer, answer.lstrip("/"))
                 value = {name: it for name, it in entry.items() if name}
                 order += 1
-                yield place, cover_of(ground, part, place, order, whole.policy.name, section, subject, value, place in marked)
+                yield place, cover_of(ground, part, place, order, whole, section, subject, value, place in marked)
 
 
 def rules_of(ground: Ground, part: Policy) -> typing.List[dict]:
@@ -116,7 +118,7 @@ def rules_of(ground: Ground, part: Policy) -> typing.List[dict]:
     return [rule for _, rule in ground.rules(part)]
 
 
-def cover_of(ground: Ground, part: Policy, place: str, order: int, policy: str, section: str, subject: frozenset, value: dict, is_marked: bool) -> Cover:
+def cover_of(ground: Ground, part: Policy, place: str, order: int, whole: Rewritten, section: str, subject: frozenset, value: dict, is_marked: bool) -> Cover:
     word = "from" if section.startswith("ingress") else "to"
     peers = [name for name in value if name.startswith(word) and name != "toPorts"]
     sets = frozenset().union(*(ground.matching(ground.peer(part, it)[0]) for it in value.get(f"{word}Endpoints") or []))
@@ -131,4 +133,5 @@ def cover_of(ground: Ground, part: Policy, place: str, order: int, policy: str, 
     named = frozenset(it for it in entities if it not in ("all", "cluster"))
     # (an entry that covers nothing is no slip here: it isolates)
     subject = frozenset() if is_nothing or not (is_every or sets or named or prefixes) else subject
-    return Cover(place, order, policy, section.replace("Deny", ""), section.endswith("Deny"), subject, is_every, sets, named, tuple(prefixes), ranges, is_marked)
+    is_sure = not any(it.isolates for it in whole.unsure)
+    return Cover(place, order, whole.policy.name, section.replace("Deny", ""), section.endswith("Deny"), subject, is_every, sets, named, tuple(prefixes), ranges, is_marked, is_sure)
