@@ -61,11 +61,13 @@ class Diff:
     """The connections that change, and those of which a half alone does."""
 
     def __init__(self, states: States, halves: Halves):
-        self.states, self.halves, self.universe, self.beside = states, halves, halves.universe, halves.beside
+        self.states, self.halves, self.universe = states, halves, halves.universe
         self.found: list[Changed] = halves.foreseen(self.find)
         self.hold_unforeseen()
 
     def find(self) -> list[Changed]:
+        # (what isn't read is known anew where the core refuses what was thought to be read)
+        self.beside = self.halves.beside
         self.moved: dict[tuple, bool] = {}
         self.kept: dict[tuple, list[Stretch]] = {}
         candidates = self.candidates()

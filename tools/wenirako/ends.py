@@ -5,6 +5,7 @@ import ipaddress
 from typing import Iterable, NamedTuple, Optional, Sequence, Union
 
 from lib import regions
+from lib.rewriting import Unsure
 
 from .selecting import Half
 
@@ -101,6 +102,14 @@ class Universe:
             self.sets.append(LabelSet(labels, namespace, str(ipaddress.ip_address(SPARE + at))))
             self.taken.add(number_of(self.sets[at].address))
         return self.numbers[labels]
+
+    def mistrust(self, policies: Iterable) -> None:
+        """Takes policies that the core refuses, and that were thought to be read, for such that aren't."""
+        for part in policies:
+            found = Unsure(part.name, "policyd refused it", "", isolates=True, selector=part.selects, said=part.line)
+            for state in self.states:
+                if any(it.line == part.line for it in state.parts()):
+                    state.all_unsure.append(found)
 
     def group(self, pairs: Sequence[tuple]) -> None:
         found: dict[tuple, list] = {}
