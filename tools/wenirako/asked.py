@@ -52,9 +52,19 @@ class About:
     def __init__(self, asked: Asked, pairs: Sequence[tuple[End, End]], ports: PortRange, phase: int, is_open: Optional[bool]):
         self.asked, self.pairs, self.ports, self.phase, self.is_open = asked, pairs, ports, phase, is_open
         self.kept: dict[tuple, list[Stretch]] = {}
-        self.by_pair: dict[tuple[End, End], list[Stretch]] = {}
-        halves = asked.halves
-        halves.ask((it for pair in pairs for it in wanted(*pair, phase)), "asking about connections")
+        self.kinds: dict[int, tuple[int, End]] = {}
+        # (of all connections between ends of two kinds one is asked about)
+        alike = {self.kind(*pair): pair for pair in pairs}
+        asked.halves.ask((it for pair in alike.values() for it in wanted(*pair, phase)), "asking about connections")
+
+    def kind(self, *pair: End) -> tuple[int, ...]:
+        """What the verdicts on a connection depend on: the numbers of its ends' kinds."""
+        kinds = self.kinds
+        for it in pair:
+            if id(it) not in kinds:
+                # (the end is kept too, so that no other has its place in memory)
+                kinds[id(it)] = (self.asked.halves.kind(self.phase, it), it)
+        return kinds[id(pair[0])][0], kinds[id(pair[1])][0]
 
     def explain(self, found: Iterable[Stretch]) -> None:
         """Asks for the reasons of stretches."""
@@ -63,20 +73,18 @@ class About:
 
     def stretches(self, source: End, target: End) -> list[Stretch]:
         """The stretches of a connection that are asked for, made once for all that are judged alike."""
-        found = self.by_pair.get((source, target))
+        kind = self.kind(source, target)
+        found = self.kept.get(kind)
         if found is None:
-            found = self.by_pair[source, target] = self.judged(source, target)
+            found = self.kept[kind] = list(self.judged(source, target))
         return found
 
-    def judged(self, source: End, target: End) -> list[Stretch]:
-        halves, asked = self.asked.halves, wanted(source, target, self.phase)
+    def judged(self, source: End, target: End) -> Iterable[Stretch]:
+        halves = self.asked.halves
         # (most connections of an isolated pod are denied whole, and need no look at each stretch)
-        if self.is_open is True and any(halves.is_shut(*it) for it in asked):
-            return []
-        keys = tuple(halves.key(*it) for it in asked)
-        if keys not in self.kept:
-            self.kept[keys] = list(self.cut(stretches(halves, source, target, self.phase)))
-        return self.kept[keys]
+        if self.is_open is True and any(halves.is_shut(*it) for it in wanted(source, target, self.phase)):
+            return ()
+        return self.cut(stretches(halves, source, target, self.phase))
 
     def cut(self, found: Iterable[Stretch]) -> Iterable[Stretch]:
         for it in found:

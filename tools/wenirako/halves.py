@@ -13,17 +13,18 @@ from typing import Callable, Iterable, NamedTuple, Optional, Sequence, TypeVar, 
 from lib import ports, regions
 from lib.label_index import LabelIndex
 
+from . import mentions
 from .beside import Beside, Plain, named, parted
 from .core import ALLOWED, Answer, Core, Misjudged, NoAnswer, Question
-from .ends import Outside, Universe, inside
+from .ends import End, Outside, Universe, inside
 from .mentions import Mentions
 from .reasons import isolating
-from .selecting import Half, Interned, Selection
+from .selecting import DIRECTIONS, Half, Interned, Selection
 
 # A number that nobody has.
 NOBODY = ("identity", 4_294_967_295)
 
-Made = TypeVar("Made")
+Given, Made = TypeVar("Given"), TypeVar("Made")
 # The other side of a half: the number of a set of labels, or what isn't a pod.
 Side = Union[int, Outside]
 
@@ -72,6 +73,7 @@ class Halves:
         self.words: dict[Question, str] = {}
         self.answers: dict[Question, Answer] = {}
         self.kept: dict[tuple, object] = {}
+        self.kinds: dict[tuple, int] = {}
 
     def reselect(self) -> None:
         """To be called where the universe has more sets of labels than before."""
@@ -195,11 +197,11 @@ class Halves:
 
     # What is alike.
 
-    def once(self, make: Callable[[Half], Made], half: Half) -> Made:
-        """What is made of a half, made once."""
-        key = (make, half)
+    def once(self, make: Callable[[Given], Made], given: Given) -> Made:
+        """What is made of something, a half say, made once."""
+        key = (make, given)
         if key not in self.kept:
-            self.kept[key] = make(half)
+            self.kept[key] = make(given)
         return self.kept[key]
 
     def stretches(self, half: Half) -> dict:
@@ -211,8 +213,24 @@ class Halves:
             return side if side.kind != "name" else Outside("region", side.region, side.prefixes)
         key = (half, side)
         if key not in self.kept:
-            self.kept[key] = self.once(Mentions, half).seen(self.universe.sets[side].labels)
+            self.kept[key] = self.once(mentions.of_half, half).seen(self.universe.sets[side].labels)
         return self.kept[key]
+
+    def kind(self, phase: int, end: End) -> int:
+        """A number that is the same for ends that all halves of a state judge alike, at either side."""
+        if isinstance(end, Outside):
+            return self.kinds.setdefault((end,), len(self.kinds))
+        at = end.at(phase)
+        key = ("kind", phase, at)
+        if key not in self.kept:
+            ways = [(self.half(phase, at, it), self.beside.number(phase, at, it), *((one.place, one.names) for one in self.beside.names(phase, at, it))) for it in DIRECTIONS]
+            told_apart = self.once(self.mentioned, phase).seen(self.universe.sets[at].labels)
+            self.kept[key] = self.kinds.setdefault((phase, told_apart, *ways), len(self.kinds))
+        return self.kept[key]
+
+    def mentioned(self, phase: int) -> Mentions:
+        """What all rules of a state name at their other sides."""
+        return Mentions(self.selections[phase].rules, DIRECTIONS)
 
     def remote(self, side: Side) -> Optional[tuple]:
         if not isinstance(side, Outside):

@@ -52,9 +52,9 @@ def found(asked: Asked, listed_pairs: list[tuple[End, End]], ports: PortRange) -
 def may_be_open(asked: Asked, listed_pairs: list[tuple[End, End]], ports: PortRange, rows: Rows) -> None:
     """Adds what is denied by what is read, and may be open for what isn't."""
     beside = asked.halves.beside
-    touched = [pair for pair in listed_pairs if any(beside.number(*it[:3]) for it in wanted(*pair, 0))]
-    if not touched:
+    if not beside.has_doubts:
         return
+    touched = [pair for pair in listed_pairs if any(beside.number(*it[:3]) for it in wanted(*pair, 0))]
     about = asked.about(touched, ports, is_open=False, explains=False)
     doubted = [(pair, it, doubts) for pair in touched for it in about.stretches(*pair) for doubts in [about.unsure(*pair, it)] if doubts]
     about.explain(it for _, it, _ in doubted)

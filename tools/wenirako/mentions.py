@@ -8,7 +8,7 @@ from __future__ import annotations
 import functools
 from typing import Iterable, Sequence
 
-from .selecting import Half
+from .selecting import Half, Rule
 
 NAMESPACE_KEY = "io.kubernetes.pod.namespace"
 NAMESPACE_LABELS = "io.cilium.k8s.namespace.labels."
@@ -18,13 +18,15 @@ CLUSTER_KEY = "io.cilium.k8s.policy.cluster"
 
 
 class Mentions:
-    """The keys that a half's rules name at the other side, and the values that they list of each."""
+    """The keys that rules name at the other side, and the values that they list of each."""
 
-    def __init__(self, half: Half):
+    def __init__(self, rules: Iterable[Rule], directions: Iterable[str]):
+        """`directions` has those whose sections are looked at."""
+        rules = list(rules)
         # (a selector without a namespace is bound to its policy's, and the entity `cluster` is a label's value)
-        self.values: dict[str, set[str]] = {NAMESPACE_KEY: {it.part.namespace for it in half.rules}, CLUSTER_KEY: {"default"}}
-        for rule in half.rules:
-            for section in rule.sections(half.direction):
+        self.values: dict[str, set[str]] = {NAMESPACE_KEY: {it.part.namespace for it in rules}, CLUSTER_KEY: {"default"}}
+        for rule in rules:
+            for section in (it for direction in directions for it in rule.sections(direction)):
                 self.walk(section)
         # (a NetworkPolicy's namespaceSelector names the keys of namespaces' labels)
         for it in [it for it in self.values if not it.startswith(NAMESPACE_LABELS)]:
@@ -53,6 +55,11 @@ class Mentions:
         """What is seen of labels: of each that is named, its value where that is listed, and else that it is there."""
         values = by_key(tuple(labels))
         return tuple((value if value in listed else THERE) if value is not None else None for value, listed in ((values.get(key), listed) for key, listed in self.listed))
+
+
+def of_half(half: Half) -> Mentions:
+    """What the rules of a half name."""
+    return Mentions(half.rules, (half.direction,))
 
 
 @functools.lru_cache(maxsize=None)
