@@ -6,11 +6,12 @@ that were proved, and of the program that was built from them; and behind them, 
 saw refused. A build without such a note, or whose sources or program have changed since, is never used.
 
     tests/program.py sources      prints the checksum of the sources as they stand
-    tests/program.py keep SUM [EDITS]
-        after `rt ci` passed, with EDITS refused: notes its build, where the sources still have that checksum
+    tests/program.py keep SUM [LOG]
+        after `rt ci` passed, whose words are in the file LOG: notes its build, where the sources still have that checksum
 """
 import hashlib
 import pathlib
+import re
 import subprocess
 import sys
 import time
@@ -83,6 +84,12 @@ def edits_refused():
     return int(told[0]) if told else None
 
 
+def refused_in(said):
+    """How many must-fail edits `rt ci` says were refused, as it says it last; empty where it tells of none."""
+    found = re.findall(r"must-fail edits: (\d+) refused", said)
+    return found[-1] if found else ""
+
+
 def keep(before, edits=""):
     """Notes that the program was proved and built from sources of that checksum; no, where they aren't those any more.
 
@@ -122,7 +129,7 @@ def main(words):
         print(sources())
         return 0
     if len(words) in (2, 3) and words[0] == "keep":
-        if keep(*words[1:]):
+        if keep(words[1], *(refused_in(pathlib.Path(it).read_text(errors="replace")) for it in words[2:])):
             return 0
         print("the sources of policyd changed while they were proved, or it wasn't built: run this again", file=sys.stderr)
         return 1
