@@ -9,7 +9,7 @@ is shown too, and marked, though both verdicts are alike.
 """
 from __future__ import annotations
 
-from typing import Iterable, NamedTuple
+from typing import Iterable, NamedTuple, Optional
 
 from lib import regions
 from lib.reading import Bad
@@ -47,6 +47,13 @@ class Stretch(NamedTuple):
         return any(before.is_allowed != after.is_allowed for *_, before, after in self.halves)
 
 
+def new_of(halves: tuple[Half, Half]) -> list[str]:
+    """The policies that isolate after a change and didn't before."""
+    before, after = halves
+    old = {*before.rules}
+    return list(dict.fromkeys(it.policy.name for it in after.rules if it not in old and after.direction in it.part.isolates()))
+
+
 # A connection by its ends, and a stretch of it.
 Changed = tuple[End, End, Stretch]
 
@@ -70,6 +77,7 @@ class Diff:
         self.beside = self.halves.beside
         self.moved: dict[tuple, bool] = {}
         self.kept: dict[tuple, list[Stretch]] = {}
+        self.texts: dict[tuple, Optional[str]] = {}
         candidates = self.candidates()
         self.halves.ask(self.first(candidates), "asking about what may change")
         moving = [it for it in candidates if self.moves(*it)]
@@ -91,7 +99,7 @@ class Diff:
 
     def candidates(self) -> list[tuple[End, End]]:
         """Pairs of a source and a target of which a half may change."""
-        groups = [it for it in self.universe.groups if it.before is not None and it.after is not None]
+        groups = self.halves.merged(it for it in self.universe.groups if it.before is not None and it.after is not None)
         relabelled = [it for it in groups if it.before != it.after]
         found: dict[tuple[End, End], None] = {}
         for direction in DIRECTIONS:
@@ -171,19 +179,19 @@ class Diff:
 
     def told(self, it: Stretch) -> Told:
         is_allowed = it.words[1] == ALLOWED
-        texts = []
-        for was, asked, before, after in sorted(it.halves, key=lambda half: half[1][2]):
-            new = self.new(self.halves.half(*was[:3]), self.halves.half(*asked[:3]))
-            why = of_change(self.halves.why(before), self.halves.why(after), is_allowed, new, self.states.written)
-            if why:
-                texts.append(f"{asked[2]}: {why}")
+        texts = [text for half in sorted(it.halves, key=lambda half: half[1][2]) for text in [self.text(*half, is_allowed)] if text]
         marked = [one for half in it.halves for one in self.states.marks(self.halves.why(half[3]).allows)] if is_allowed else []
         return Told(*it.words, tuple(texts), self.names_beside(it), it.unsure, tuple(dict.fromkeys(marked)))
 
-    def new(self, before: Half, after: Half) -> list[str]:
-        """The policies that isolate after a change and didn't before."""
-        old = {*before.rules}
-        return list(dict.fromkeys(it.policy.name for it in after.rules if it not in old and after.direction in it.part.isolates()))
+    def text(self, was: Wanted, asked: Wanted, before: Segment, after: Segment, is_allowed: bool) -> Optional[str]:
+        """What decides a half, where that decides its connection; worked out once for two segments."""
+        # (segments are kept by their halves' profiles and by the stretches that have them, so none takes another's place)
+        key = id(before), id(after), is_allowed
+        if key not in self.texts:
+            new = self.halves.once(new_of, (self.halves.half(*was[:3]), self.halves.half(*asked[:3])))
+            why = of_change(self.halves.why(before), self.halves.why(after), is_allowed, new, self.states.written)
+            self.texts[key] = f"{asked[2]}: {why}" if why else None
+        return self.texts[key]
 
     def names_beside(self, it: Stretch) -> tuple[str, ...]:
         """The names whose addresses are reached beside the world, where the connection is with the world."""

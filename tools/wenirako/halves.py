@@ -15,8 +15,8 @@ from lib.label_index import LabelIndex
 
 from . import mentions
 from .beside import Beside, Plain, named, parted
-from .core import ALLOWED, Answer, Core, Misjudged, NoAnswer, Question
-from .ends import End, Outside, Universe, inside
+from .core import ALLOWED, BY_DEFAULT, Answer, Core, Misjudged, NoAnswer, Question
+from .ends import End, Group, Outside, Universe, inside
 from .mentions import Mentions
 from .reasons import isolating
 from .selecting import DIRECTIONS, Half, Interned, Selection
@@ -124,7 +124,7 @@ class Halves:
         for (half, alike), questions in self.pending.items():
             profile: Profile = {}
             for protocol, each in questions.items():
-                segments = [Segment(low, high, words[it], it) for low, high, it in each]
+                segments = whole([Segment(low, high, words[it], it) for low, high, it in each])
                 for like in self.stretches(half)[protocol][1]:
                     profile[like] = segments
             self.profiles[half, alike] = profile
@@ -232,6 +232,14 @@ class Halves:
         """What all rules of a state name at their other sides."""
         return Mentions(self.selections[phase].rules, DIRECTIONS)
 
+    def merged(self, groups: Iterable[Group]) -> list[Group]:
+        """Groups, with those made one whose pods are judged alike in each state, and that changed their labels or didn't."""
+        found: dict[tuple, list[Group]] = {}
+        for it in groups:
+            kinds = [it.at(phase) if it.at(phase) is None else self.kind(phase, it) for phase in range(len(self.policies))]
+            found.setdefault((*kinds, it.is_local, it.before == it.after), []).append(it)
+        return [it[0] if len(it) == 1 else Group(it[0].before, it[0].after, [pod for one in it for pod in one.pods], it[0].is_local) for it in found.values()]
+
     def remote(self, side: Side) -> Optional[tuple]:
         if not isinstance(side, Outside):
             return "set", side
@@ -260,6 +268,17 @@ def changing(before: Sequence, after: Sequence) -> list[str]:
     kept = {key for key, _ in new}
     gone = [it.deletion() for (key, _), it in old.items() if key not in kept]
     return [*gone, *(it.line for key, it in new.items() if key not in old)]
+
+
+def whole(segments: Sequence[Segment]) -> list[Segment]:
+    """Segments with those joined that no entry allows and that touch: there is nothing that tells them apart."""
+    found: list[Segment] = []
+    for it in segments:
+        if found and it.word == found[-1].word == BY_DEFAULT:
+            found[-1] = found[-1]._replace(high=it.high)
+        else:
+            found.append(it)
+    return found
 
 
 def stretches_of(half: Half) -> dict:
