@@ -11,7 +11,7 @@ The WORDs are given to the program:
 The status is the program's, 2 where a word doesn't fit, and 70 where there is no answer.
 
 Where a proved build of the sources stands, it plays at once. Otherwise a build without proof does. It is made once, in
-half a minute to three minutes, which is said, and kept until a source changes. It stops at each overflow, bad index and
+one to three minutes, which is said, and kept until a source changes. It stops at each overflow, bad index and
 bad access, and is some hundred times slower than a proved one. --prove proves the program's crates first, which takes
 many minutes, and keeps that build. An old build is never used. --version says which build answers.
 """

@@ -80,7 +80,7 @@ def found(say: Callable[[str], None], progress: Progress) -> Program:
 def build(say: Callable[[str], None], progress: Progress) -> None:
     """Builds the program without proof."""
     say(NOT_PROVED)
-    say("building it once, in half a minute to three minutes; it is kept until a source changes ..")
+    say("building it once, in one to three minutes; it is kept until a source changes ..")
     progress.begin("building policyd without proof")
     done = children.run([sys.executable, str(TOP / "tests" / "unproved.py"), "build"], tick=progress.tick)
     progress.end()
