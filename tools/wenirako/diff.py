@@ -19,7 +19,7 @@ from .core import ALLOWED, BY_RULE
 from .ends import End, Outside
 from .halves import Halves, Segment, joined
 from .naming import Names
-from .reasons import of_change
+from .reasons import NO_ENTRY, of_change
 from .rows import Line, Rows, Told
 from .selecting import DIRECTIONS, EGRESS, Half
 from .states import States
@@ -46,6 +46,35 @@ class Stretch(NamedTuple):
         """Whether a half of it changes."""
         return any(before.is_allowed != after.is_allowed for *_, before, after in self.halves)
 
+    @property
+    def is_allowed(self) -> bool:
+        return self.words[1] == ALLOWED
+
+    def asks(self, before: Segment, after: Segment) -> bool:
+        """Whether what is told of a half depends on the entries that decide it: not of what passes where the other half
+        shuts, nor where no entry allowed it before and none does after."""
+        return self.is_allowed or after.word == BY_RULE or before.is_allowed and not after.is_allowed
+
+    def is_told_as(self, other: Stretch) -> bool:
+        """Whether another stretch of the same connection has the same verdicts, and is told alike."""
+        if (self.protocol, self.words, self.unsure) != (other.protocol, other.words, other.unsure):
+            return False
+        return all(alike(*one, *two, self.asks(*one) or other.asks(*two)) for one, two in zip(self.segments(), other.segments()))
+
+    def segments(self) -> list[tuple[Segment, Segment]]:
+        return [it[2:] for it in self.halves]
+
+
+def joined_alike(found: Iterable[Stretch]) -> list[Stretch]:
+    """Stretches, with those made one that touch and are told alike."""
+    made: list[Stretch] = []
+    for it in found:
+        if made and made[-1].high + 1 == it.low and made[-1].is_told_as(it):
+            made[-1] = made[-1]._replace(high=it.high)
+        else:
+            made.append(it)
+    return made
+
 
 def new_of(halves: tuple[Half, Half]) -> list[str]:
     """The policies that isolate after a change and didn't before."""
@@ -56,6 +85,13 @@ def new_of(halves: tuple[Half, Half]) -> list[str]:
 
 # A connection by its ends, and a stretch of it.
 Changed = tuple[End, End, Stretch]
+
+
+def alike(before: Segment, after: Segment, other_before: Segment, other_after: Segment, is_asked: bool) -> bool:
+    """Whether a half is told alike in two stretches: where its entries are asked about, in the same segments alone."""
+    if is_asked:
+        return before is other_before and after is other_after
+    return (before.word, after.word) == (other_before.word, other_after.word)
 
 
 def word_of(segments: Iterable[Segment]) -> str:
@@ -84,7 +120,7 @@ class Diff:
         self.halves.ask((it for pair in moving for phase in (0, 1) for it in wanted(*pair, phase)), "asking about other halves")
         found = [(*pair, it) for pair in moving for it in self.changed(*pair)]
         once = {id(it): it for *_, it in found}
-        self.halves.explain((segment for it in once.values() for half in it.halves for segment in half[2:]), "asking for reasons")
+        self.halves.explain((segment for it in once.values() for pair in it.segments() if it.asks(*pair) for segment in pair), "asking for reasons")
         return found
 
     def hold_unforeseen(self) -> None:
@@ -145,7 +181,7 @@ class Diff:
         before, after = wanted(source, target, 0), wanted(source, target, 1)
         key = tuple(map(self.kind, before, after))
         if key not in self.kept:
-            self.kept[key] = [it for it in self.stretches(before, after) if it.is_shown or it.is_half]
+            self.kept[key] = joined_alike(it for it in self.stretches(before, after) if it.is_shown or it.is_half)
         return self.kept[key]
 
     def kind(self, before: Wanted, after: Wanted) -> tuple:
@@ -178,18 +214,19 @@ class Diff:
         return rows.lines(names)
 
     def told(self, it: Stretch) -> Told:
-        is_allowed = it.words[1] == ALLOWED
-        texts = [text for half in sorted(it.halves, key=lambda half: half[1][2]) for text in [self.text(*half, is_allowed)] if text]
-        marked = [one for half in it.halves for one in self.states.marks(self.halves.why(half[3]).allows)] if is_allowed else []
+        texts = [text for half in sorted(it.halves, key=lambda half: half[1][2]) for text in [self.text(it, *half)] if text]
+        marked = [one for half in it.halves for one in self.states.marks(self.halves.why(half[3]).allows)] if it.is_allowed else []
         return Told(*it.words, tuple(texts), self.names_beside(it), it.unsure, tuple(dict.fromkeys(marked)))
 
-    def text(self, was: Wanted, asked: Wanted, before: Segment, after: Segment, is_allowed: bool) -> Optional[str]:
+    def text(self, it: Stretch, was: Wanted, asked: Wanted, before: Segment, after: Segment) -> Optional[str]:
         """What decides a half, where that decides its connection; worked out once for two segments."""
+        if not it.asks(before, after):
+            return None if after.is_allowed else f"{asked[2]}: {NO_ENTRY}"
         # (segments are kept by their halves' profiles and by the stretches that have them, so none takes another's place)
-        key = id(before), id(after), is_allowed
+        key = id(before), id(after), it.is_allowed
         if key not in self.texts:
             new = self.halves.once(new_of, (self.halves.half(*was[:3]), self.halves.half(*asked[:3])))
-            why = of_change(self.halves.why(before), self.halves.why(after), is_allowed, new, self.states.written)
+            why = of_change(self.halves.why(before), self.halves.why(after), it.is_allowed, new, self.states.written)
             self.texts[key] = f"{asked[2]}: {why}" if why else None
         return self.texts[key]
 

@@ -8,6 +8,7 @@ from .selecting import Half
 
 # An answer's place of an entry to that in the policy as it was written, with its marks, before (0) or after (1) a change.
 Places = Callable[[str, int], str]
+NO_ENTRY = "no entry allows it"
 
 
 def places(listed: Iterable[str], written: Places, phase: int = 1) -> str:
@@ -26,7 +27,7 @@ def of_half(half: Half, answer: Answer, written: Places) -> str:
         return places(answer.denies, written)
     if answer.is_allowed:
         return places(answer.allows, written) or ("its own node always may" if isolating(half) else "no policy isolates it")
-    return f"no entry allows it; isolated by {', '.join(isolating(half))}"
+    return f"{NO_ENTRY}; isolated by {', '.join(isolating(half))}"
 
 
 def of_change(before: Answer, after: Answer, is_allowed: bool, new: Iterable[str], written: Places) -> Optional[str]:
@@ -36,8 +37,8 @@ def of_change(before: Answer, after: Answer, is_allowed: bool, new: Iterable[str
     if after.denies:
         return places(after.denies, written)
     if not before.is_allowed:
-        return "no entry allows it"
+        return NO_ENTRY
     if before.allows:
-        return f"no entry allows it without {places(before.allows, written, 0)}"
+        return f"{NO_ENTRY} without {places(before.allows, written, 0)}"
     names = ", ".join(new)
-    return f"no entry allows it; enforced by {names}" if names else "no entry allows it"
+    return f"{NO_ENTRY}; enforced by {names}" if names else NO_ENTRY
