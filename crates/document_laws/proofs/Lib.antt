@@ -16,3 +16,6 @@ pub mod NetworkAgain
 pub mod NetworkSound
 pub mod NetworkPolicies
 pub mod NetworkWritable
+pub mod NetworkWhole
+pub mod NetworkFaults
+pub mod NetworkVerdicts

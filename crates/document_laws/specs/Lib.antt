@@ -5,3 +5,6 @@ pub mod Kept
 pub mod NetworkWritten
 pub mod NetworkWellFormed
 pub mod NetworkKept
+pub mod NetworkWhole
+pub mod NetworkFaults
+pub mod NetworkVerdicts
