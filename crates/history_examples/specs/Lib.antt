@@ -1,5 +1,8 @@
 pub mod Held
+pub mod Hints
 pub mod Histories
+pub mod Machines
+pub mod Rounds
 pub mod Sessions
 pub mod Steps
 pub mod Stopped

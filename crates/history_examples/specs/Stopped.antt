@@ -1,9 +1,9 @@
--- A session whose pass ended for want of memory.
+-- A session whose pass ended for want of memory, and calls of a session.
 use Rattle.std.specs.Prelude.{List, [], ◌∷◌}
 use Rattle.pol_model.specs.declared.options.Mode.TheVariants.{Always}
 use Rattle.pol_script.specs.declared.command.Command.{Command}
 use Rattle.pol_script.specs.declared.command.Command.TheVariants as command
-use Rattle.pol_run.specs.ExampleLines.{add_web, set}
+use Rattle.pol_run.specs.ExampleLines.{add_web, packet_to, set, web}
 use Rattle.pol_history.specs.declared.event.HistoryEvent.{HistoryEvent}
 use Rattle.pol_history.specs.declared.event.HistoryEvent.TheVariants as event
 use Rattle.pol_history.specs.Grows.{PassState, nothing_yet}
@@ -14,6 +14,13 @@ adds = command.Commit 1 add_web
 
 abbrev pub sets : Command
 sets = command.Commit 1 (set Always)
+
+-- a question, and a line that asks for no answer of a phase
+abbrev pub looks : Command
+looks = command.Look 1 (packet_to web)
+
+abbrev pub syncs : Command
+syncs = command.Sync 1
 
 -- the commit of the first of them, and one of another pass behind it
 abbrev pub added : List HistoryEvent

@@ -1,0 +1,48 @@
+//! What a serial run of the machine answers and costs, and what lacks a condition of it.
+ghost use Rattle.std.specs.Prelude.{◌≡◌, ℕ, [], ◌∷◌};
+ghost use Rattle.pol_history.specs.ExampleEvents.{add_web, at_most};
+ghost use Rattle.pol_history.specs.Machine.{machine_after, machine_start};
+ghost use Rattle.pol_history.specs.declared.machine.Event.TheVariants as step;
+ghost use Rattle.pol_machine.specs.Cost.{Costs};
+ghost use Rattle.pol_machine.specs.Serial.{IsSaid, ListsRows, StandsWithin};
+ghost use Rattle.pol_machine.specs.Stands.{Stands, Stored};
+ghost use Rattle.pol_machine.specs.declared.asked.Asked.TheVariants.{Sync};
+ghost use Rattle.pol_machine.specs.declared.asked.SerialAnswer.TheVariants.{Synced};
+ghost use Rattle.pol_model.specs.After.{start};
+ghost use Rattle.pol_model.specs.State.{State as OneState};
+ghost use Rattle.pol_model.specs.declared.options.Options.{Options as AllOptions};
+ghost use Rattle.pol_model.specs.declared.request.Query.{Query as OneQuery};
+ghost use Rattle.history_examples.specs.Held as held;
+ghost use Rattle.history_examples.specs.Histories as history;
+ghost use Rattle.history_examples.specs.Machines.{db_row, machine_at, two_full, web_row};
+
+/// Rows are those of the live endpoints whose maps are too large, by name ('profile').
+pub fn rows_are_listed()
+    ensures one { ListsRows (at_most 1) history.full (held.row ∷ []) }
+    ensures two { ListsRows (at_most 1) two_full (db_row ∷ web_row ∷ []) }
+    ensures lacks_one { ListsRows (at_most 1) history.full [] → ⊥ }
+    ensures by_slot { ListsRows (at_most 1) two_full (web_row ∷ db_row ∷ []) → ⊥ }
+{}
+
+/// A synchronisation tells the revision at which it was asked for ('profile').
+pub fn syncs_tell_revisions()
+    ensures is { IsSaid (at_most 2) (machine_at history.added) Sync (Synced 1 []) }
+    ensures another_revision { IsSaid (at_most 2) (machine_at history.added) Sync (Synced 0 []) → ⊥ }
+{}
+
+/// What is left after want of memory is a machine after a beginning of the events, not after others ('profile').
+pub fn beginnings_are_left()
+    ensures not_begun { (new : Stored) → StandsWithin (at_most 2) machine_start [] new → Stands new (machine_after (at_most 2) (step.Commit add_web ∷ [])) → ⊥ }
+{}
+
+/// A look-up costs 36 steps at most, a take and a finish none, and a commit where no policy has label peers none ('profile').
+pub fn steps_cost()
+    ensures look { (s : OneState) (query : OneQuery) → Costs s (step.Look query) 0 36 }
+    ensures dear_look { (s : OneState) (query : OneQuery) → Costs s (step.Look query) 0 37 → ⊥ }
+    ensures take { (s : OneState) → Costs s (step.Take 0) 5 5 }
+    ensures dear_take { (s : OneState) → Costs s (step.Take 0) 5 6 → ⊥ }
+    ensures finish { (s : OneState) → Costs s (step.Finish 0) 5 5 }
+    ensures dear_finish { (s : OneState) → Costs s (step.Finish 0) 5 6 → ⊥ }
+    ensures commit { (options : AllOptions) → Costs (start options) (step.Commit add_web) 5 5 }
+    ensures dear_commit { (options : AllOptions) → Costs (start options) (step.Commit add_web) 5 6 → ⊥ }
+{}
