@@ -1,0 +1,7 @@
+//! Computed examples from the bytes that are read to the bytes that are written.
+//!
+//! Nothing stands on this crate. Each law is the contract of a function that does nothing.
+#![tactic(auto)]
+
+pub mod objects;
+pub mod refusals;
