@@ -14,6 +14,7 @@ mod audit;
 #[cfg(test)]
 mod gates;
 mod generate;
+mod laws;
 mod map;
 mod play;
 mod played;
