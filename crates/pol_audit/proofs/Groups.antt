@@ -27,7 +27,7 @@ ascends_one : (n : ℕ) → IsStrictlySortedBy nat_cmp (n ∷ [])
 unfolding IsStrictlySortedBy
 ascends_one n = (tt, tt)
 
-less_from : (x y : ℕ) → x < y → nat_cmp x y ≡ Less
+pub less_from : (x y : ℕ) → x < y → nat_cmp x y ≡ Less
 less_from x y below = cond-true _ Less _ (lt-ltb x y below)
 
 above_zero : (p : ℕ) (ps : List ℕ) → IsStrictlySortedBy nat_cmp (suc p ∷ ps) → IsStrictlySortedBy nat_cmp (0 ∷ suc p ∷ ps)

@@ -16,3 +16,4 @@ pub mod Unique
 pub mod Following
 pub mod Reading
 pub mod Lengths
+pub mod Firsts

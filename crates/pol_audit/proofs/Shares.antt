@@ -166,10 +166,10 @@ unfolding numbers_in IsStrictlySortedBy
 numbers_ascend [] = (tt, tt)
 numbers_ascend (e ∷ entries) = placed_ascends e.0.id (numbers_in entries) (numbers_ascend entries)
 
-abbrev ids : List Entry → List ℕ
+abbrev pub ids : List Entry → List ℕ
 ids entries = map (λ (e : Entry). e.0.id) entries
 
-numbers_to : (entries : List Entry) (n : ℕ) → In n (numbers_in entries) → In n (0 ∷ ids entries)
+pub numbers_to : (entries : List Entry) (n : ℕ) → In n (numbers_in entries) → In n (0 ∷ ids entries)
 unfolding numbers_in
 numbers_to [] n there = there
 numbers_to (e ∷ entries) n there = elim (from_placed e.0.id (numbers_in entries) n there) [
@@ -177,7 +177,7 @@ numbers_to (e ∷ entries) n there = elim (from_placed e.0.id (numbers_in entrie
   | inr later ↦ elim (numbers_to entries n later) [ inl zero' ↦ inl zero' | inr old ↦ inr (inr old) ]
 ]
 
-numbers_from : (entries : List Entry) (n : ℕ) → In n (0 ∷ ids entries) → In n (numbers_in entries)
+pub numbers_from : (entries : List Entry) (n : ℕ) → In n (0 ∷ ids entries) → In n (numbers_in entries)
 unfolding numbers_in
 numbers_from [] n there = there
 numbers_from (e ∷ entries) n (inl zero') = into_placed e.0.id (numbers_in entries) n (inr (numbers_from entries n (inl zero')))

@@ -1,5 +1,5 @@
 -- A text is that of one table at most, and has one first bad line at most.
-use Rattle.std.proofs.Common.{◌≡◌, ℕ, ◌+◌, List, [], ◌∷◌, ◌++◌, codes, length, refl, sym, ap, subst, ◌∙◌, inl, inr, append_assoc, length-append, arith}
+use Rattle.std.proofs.Common.{◌≡◌, ℕ, ◌+◌, List, [], ◌∷◌, ◌++◌, codes, length, IfOk, IfErr, Result, Ok, Err, refl, sym, ap, subst, ◌∙◌, inl, inr, append_assoc, length-append, arith}
 use Rattle.std.specs.List.{Contains}
 use Rattle.std.specs.declared.cmp.Ordering.TheVariants.{Less}
 use Rattle.std.specs.List.Sorted.{IsStrictlySortedBy}
@@ -8,7 +8,9 @@ use Rattle.std.proofs.lemmas.List.Elements.{Contains-append_right}
 use Rattle.pol_data.proofs.Members.{Contains-here, Contains-later, In, every-from_in, every-in}
 use Rattle.pol_mapkey.specs.Entries.{Entry}
 use Rattle.pol_audit.specs.Tables.{IsTable, entry_order}
-use Rattle.pol_audit.specs.Text.{AreKept, IsBadLine, entry_words, line_of, text_of}
+use Rattle.pol_audit.specs.Text.{AreKept, IsBadLine, IsCause, IsReadAs, entry_words, line_of, text_of}
+use Rattle.pol_audit.specs.declared.error.TableError.{TableError}
+use Rattle.pol_audit.specs.declared.error.TableError.TheVariants.{Line, Memory}
 use Rattle.pol_audit.proofs.Spelled.{line_tells}
 
 -- a line has some byte
@@ -82,3 +84,10 @@ one_bad_line text m n is is' = cases (meet is.front is'.front is.rest is'.rest i
     cases (together same rest) = is.place ∙ ap (λ es. length es + 1) same ∙ sym is'.place
     cases (first_ends e more same rest) = absurd (goes_on text m is is'.front more e (text_of more ++ is'.rest) is'.kept is'.table same rest)
     cases (second_ends e more same rest) = absurd (goes_on text n is' is.front more e (text_of more ++ is.rest) is.kept is.table same rest)
+
+-- what is read of the text of a table is that table
+pub read_again : (text : List ℕ) (r : Result (List Entry) TableError) → IfOk r (λ table. text_of table ≡ text) → IfOk r AreKept → IfErr r (IsCause text)
+    → (table : List Entry) → AreKept table → IsTable table → text ≡ text_of table → IsReadAs table r
+read_again text (Ok read) is own cause table kept up written = text_tells read table own kept (is ∙ written)
+read_again text (Err (Line line)) is own cause table kept up written = no_bad_line table line kept up (subst (λ bytes. IsBadLine bytes line) written cause)
+read_again text (Err Memory) is own cause table kept up written = tt

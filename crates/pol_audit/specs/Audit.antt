@@ -1,5 +1,5 @@
 -- Whether two tables are alike, and the least packet on which they differ.
-use Rattle.std.specs.Prelude.{◌≡◌, ◌≢◌, ◌<◌, ◌^◌, ℕ, List}
+use Rattle.std.specs.Prelude.{◌≡◌, ◌≢◌, ◌<◌, ◌^◌, ℕ, List, Option, None, Some}
 use Rattle.pol_ports.specs.declared.Direction.{Direction}
 use Rattle.pol_ports.specs.declared.Proto.{Proto}
 use Rattle.pol_mapkey.specs.Entries.{Entry, read_map}
@@ -32,3 +32,8 @@ IsAudit left right (Differs packet) = IsLeastDiffering left right packet
 -- the least packet of a range
 abbrev pub least_packet : Difference → Packet
 least_packet d = record { dir = d.dir; id = least_number d.numbers; proto = d.proto; port = d.first; left = d.left; right = d.right }
+
+-- what an audit says where the difference begins with this range, or there is none
+abbrev pub audit_from : Option Difference → Audit
+audit_from None = Same
+audit_from (Some d) = Differs (least_packet d)

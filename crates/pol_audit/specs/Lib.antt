@@ -6,5 +6,6 @@ pub mod Kinds
 pub mod Cuts
 pub mod Ranges
 pub mod Exact
+pub mod First
 pub mod Extent
 pub mod Text

@@ -1,5 +1,5 @@
 -- The text of a table: a line for each entry, in the order of the keys ('profile').
-use Rattle.std.specs.Prelude.{◌≡◌, ◌≢◌, ◌+◌, ◌<◌, ◌^◌, ℕ, List, [], ◌∷◌, ◌++◌, codes, length}
+use Rattle.std.specs.Prelude.{◌≡◌, ◌≢◌, ◌+◌, ◌<◌, ◌^◌, ℕ, List, [], ◌∷◌, ◌++◌, codes, length, Result, Ok, Err}
 use Rattle.std.specs.Fmt.{decimal}
 use Rattle.std.specs.List.{All, Contains, flat_map}
 use Rattle.pol_ports.specs.declared.Direction.{Direction}
@@ -82,3 +82,9 @@ pub record IsBadLine (text : List ℕ) (line : ℕ) : Type 0 where
 abbrev pub IsCause : List ℕ → TableError → Type 0
 IsCause text (Line line) = IsBadLine text line
 IsCause text Memory = Unit {0}
+
+-- what the text of a table is read as: that table, want of memory aside
+abbrev pub IsReadAs : List Entry → Result (List Entry) TableError → Type 0
+IsReadAs table (Ok read) = read ≡ table
+IsReadAs table (Err (Line line)) = ⊥
+IsReadAs table (Err Memory) = Unit {0}

@@ -1,11 +1,11 @@
 //! Whether two tables are alike.
 ghost use Rattle.std.specs.Prelude.{◌≡◌, ◌≤◌, ◌+◌, ◌*◌, IfOk};
-ghost use Rattle.pol_audit.specs.Audit.{IsAudit, least_packet};
+ghost use Rattle.pol_audit.specs.Audit.{IsAudit, audit_from, least_packet};
 ghost use Rattle.pol_audit.specs.Extent.{extent};
 
 use crate::difference::{Difference, Numbers};
-use crate::directions::differences;
 use crate::entries::Entries;
+use crate::first::first_range;
 use crate::packet::{Audit, Packet};
 use pol_data::{Memory, Steps};
 use std::alloc::Global;
@@ -29,9 +29,19 @@ fn least_packet(range: &Difference) -> Packet
     }
 }
 
+/// What is said where the difference begins with this range, or there is none.
+fn audit_from(first: Option<Difference>) -> Audit
+    ensures { result ≡ audit_from first }
+{
+    match first {
+        None => Audit::Same,
+        Some(range) => Audit::Differs(least_packet(&range)),
+    }
+}
+
 /// Whether two tables give one word for every direction, number of 32 bits, protocol and port, or else the least packet on
-/// which they differ, with its two words: it is the first of the first range of `differences`. The one error is want of
-/// memory (profile).
+/// which they differ, with its two words: it is the first of the first range of `differences`, of which no range behind those
+/// of its number is made. The one error is want of memory (profile).
 pub fn audit<L: Ledger>(
     alloc: Global,
     left: &Entries,
@@ -42,9 +52,6 @@ pub fn audit<L: Ledger>(
     ensures forward { steps.old ≤ steps.new }
     ensures cost { steps.new ≤ steps.old + 30 * extent left.now right.now }
 {
-    let list = differences(alloc, left, right, steps)?;
-    match list.as_slice().first() {
-        None => Ok(Audit::Same),
-        Some(range) => Ok(Audit::Differs(least_packet(range))),
-    }
+    let first = first_range(alloc, left.as_slice(), right.as_slice(), steps)?;
+    Ok(audit_from(first))
 }

@@ -49,7 +49,7 @@ fn push_group<L: Ledger>(
 }
 
 /// Appends the ranges of one direction and number.
-fn push_number<L: Ledger>(
+pub(crate) fn push_number<L: Ledger>(
     alloc: Global,
     out: &mut Vec<Difference>,
     dir: Direction,
@@ -87,7 +87,11 @@ fn push_number<L: Ledger>(
 }
 
 /// The entries of a number and of 0, each once.
-fn parts_of<'a>(left: &'a [(MapKey, Kind)], right: &'a [(MapKey, Kind)], id: u32) -> Parts<'a>
+pub(crate) fn parts_of<'a>(
+    left: &'a [(MapKey, Kind)],
+    right: &'a [(MapKey, Kind)],
+    id: u32,
+) -> Parts<'a>
     requires left { IsNonDecreasingBy (λ e. e.0.id) left.now }
     requires right { IsNonDecreasingBy (λ e. e.0.id) right.now }
     ensures left { result.left.now ≡ own_of id left.now }

@@ -51,3 +51,19 @@ pub(crate) fn are_entries(entries: &[(MapKey, Kind)])
         is_port(entry.0.port.bits);
     }
 }
+
+/// A number of 32 bits is one.
+fn is_number(number: u32)
+    ensures { number < 4294967296 }
+{
+    let _ = number;
+}
+
+/// The numbers of entries have 32 bits.
+pub(crate) fn are_numbered(entries: &[(MapKey, Kind)])
+    ensures { All (λ e. e.0.id < 4294967296) entries.now }
+{
+    for entry in entries {
+        is_number(entry.0.id);
+    }
+}

@@ -11,6 +11,7 @@ mod difference;
 mod directions;
 mod entries;
 mod error;
+mod first;
 mod group;
 mod in_order;
 mod kinds;

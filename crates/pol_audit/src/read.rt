@@ -2,7 +2,7 @@
 ghost use Rattle.std.specs.Prelude.{◌≡◌, ◌≢◌, ◌<◌, ◌^◌, ◌++◌, ◌∷◌, [], ℕ, List, IsTrue, ◌↔◌, IfOk, IfErr, IfSome, IfNone, length};
 ghost use Rattle.pol_mapkey.specs.Entries.{Entry};
 ghost use Rattle.pol_audit.specs.Tables.{IsTable};
-ghost use Rattle.pol_audit.specs.Text.{AreKept, IsCause, IsKept, line_of, text_of};
+ghost use Rattle.pol_audit.specs.Text.{AreKept, IsCause, IsKept, IsReadAs, line_of, text_of};
 
 use crate::entries::Entries;
 use crate::error::TableError;
@@ -54,12 +54,8 @@ fn next_entry<'a>(table: &[(MapKey, Kind)], bytes: &'a [u8]) -> Option<((MapKey,
     }
 }
 
-/// The table whose text this is, as `table_text` writes it; nothing else is read. The words of a line, numbers and the order
-/// of the keys are as there, and numbers are below 2^32 (profile).
-///
-/// `TableError::Line` tells the first line, from 1, that is no entry's, or whose key isn't above the key before, or that
-/// doesn't end with a newline byte.
-pub fn read_table(alloc: Global, text: &[u8]) -> Result<Entries, TableError>
+/// The entries of a text, line by line.
+fn read_entries(alloc: Global, text: &[u8]) -> Result<Entries, TableError>
     requires { length text.now < 2 ^ 32 }
     ensures text { IfOk result (λ table. text_of table ≡ text.now) }
     ensures kept { IfOk result AreKept }
@@ -77,4 +73,19 @@ pub fn read_table(alloc: Global, text: &[u8]) -> Result<Entries, TableError>
         }
     }
     Ok(Entries::from_vec(table))
+}
+
+/// The table whose text this is, as `table_text` writes it, so that its entries are given back; nothing else is read. The
+/// words of a line, numbers and the order of the keys are as there, and numbers are below 2^32 (profile).
+///
+/// `TableError::Line` tells the first line, from 1, that is no entry's, or whose key isn't above the key before, or that
+/// doesn't end with a newline byte.
+pub fn read_table(alloc: Global, text: &[u8]) -> Result<Entries, TableError>
+    requires { length text.now < 2 ^ 32 }
+    ensures text { IfOk result (λ table. text_of table ≡ text.now) }
+    ensures kept { IfOk result AreKept }
+    ensures again { (table : List Entry) → AreKept table → IsTable table → text.now ≡ text_of table → IsReadAs table result }
+    ensures cause { IfErr result (IsCause text.now) }
+{
+    read_entries(alloc, text)
 }

@@ -4,9 +4,11 @@
 ghost use Rattle.std.specs.Prelude.{◌≡◌, ◌++◌, OnOk, IfOk};
 ghost use Rattle.std.specs.String.{string_bytes};
 ghost use Rattle.pol_mapkey.specs.Entries.{Entry};
-ghost use Rattle.pol_audit.specs.Text.{direction_word, kind_word, line_of, proto_word, text_of};
+ghost use Rattle.pol_audit.specs.Tables.{IsTable};
+ghost use Rattle.pol_audit.specs.Text.{AreKept, direction_word, kind_word, line_of, proto_word, text_of};
 
 use crate::entries::Entries;
+use crate::in_order::{are_entries, are_numbered};
 use pol_data::Memory;
 use pol_mapkey::{KeyProto, Kind, MapKey};
 use pol_ports::Direction;
@@ -60,10 +62,15 @@ fn push_line(out: &mut String, entry: &(MapKey, Kind)) -> Result<(), Memory>
 
 /// The text of a table: a line for each entry, in the order of their keys. The words of a line are the direction, the
 /// number, the protocol or `every`, the ports by the first one and how many of its bits count, and the kind, with a space
-/// between two; numbers are plain decimal, and each line ends with a newline byte (profile). The one error is want of memory.
+/// between two; numbers are plain decimal, and each line ends with a newline byte (profile). So `read_table` gives the entries
+/// back. The one error is want of memory.
 pub fn table_text(alloc: Global, entries: &Entries) -> Result<Vec<u8>, Memory>
     ensures text { IfOk result (λ text. text.items ≡ text_of entries.now) }
+    ensures kept { IfOk result (λ _. AreKept entries.now) }
+    ensures table { IfOk result (λ _. IsTable entries.now) }
 {
+    are_entries(entries.as_slice());
+    are_numbered(entries.as_slice());
     let mut out = String::new(alloc);
     for entry in entries.as_slice() {
         push_line(&mut out, entry)?;

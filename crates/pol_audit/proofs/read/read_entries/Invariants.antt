@@ -1,7 +1,7 @@
 use Rattle.std.proofs.Common.{◌≡◌, ◌+◌, ◌≤◌, ◌++◌, length}
 use Rattle.pol_audit.specs.Tables.{IsTable}
 use Rattle.pol_audit.specs.Text.{AreKept, text_of}
-use Rattle.pol_audit.proofs.read.read_table.Given as goal
+use Rattle.pol_audit.proofs.read.read_entries.Given as goal
 
 -- what was read, and what is left
 abbrev pub invariant-loop-rest : goal.invariant-loop-rest
