@@ -1,0 +1,12 @@
+pub mod Alike
+pub mod Opened
+pub mod Shown
+pub mod Changing
+pub mod Ordered
+pub mod Listed
+pub mod Peopled
+pub mod Apart
+pub mod Saying
+pub mod Whole
+pub mod Same
+pub mod Turns

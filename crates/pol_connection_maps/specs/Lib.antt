@@ -1,0 +1,6 @@
+pub mod Rows
+pub mod Sets
+pub mod Maps
+pub mod EndRows
+pub mod Seen
+pub mod Lists

@@ -1,0 +1,24 @@
+//! The connections of a state, and those that a change opens or shuts, by the policy maps of the ends.
+//!
+//! `open_connections`, `changed_connections` and `ends_alone` compute from the rows of states what `pol_connections` defines by the
+//! scan of all rules.
+#![tactic(auto)]
+
+mod alone;
+mod changed;
+mod end_map;
+mod end_row;
+mod kept;
+mod lists;
+mod maps;
+mod names;
+mod number;
+mod open;
+mod own_map;
+mod pairs;
+mod regions;
+mod rows;
+mod sets;
+
+pub use lists::{changed_connections, ends_alone, open_connections};
+pub use rows::StateRows;

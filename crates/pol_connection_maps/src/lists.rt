@@ -1,0 +1,81 @@
+//! The lists of connections.
+ghost use Rattle.std.specs.Prelude.{◌≡◌, IfOk};
+ghost use Rattle.pol_model.specs.declared.options.Options.{Options};
+ghost use Rattle.pol_model.specs.State.{State};
+ghost use Rattle.pol_model_laws.specs.Keeps.{Keeps};
+ghost use Rattle.pol_connections.specs.Connections.{changes_of, connections_of, ends_alone};
+ghost use Rattle.pol_connection_maps.specs.Lists.{AreSeenOf};
+ghost use Rattle.pol_connection_maps.specs.Rows.{AreRowsOf, AreSound};
+
+use crate::alone::names_alone;
+use crate::changed::changed_list;
+use crate::end_map::{EndMap, with_maps};
+use crate::end_row::end_rows;
+use crate::kept::kept_ends;
+use crate::maps::number_maps;
+use crate::open::open_list;
+use crate::regions::regions_of;
+use crate::rows::StateRows;
+use crate::sets::sets_of;
+use pol_addr::Prefix;
+use pol_connections::{Connection, EndName};
+use pol_data::Memory;
+use std::alloc::Global;
+
+/// The ends of a state with these rows, with their maps.
+fn ends_of(alloc: Global, rows: &StateRows<'_>, regions: &[Prefix]) -> Result<Vec<EndMap>, Memory>
+    requires { AreSound rows.now }
+    ensures { IfOk result (λ ends. AreSeenOf rows.now regions.now ends.items) }
+{
+    let sets = sets_of(alloc, rows.identities, rows.policies)?;
+    let maps = number_maps(alloc, rows, &sets)?;
+    let ends = end_rows(alloc, rows, regions)?;
+    with_maps(alloc, &ends, &maps)
+}
+
+/// The open connections of a state with these rows: of each pair of ends, in their order, and each protocol, the ranges of ports on
+/// which the source may send and the target may receive ('profile'; Cilium, Network Policy). The one error is want of memory.
+pub fn open_connections(alloc: Global, rows: &StateRows<'_>) -> Result<Vec<Connection>, Memory>
+    requires { AreSound rows.now }
+    ensures { IfOk result (λ list. (options : Options) (s : State) → AreRowsOf options s rows.now → Keeps s → list.items ≡ connections_of options s) }
+{
+    let regions = regions_of(alloc, rows.identities, rows.identities)?;
+    let ends = ends_of(alloc, rows, &regions)?;
+    open_list(alloc, &ends)
+}
+
+/// The connections that a change from a state with the first rows to one with the second opens or shuts: of each pair of ends that
+/// both have, in the order of the second, and each protocol, the ranges of ports on which the connection is open before or after and
+/// not both ('profile'). The one error is want of memory.
+pub fn changed_connections(
+    alloc: Global,
+    before: &StateRows<'_>,
+    after: &StateRows<'_>,
+) -> Result<Vec<Connection>, Memory>
+    requires before { AreSound before.now }
+    requires after { AreSound after.now }
+    ensures { IfOk result (λ list. (options : Options) (s t : State) → AreRowsOf options s before.now → AreRowsOf options t after.now → Keeps s → Keeps t → list.items ≡ changes_of options s t) }
+{
+    let regions = regions_of(alloc, before.identities, after.identities)?;
+    let ends_before = ends_of(alloc, before, &regions)?;
+    let ends_after = ends_of(alloc, after, &regions)?;
+    let kept = kept_ends(alloc, &ends_before, &ends_after)?;
+    changed_list(alloc, &kept)
+}
+
+/// The names of ends of a state with the second rows that one with the first rows doesn't have, in the order of ends ('profile').
+/// The one error is want of memory.
+pub fn ends_alone(
+    alloc: Global,
+    one: &StateRows<'_>,
+    other: &StateRows<'_>,
+) -> Result<Vec<EndName>, Memory>
+    requires one { AreSound one.now }
+    requires other { AreSound other.now }
+    ensures { IfOk result (λ names. (options later : Options) (s t : State) → AreRowsOf options s one.now → AreRowsOf later t other.now → names.items ≡ ends_alone s t) }
+{
+    let regions = regions_of(alloc, one.identities, other.identities)?;
+    let ends_one = end_rows(alloc, one, &regions)?;
+    let ends_other = end_rows(alloc, other, &regions)?;
+    names_alone(alloc, &ends_one, &ends_other)
+}
