@@ -1,0 +1,4 @@
+pub mod Names
+pub mod ByName
+pub mod RowOf
+pub mod Held
