@@ -13,6 +13,7 @@ import program
 TYPE = re.compile(r"(?m)^(pub )?(?:pub\(\w+\) )?(?:enum|struct|trait|union|type) (\w+)")
 TWICE = {
     "Entries": "pol_audit pol_rule",
+    "Kept": "pol_kept pol_kept_filters",
 }
 
 # Names that crates had, which said less of what they hold than those that they have.

@@ -1,6 +1,6 @@
 -- The states that a journal's requests make, and what a journal of records stands for.
-use Rattle.std.proofs.Common.{◌≡◌, ◌<◌, ◌^◌, ℕ, false, List, [], ◌∷◌, ◌++◌, length, Option, None, Some, is_some, refl, sym, ap, ◌∙◌}
-use Rattle.pol_journal.specs.Journal.{IsJournal, asked_in, commits}
+use Rattle.std.proofs.Common.{◌≡◌, ◌<◌, ◌^◌, ℕ, List, [], ◌∷◌, length, Option, None, Some, is_some, refl, ap, ◌∙◌}
+use Rattle.pol_journal.specs.Journal.{asked_in, commits}
 use Rattle.pol_model.specs.After.{after, start, state_of}
 use Rattle.pol_model.specs.After as model
 use Rattle.pol_model.specs.Fault.{fault_of}

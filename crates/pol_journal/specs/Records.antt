@@ -1,5 +1,5 @@
 -- What is read of one record of a journal.
-use Rattle.std.specs.Prelude.{◌≡◌, ℕ, if◌then◌else◌, List, Option, None}
+use Rattle.std.specs.Prelude.{ℕ, if◌then◌else◌, List, Option, None}
 use Rattle.pol_journal.specs.Journal.{asked_in}
 use Rattle.pol_model.specs.declared.request.Request.{Request}
 use Rattle.pol_record_log.specs.Records.{is_whole, line_in}

@@ -1,0 +1,85 @@
+-- What opening finds, for a machine before its first step.
+use Rattle.std.proofs.Common.{◌≡◌, ⊎_elim, ◌<◌, ◌≤◌, ◌+◌, ℕ, nat_le, Bool, true, if◌then◌else◌, List, [], ◌∷◌, length, take, slice_index, Ok, refl, sym, ap, ◌∙◌, subst, arith}
+use Rattle.std.proofs.lemmas.Bool.Decides.{nat_tests}
+use Rattle.pol_disk.specs.Images.{CutShort, LeavesOnly, Only}
+use Rattle.pol_disk.proofs.Moments.{started}
+use Rattle.pol_history.specs.Machine.{machine_start}
+use Rattle.pol_journal.specs.Journal.{IsJournal, commits, journal_of}
+use Rattle.pol_kept.specs.Keeps.{IsKept, IsOpened, IsReplayed, SameJournal, machine_of, requests_in}
+use Rattle.pol_kept.proofs.Disks.{on_disk}
+use Rattle.pol_kept.proofs.Records.{closed_kept, ended, kept_journal}
+use Rattle.pol_machine.specs.Stands.{Stands, Stored, options_in}
+use Rattle.pol_model.specs.After.{start}
+use Rattle.pol_model.specs.declared.options.Options.{Options}
+use Rattle.pol_model.specs.declared.request.Request.{Request}
+use Rattle.pol_record_log.specs.Log.{AreRecords, requests_in as log_requests}
+use Rattle.pol_record_log.specs.Steps.{IsOnDisk}
+
+short_journal : (options : Options) (bytes : List ℕ) → length bytes ≤ 1 → journal_of options bytes ≡ Ok []
+short_journal options bytes short =
+    ap (λ (b : Bool). if b then Ok [] else log_requests commits (length bytes) (start options) 0 bytes) (le_test (length bytes) 1 short)
+  where
+    le_test : (m n : ℕ) → m ≤ n → nat_le m n ≡ true
+    le_test m n le = grind (arith, nat_tests)
+
+-- two journals of at most one byte are one journal
+pub short_same : (options : Options) (old c : List ℕ) → length old ≤ 1 → length c ≤ 1 → SameJournal options old c
+short_same options old c short now = short_journal options c now ∙ sym (short_journal options old short)
+
+module _ (s : Stored) (fresh : Stands s machine_start) where
+  none_yet : requests_in s ≡ []
+  none_yet = fresh.at.journal
+
+  fresh_stands : Stands s (machine_of (options_in s) (requests_in s))
+  fresh_stands = subst (λ (rs : List Request). Stands s (machine_of (options_in s) rs)) (sym none_yet) fresh
+
+  pub fresh_opened : IsOpened (options_in s) (requests_in s) s
+  fresh_opened = record { options_are = refl; requests_are = refl; stands = fresh_stands }
+
+  pub fresh_journal : (bytes : List ℕ) → length bytes ≤ 1 → IsJournal (options_in s) (requests_in s) bytes
+  fresh_journal bytes short = short_journal (options_in s) bytes short ∙ ap (λ (rs : List Request). Ok rs) (sym none_yet)
+
+  pub fresh_kept : {D : Type 0} (seen : D → List ℕ) (may_leave : D → List ℕ → Type 0) (disk : D) → IsOnDisk seen may_leave disk (0 ∷ []) → IsKept seen may_leave disk s
+  fresh_kept seen may_leave disk there =
+      on_disk seen may_leave disk s (options_in s) [] (0 ∷ []) (record { machine = machine_start; stands = fresh }) refl none_yet (closed_kept (options_in s) [] [] refl) there
+
+  pub fresh_replayed : (bytes : List ℕ) → 1 < length bytes → IsReplayed (options_in s) bytes 0 s
+  fresh_replayed bytes long = record {
+    long = long;
+    inside = omega arith;
+    records = subst (λ (rs : List Request). AreRecords commits (start (options_in s)) rs (take 0 bytes)) (sym none_yet) refl;
+    options_are = refl;
+    stands = fresh_stands;
+  }
+
+-- ---- a journal that was read to its closed gate
+
+module _ (options : Options) (bytes : List ℕ) (end : ℕ) (new : Stored) (read : IsReplayed options bytes end new) (shut : slice_index bytes end ≡ 0) where
+  pub read_opened : IsOpened options (requests_in new) new
+  read_opened = record { options_are = read.options_are; requests_are = refl; stands = read.stands }
+
+  pub read_journal : IsJournal options (requests_in new) bytes
+  read_journal = (ended options bytes end new read shut).0
+
+  pub cut_kept : {D : Type 0} (seen : D → List ℕ) (may_leave : D → List ℕ → Type 0) (disk : D) → IsOnDisk seen may_leave disk (take (end + 1) bytes) → IsKept seen may_leave disk new
+  cut_kept seen may_leave disk there =
+      on_disk seen may_leave disk new options (requests_in new) (take (end + 1) bytes) (record { machine = machine_of options (requests_in new); stands = read.stands })
+      read.options_are refl (ended options bytes end new read shut).1 there
+
+  pub while_cut : (c : List ℕ) → CutShort (end + 1) bytes c → SameJournal options bytes c
+  while_cut c cut = ⊎_elim
+      (λ same. ap (journal_of options) same)
+      (λ less. ap (journal_of options) less ∙ kept_journal options (requests_in new) (take (end + 1) bytes) (ended options bytes end new read shut).1 ∙ sym read_journal)
+      cut
+
+-- ---- a crash
+
+module _ {D : Type 0} (may_leave : D → List ℕ → Type 0) (options : Options) (bytes : List ℕ) (disk : D) (settled : Only bytes (may_leave disk)) where
+  -- bytes that are on the disk
+  pub left_same : (c : List ℕ) → may_leave disk c → SameJournal options bytes c
+  left_same c left = ap (journal_of options) (settled c left)
+
+  -- where no call was made
+  pub still_same : (moment : D → ℕ) (left_since : D → ℕ → List ℕ → Type 0) → ((c : List ℕ) → left_since disk (moment disk) c → may_leave disk c)
+      → LeavesOnly moment left_since disk disk (SameJournal options bytes)
+  still_same moment left_since only_now = started moment left_since disk (SameJournal options bytes) (λ c left. left_same c (only_now c left))
