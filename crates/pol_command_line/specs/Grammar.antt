@@ -1,4 +1,4 @@
--- The command line, as clap reads it: seven options, each once at most, and no other word.
+-- The command lines, as clap reads them: of policyd seven options, of connections two, each once at most, and no other word.
 use Rattle.std.specs.Prelude.{ℕ, true, [], ◌∷◌, codes, Some}
 use Rattle.clap.specs.Words.{App, Rule, Text, new_app, new_rule, with_rule}
 use Rattle.clap.specs.Simple.{on_top}
@@ -22,8 +22,8 @@ abbrev pub or_default : Text → Rule → Rule
 or_default text rule = record rule { defaults = text ∷ [] }
 
 -- The words are those behind the program's name.
-abbrev pub no_options : App
-no_options = on_top (λ shape. record shape { no_binary_name = true }) (new_app (codes "policyd"))
+abbrev pub no_options : Text → App
+no_options name = on_top (λ shape. record shape { no_binary_name = true }) (new_app name)
 
 abbrev pub grammar : App
 grammar = with_rule
@@ -32,10 +32,15 @@ grammar = with_rule
     (with_rule
     (with_rule
     (with_rule
-    (with_rule no_options (or_default (codes "2") (number (codes "workers") 0 8)))
+    (with_rule (no_options (codes "policyd")) (or_default (codes "2") (number (codes "workers") 0 8)))
     (or_default (codes "default") (option (codes "enable-policy"))))
     (or_default (codes "always") (option (codes "allow-localhost"))))
     (number (codes "policy-map-max") 256 65536))
     (number (codes "generate") 1 10000))
     (option (codes "map")))
     (flag (codes "audit"))
+
+abbrev pub connections_grammar : App
+connections_grammar = with_rule
+    (with_rule (no_options (codes "connections")) (or_default (codes "default") (option (codes "enable-policy"))))
+    (or_default (codes "always") (option (codes "allow-localhost")))

@@ -5,6 +5,7 @@ ghost use Rattle.pol_model.specs.declared.options.Mode.TheVariants.{Default, Alw
 ghost use Rattle.pol_command_line.specs.declared.task.Task.TheVariants.{Play, Generate, Map, Audit};
 ghost use Rattle.pol_command_line.specs.declared.TheConstants.{MAP_MAX};
 ghost use Rattle.pol_command_line.specs.Given.{words_given, words_fit};
+ghost use Rattle.pol_command_line.specs.Options.{options_given};
 
 /// What some words give ('profile').
 pub fn words_that_fit()
@@ -72,4 +73,15 @@ pub fn words_that_do_not_fit()
     ensures mode { words_fit (codes "--enable-policy=Default" ∷ []) ≡ false }
     ensures localhost { words_fit (codes "--allow-localhost=never" ∷ []) ≡ false }
     ensures value { words_fit (codes "--workers" ∷ []) ≡ false }
+{}
+
+/// What some words of the program `connections` give ('profile').
+pub fn words_of_connections()
+    ensures none { options_given [] ≡ Some (record { mode = Default; localhost = true; map_max = None }) }
+    ensures both { options_given (codes "--allow-localhost=policy" ∷ codes "--enable-policy" ∷ codes "never" ∷ [])
+        ≡ Some (record { mode = Never; localhost = false; map_max = None }) }
+    ensures twice { options_given (codes "--enable-policy=always" ∷ codes "--enable-policy=always" ∷ []) ≡ None }
+    ensures value { options_given (codes "--allow-localhost=never" ∷ []) ≡ None }
+    ensures workers { options_given (codes "--workers=2" ∷ []) ≡ None }
+    ensures word { options_given (codes "script" ∷ []) ≡ None }
 {}

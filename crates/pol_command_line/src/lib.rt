@@ -1,7 +1,7 @@
 //! The words of the command line, by `clap`.
 //!
 //! `specs/Grammar` is the command as clap's contracts see it, and `specs/Given` says which lists of words fit it
-//! and what they give.
+//! and what they give. `specs/Options` says the same of the program `connections`.
 #![tactic(auto)]
 
 ghost use Rattle.std.specs.Prelude.{◌≡◌, ◌≤◌, false, map, string_bytes, option_map, None, Some, IfSome, IfOk, IsErrOf, IsSomeAnd};
@@ -16,10 +16,12 @@ use pol_data::Memory;
 use pol_model::{Mode, Options};
 use std::alloc::Global;
 
+mod connections;
 pub mod laws;
 mod limit;
 mod task;
 
+pub use connections::read_options;
 use limit::{limit_of, map_max_in};
 pub use task::Task;
 use task::task_in;
@@ -81,11 +83,11 @@ fn or_default<'a>(arg: Arg<'a>, text: &'a str) -> Arg<'a>
     arg.default_value(text)
 }
 
-// The command without its options.
-fn no_options<'a>(alloc: Global) -> Command<'a>
-    ensures { app_of result ≡ no_options }
+// The command of a program without its options.
+fn no_options<'a>(alloc: Global, name: &'a str) -> Command<'a>
+    ensures { app_of result ≡ no_options name.entry.now }
 {
-    Command::new(alloc, "policyd").no_binary_name(true)
+    Command::new(alloc, name).no_binary_name(true)
 }
 
 // The command: seven options, each once at most.
@@ -99,7 +101,7 @@ fn command<'a>(alloc: Global) -> Result<Command<'a>, Memory>
     let generate = number(alloc, "generate", 1, 10000);
     let map = option(alloc, "map");
     let audit = flag(alloc, "audit");
-    no_options(alloc)
+    no_options(alloc, "policyd")
         .arg(workers)?
         .arg(mode)?
         .arg(localhost)?

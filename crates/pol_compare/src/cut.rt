@@ -14,8 +14,9 @@ fn divides(begins: bool, bytes: &[u8]) -> bool
     begins && bytes.starts_with(DIVIDER)
 }
 
-/// What stands before the divider, and what stands behind it, if there is one.
-pub(crate) fn parts_of(text: &[u8]) -> (&[u8], Option<&[u8]>)
+/// What stands before the divider, and what stands behind it, if there is one. The divider is the first line that is `--` and
+/// ends with a newline byte ('profile').
+pub fn parts_of(text: &[u8]) -> (&[u8], Option<&[u8]>)
     ensures front { result.0.now ≡ (parts_of text.now).front }
     ensures back { option_map (λ back. back.now) result.1 ≡ (parts_of text.now).back }
 {

@@ -10,6 +10,7 @@ pub mod laws;
 mod tables;
 mod text;
 
+pub use cut::parts_of;
 pub use finding::Finding;
 pub use tables::compare;
 pub use text::finding_text;
