@@ -1,0 +1,4 @@
+pub mod Adds
+pub mod Ends
+pub mod Lines
+pub mod Text
