@@ -1,13 +1,14 @@
 #!/usr/bin/env python3
-"""The build of policyd: what it is made of, whether a proved build of that stands, and the ways to one.
+"""The builds of the programs: what each is made of, whether a proved build of that stands, and the ways to one.
 
-The proved build is crates/policyd/out/policyd. The note beside it, policyd.note, has two checksums: of the sources
-that were proved, and of the program that was built from them; and behind them, where the gate kept it, how many edits it
-saw refused. A build without such a note, or whose sources or program have changed since, is never used.
+The proved build of policyd is crates/policyd/out/policyd. The note beside it, policyd.note, has two checksums: of the
+sources that were proved, and of the program that was built from them; and behind them, where the gate kept it, how many
+edits it saw refused. A build without such a note, or whose sources or program have changed since, is never used. The same
+goes for connections.
 
-    tests/program.py sources      prints the checksum of the sources as they stand
-    tests/program.py keep SUM [LOG]
-        after `rt ci` passed, whose words are in the file LOG: notes its build, where the sources still have that checksum
+    tests/program.py sources      prints the checksums of the sources as they stand, of each program
+    tests/program.py keep SUMS [LOG]
+        after `rt ci` passed, whose words are in the file LOG: notes its builds, where the sources still have these checksums
 """
 import hashlib
 import pathlib
@@ -17,10 +18,6 @@ import sys
 import time
 
 TOP = pathlib.Path(__file__).resolve().parent.parent
-NAME = "policyd"
-CRATE = TOP / "crates" / NAME
-PROGRAM = CRATE / "out" / NAME
-NOTE = CRATE / "out" / f"{NAME}.note"
 
 
 def crate_of(line):
@@ -34,20 +31,6 @@ def crates():
     return dict(it for it in map(crate_of, (TOP / "crates.txt").read_text().splitlines()) if it)
 
 
-def parts():
-    """The crates that the program stands on, lowest first, and the program last."""
-    listed, found = crates(), []
-
-    def visit(name):
-        if name in listed and name not in found:
-            for below in listed[name]:
-                visit(below)
-            found.append(name)
-
-    visit(NAME)
-    return found
-
-
 def sum_of(path):
     return hashlib.sha256(path.read_bytes()).hexdigest() if path.is_file() else "none"
 
@@ -59,46 +42,10 @@ def kit():
         return b"no kit"
 
 
-def sources():
-    """The checksum of all that the proved program is made from: the kit, the crates' lines, their code, definitions and proofs."""
-    total, listed = hashlib.sha256(kit()), crates()
-    for name in sorted(parts()):
-        total.update(repr((name, listed[name])).encode())
-        for part in ("src", "specs", "proofs"):
-            for path in sorted((TOP / "crates" / name / part).rglob("*")):
-                if path.is_file():
-                    total.update(repr((str(path.relative_to(TOP)), path.read_bytes())).encode())
-    return total.hexdigest()
-
-
-def is_proved():
-    """Whether a proved build of the sources, as they stand now, is there."""
-    if not NOTE.is_file() or not PROGRAM.is_file():
-        return False
-    return NOTE.read_text().split()[:2] == [sources(), sum_of(PROGRAM)]
-
-
-def edits_refused():
-    """How many must-fail edits the gate that kept the build saw refused; None where no gate did."""
-    told = NOTE.read_text().split()[2:] if NOTE.is_file() else []
-    return int(told[0]) if told else None
-
-
 def refused_in(said):
     """How many must-fail edits `rt ci` says were refused, as it says it last; empty where it tells of none."""
     found = re.findall(r"must-fail edits: (\d+) refused", said)
     return found[-1] if found else ""
-
-
-def keep(before, edits=""):
-    """Notes that the program was proved and built from sources of that checksum; no, where they aren't those any more.
-
-    `edits` is how many must-fail edits were refused beside, where that is known.
-    """
-    if not PROGRAM.is_file() or before != sources():
-        return False
-    NOTE.write_text("".join(f"{it}\n" for it in (before, sum_of(PROGRAM), edits) if it))
-    return True
 
 
 def run_in(words, folder):
@@ -107,31 +54,95 @@ def run_in(words, folder):
     return done.returncode, done.stdout
 
 
-def prove(say, run=run_in):
-    """Proves the program's crates, lowest first, and builds it. Returns what went wrong, or None."""
-    before, names = sources(), parts()
-    NOTE.unlink(missing_ok=True)
-    for at, name in enumerate(names):
-        left = len(names) - at
-        say(f"proving {name} ({left} {'crates are' if left > 1 else 'crate is'} left) ..")
-        start = time.monotonic()
-        status, said = run(["rt", "run" if name == NAME else "lib"], TOP / "crates" / name)
-        if status:
-            return f"{name} is not proved:\n{said.decode(errors='replace')[-4000:]}"
-        say(f"proved {name} in {time.monotonic() - start:.0f} seconds")
-    if not keep(before):
-        return "the sources changed while they were proved: run this again"
-    return None
+class Build:
+    """A program of the repository, and the proved build of it, where one stands."""
+
+    def __init__(self, name):
+        self.name, self.crate = name, TOP / "crates" / name
+        self.program, self.note = self.crate / "out" / name, self.crate / "out" / f"{name}.note"
+
+    def parts(self):
+        """The crates that the program stands on, lowest first, and the program last."""
+        listed, found = crates(), []
+
+        def visit(name):
+            if name in listed and name not in found:
+                for below in listed[name]:
+                    visit(below)
+                found.append(name)
+
+        visit(self.name)
+        return found
+
+    def sources(self):
+        """The checksum of all that the proved program is made from: the kit, the crates' lines, their code, definitions and proofs."""
+        total, listed = hashlib.sha256(kit()), crates()
+        for name in sorted(self.parts()):
+            total.update(repr((name, listed[name])).encode())
+            for part in ("src", "specs", "proofs"):
+                for path in sorted((TOP / "crates" / name / part).rglob("*")):
+                    if path.is_file():
+                        total.update(repr((str(path.relative_to(TOP)), path.read_bytes())).encode())
+        return total.hexdigest()
+
+    def is_proved(self):
+        """Whether a proved build of the sources, as they stand now, is there."""
+        if not self.note.is_file() or not self.program.is_file():
+            return False
+        return self.note.read_text().split()[:2] == [self.sources(), sum_of(self.program)]
+
+    def edits_refused(self):
+        """How many must-fail edits the gate that kept the build saw refused; None where no gate did."""
+        told = self.note.read_text().split()[2:] if self.note.is_file() else []
+        return int(told[0]) if told else None
+
+    def keep(self, before, edits=""):
+        """Notes that the program was proved and built from sources of that checksum; no, where they aren't those any more.
+
+        `edits` is how many must-fail edits were refused beside, where that is known.
+        """
+        if not self.program.is_file() or before != self.sources():
+            return False
+        self.note.write_text("".join(f"{it}\n" for it in (before, sum_of(self.program), edits) if it))
+        return True
+
+    def prove(self, say, run=run_in):
+        """Proves the program's crates, lowest first, and builds it. Returns what went wrong, or None."""
+        before, names = self.sources(), self.parts()
+        self.note.unlink(missing_ok=True)
+        for at, name in enumerate(names):
+            left = len(names) - at
+            say(f"proving {name} ({left} {'crates are' if left > 1 else 'crate is'} left) ..")
+            start = time.monotonic()
+            status, said = run(["rt", "run" if name == self.name else "lib"], TOP / "crates" / name)
+            if status:
+                return f"{name} is not proved:\n{said.decode(errors='replace')[-4000:]}"
+            say(f"proved {name} in {time.monotonic() - start:.0f} seconds")
+        if not self.keep(before):
+            return "the sources changed while they were proved: run this again"
+        return None
+
+
+POLICYD, CONNECTIONS = Build("policyd"), Build("connections")
+NAME, CRATE, PROGRAM, NOTE = POLICYD.name, POLICYD.crate, POLICYD.program, POLICYD.note
+parts, sources, is_proved, edits_refused, prove = POLICYD.parts, POLICYD.sources, POLICYD.is_proved, POLICYD.edits_refused, POLICYD.prove
+
+
+def listed():
+    """The programs that crates.txt lists."""
+    return [it for it in (POLICYD, CONNECTIONS) if it.name in crates()]
 
 
 def main(words):
     if words == ["sources"]:
-        print(sources())
+        print(":".join(it.sources() for it in listed()))
         return 0
     if len(words) in (2, 3) and words[0] == "keep":
-        if keep(words[1], *(refused_in(pathlib.Path(it).read_text(errors="replace")) for it in words[2:])):
+        edits = [refused_in(pathlib.Path(it).read_text(errors="replace")) for it in words[2:]]
+        kept = [it.keep(before, *edits) for it, before in zip(listed(), words[1].split(":"))]
+        if all(kept):
             return 0
-        print("the sources of policyd changed while they were proved, or it wasn't built: run this again", file=sys.stderr)
+        print("the sources of a program changed while they were proved, or it wasn't built: run this again", file=sys.stderr)
         return 1
     print(__doc__.split("\n\n")[-1], file=sys.stderr)
     return 2
