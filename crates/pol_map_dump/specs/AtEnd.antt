@@ -1,26 +1,16 @@
 -- The map that a script leaves an endpoint with.
-use Rattle.std.specs.Prelude.{ℕ, Bool, List, [], ◌∷◌, Option, None, Some, is_some}
+use Rattle.std.specs.Prelude.{ℕ, Bool, List, Option, None, Some, is_some}
 use Rattle.pol_answer.specs.declared.answer.Answer.TheVariants as answer
 use Rattle.pol_answer.specs.Text.{text_of as answer_text}
 use Rattle.pol_audit.specs.Text.{text_of as table_text}
 use Rattle.pol_model.specs.declared.options.Options.{Options}
 use Rattle.pol_model.specs.declared.row.Endpoint.{Endpoint}
-use Rattle.pol_model.specs.After.{start}
 use Rattle.pol_model.specs.Endpoints.{endpoint_of}
 use Rattle.pol_model.specs.PolicyMap.{policy_map}
 use Rattle.pol_model.specs.State.{State}
 use Rattle.pol_run.specs.Run.{readings_of}
-use Rattle.pol_run.specs.Serial.{state_then}
 use Rattle.pol_run.specs.Spots.{Reading}
-
--- the state that lines leave, from a state on: a request without a fault commits, and no other line changes anything
-abbrev pub state_left : State → List Reading → State
-state_left s [] = s
-state_left s (reading ∷ readings) = state_left (state_then s reading) readings
-
--- the state that the lines of a script leave
-abbrev pub state_after : Options → List Reading → State
-state_after options readings = state_left (start options) readings
+use Rattle.pol_script_commits.specs.Left.{state_after}
 
 -- the live endpoint of the name there
 abbrev pub endpoint_after : Options → List ℕ → List Reading → Option Endpoint

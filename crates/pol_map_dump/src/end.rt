@@ -2,12 +2,12 @@
 ghost use Rattle.std.specs.Prelude.{◌≡◌, [], None, IfOk, is_some};
 ghost use Rattle.pol_map_dump.specs.AtEnd.{endpoint_after, is_live, map_text, map_text_after};
 
-use crate::commits::commit_all;
 use crate::map::{MapText, map_of};
 use pol_data::Memory;
 use pol_model::Options;
 use pol_repo::Repo;
 use pol_script::{Reading, read_script};
+use pol_script_commits::commit_all;
 use std::alloc::Global;
 
 /// What is written of the map of the endpoint of that name at the end of a script. The requests of the script are committed
@@ -55,6 +55,6 @@ fn map_over(
     ensures text { IfOk result (λ map. map.text.items ≡ map_text_after repo.old.options name.now readings.items) }
     ensures live { IfOk result (λ map. map.live ≡ is_some (endpoint_after repo.old.options name.now readings.items)) }
 {
-    commit_all(repo, readings)?;
+    commit_all(alloc, repo, readings)?;
     map_of(alloc, repo, name)
 }

@@ -3,7 +3,6 @@
 //! `map_at_end` commits the requests of a script one after another, and writes the map of an endpoint at the end.
 #![tactic(auto)]
 
-mod commits;
 mod end;
 pub mod laws;
 mod map;

@@ -1,6 +1,6 @@
 use Rattle.std.proofs.Common.{is_some, ap, ◌∙◌}
 use Rattle.std.proofs.lemmas.Result.{IfOk-weaker}
-use Rattle.pol_map_dump.proofs.Ending.{under_these}
+use Rattle.pol_script_commits.proofs.Starting.{under_these}
 use Rattle.pol_map_dump.specs.AtEnd.{endpoint_after, map_text_after}
 use Rattle.pol_model.specs.declared.options.Options.{Options}
 use Rattle.pol_map_dump.proofs.end.map_after.Goals as goal

@@ -1,58 +1,88 @@
 //! The requests of a script are committed one after another.
-ghost use Rattle.std.specs.Prelude.{◌≡◌, None, IfErr, IfOk, OnErr, OnOk};
+ghost use Rattle.std.specs.Prelude.{◌≡◌, ◌++◌, None, IfErr, IfOk, OnErr, OnOk};
 ghost use Rattle.pol_model.specs.Commits.{Commits};
+ghost use Rattle.pol_model.specs.Fault.{fault_of};
 ghost use Rattle.pol_model.specs.Sizes.{IsShort};
 ghost use Rattle.pol_repo.specs.Causes.{IsCause};
 ghost use Rattle.pol_repo.specs.Repository.{state_in};
 ghost use Rattle.pol_run.specs.Serial.{state_committed, state_then};
-ghost use Rattle.pol_map_dump.specs.AtEnd.{state_left};
+ghost use Rattle.pol_script_commits.specs.Left.{state_left};
+ghost use Rattle.pol_script_commits.specs.Refused.{at_line, refusals_from, refused_by, refused_in};
 
+use crate::refusal::Refusal;
+use pol_answer::Answer;
 use pol_data::{Memory, Steps};
 use pol_model::{CommitError, Committed, Request};
 use pol_repo::Repo;
 use pol_script::{Command, Reading};
+use std::alloc::Global;
 use std::marker::Brand;
 use std::sync::ledger::{Blank, Ledger};
 
-/// Commits the requests of the lines, in order. What is refused, and what isn't a request, is passed over.
-pub(crate) fn commit_all(repo: &mut Repo, readings: Vec<Reading>) -> Result<(), Memory>
+/// Commits the requests of the lines, in order, and tells the lines that are refused. Those, and what isn't a request, change
+/// nothing. The one error is want of memory.
+pub fn commit_all(
+    alloc: Global,
+    repo: &mut Repo,
+    readings: Vec<Reading>,
+) -> Result<Vec<Refusal>, Memory>
     requires { repo.old.prepared ≡ None }
     ensures state { OnOk result (state_in repo.new ≡ state_left (state_in repo.old) readings.items) }
+    ensures refused { IfOk result (λ refusals. refusals.items ≡ refusals_from 0 (state_in repo.old) readings.items) }
     ensures options { OnOk result (repo.new.options ≡ repo.old.options) }
     ensures idle { OnOk result (repo.new.prepared ≡ None) }
 {
+    let mut refusals = Vec::new(alloc);
+    let mut line = 0u64;
     for reading in readings {
-        commit_line(repo, reading)?;
+        line += 1;
+        let found = commit_line(repo, reading)?;
+        push_found(&mut refusals, line, found)?;
     }
-    Ok(())
+    Ok(refusals)
 }
 
-/// Commits the request of the line, if it has one that has no fault.
-fn commit_line(repo: &mut Repo, reading: Reading) -> Result<(), Memory>
+/// Appends the line, if it is refused.
+fn push_found(refusals: &mut Vec<Refusal>, line: u64, found: Option<Answer>) -> Result<(), Memory>
+    ensures { OnOk result (refusals.new.items ≡ refusals.old.items ++ at_line line found) }
+{
+    match found {
+        None => Ok(()),
+        Some(answer) => {
+            refusals.push(Refusal { line, answer })?;
+            Ok(())
+        }
+    }
+}
+
+/// Commits the request of the line, if it has one that has no fault. What is answered where it is refused.
+fn commit_line(repo: &mut Repo, reading: Reading) -> Result<Option<Answer>, Memory>
     requires { repo.old.prepared ≡ None }
     ensures state { OnOk result (state_in repo.new ≡ state_then (state_in repo.old) reading) }
+    ensures refused { IfOk result (λ found. found ≡ refused_in (state_in repo.old) reading) }
     ensures options { OnOk result (repo.new.options ≡ repo.old.options) }
     ensures idle { OnOk result (repo.new.prepared ≡ None) }
 {
     match reading {
-        Err(_fault) => Ok(()),
+        Err(fault) => Ok(Some(Answer::BadLine(fault))),
         Ok(
             Command::Commit {
                 session: _,
                 request,
             },
         ) => commit(repo, request),
-        Ok(Command::Look { .. }) => Ok(()),
-        Ok(Command::Trace { .. }) => Ok(()),
-        Ok(Command::Sync { session: _ }) => Ok(()),
-        Ok(Command::Phase) => Ok(()),
+        Ok(Command::Look { .. }) => Ok(None),
+        Ok(Command::Trace { .. }) => Ok(None),
+        Ok(Command::Sync { session: _ }) => Ok(None),
+        Ok(Command::Phase) => Ok(None),
     }
 }
 
-/// Commits the request, if it has no fault.
-fn commit(repo: &mut Repo, request: Request) -> Result<(), Memory>
+/// Commits the request, if it has no fault. What is answered where it has one.
+fn commit(repo: &mut Repo, request: Request) -> Result<Option<Answer>, Memory>
     requires { repo.old.prepared ≡ None }
     ensures state { OnOk result (state_in repo.new ≡ state_committed (state_in repo.old) request) }
+    ensures refused { IfOk result (λ found. found ≡ refused_by (state_in repo.old) (fault_of (state_in repo.old) request)) }
     ensures options { OnOk result (repo.new.options ≡ repo.old.options) }
     ensures idle { OnOk result (repo.new.prepared ≡ None) }
 {
@@ -61,8 +91,8 @@ fn commit(repo: &mut Repo, request: Request) -> Result<(), Memory>
         return Err(Memory);
     }
     match commit_over::<Brand>(Blank::new(1), repo, request) {
-        Ok(_done) => Ok(()),
-        Err(CommitError::Refused(_refused)) => Ok(()),
+        Ok(_done) => Ok(None),
+        Err(CommitError::Refused(refused)) => Ok(Some(Answer::Refused(refused))),
         Err(CommitError::Memory) => Err(Memory),
     }
 }
