@@ -1,0 +1,4 @@
+pub mod Script
+pub mod Ends
+pub mod Told
+pub mod Headline
