@@ -4,6 +4,7 @@
     bench/lines.py          plays `{"op":"sync"}` up to 1,000,000 times; up to 400,000 lines of endpoints that are
                             refused once they are read; 256 endpoints, 64 policies and up to 100,000 verdicts,
                             and as many traces; and generated scripts of up to 10,000 rounds
+    bench/lines.py --keep   the same, and its figures are appended to bench/results.tsv
 
 Each row has the seconds, the peak memory in MiB, the megabytes of the script for a second, and the ratio of its
 seconds to those of the row before.
@@ -15,6 +16,10 @@ import subprocess
 import sys
 import tempfile
 import time
+
+sys.dont_write_bytecode = True
+sys.path.insert(0, str(pathlib.Path(__file__).resolve().parent))
+import results  # noqa: E402
 
 TOP = pathlib.Path(__file__).resolve().parent.parent
 PROGRAM = TOP / "crates" / "policyd" / "out" / "policyd"
@@ -83,11 +88,14 @@ MEASURED = (
 
 
 def main():
+    rows = results.Rows("--keep" in sys.argv[1:])
     for name, make, counts in MEASURED:
         last = None
         for count in counts:
             script = make(count) if make else ""
             seconds, memory = measured([] if make else ["--generate", str(count)], script)
+            rows.add(f"bench/lines.py {name}", count, [seconds], "s")
+            rows.add(f"bench/lines.py {name}: peak", count, [memory], "MiB")
             ratio = "" if last is None else f"  x{seconds / last:.2f}"
             speed = f"  {len(script) / seconds / 1e6:.1f} MB/s" if make else ""
             print(f"{count:>9} {name:<17} {seconds:8.2f} s {memory:9.1f} MiB{speed}{ratio}", flush=True)

@@ -4,6 +4,7 @@
     bench/reading.py        applies of about 400 bytes, one policy after another in place of each other; the same, read and
                             then refused for the last port's protocol; one policy of 2,500, 5,000 and 10,000 entries; and
                             one whose `status` has 2.5, 5 and 10 MiB
+    bench/reading.py --keep the same, and its figures are appended to bench/results.tsv
 
 Each row has the size of the script, the seconds, MB/s, the peak memory in MiB, and the ratio of its seconds to those of
 the row before. `applies` are committed too; what is refused is read alone. `no-spec` lines are refused where the document
@@ -15,6 +16,7 @@ import sys
 sys.dont_write_bytecode = True
 sys.path.insert(0, str(pathlib.Path(__file__).resolve().parent))
 import lines  # noqa: E402
+import results  # noqa: E402
 
 
 def apply(name, spec, **more):
@@ -54,6 +56,7 @@ def no_spec(count):
 
 
 def main():
+    rows = results.Rows("--keep" in sys.argv[1:])
     for name, script, counts in (
         ("applies", applies, (20_000, 40_000, 80_000)),
         ("refused applies", refused, (20_000, 40_000, 80_000)),
@@ -66,6 +69,8 @@ def main():
             made = script(count)
             seconds, memory = lines.measured([], made)
             size = len(made) / 1e6
+            rows.add(f"bench/reading.py {name}", f"{count}, of {size:.1f} MB", [size / seconds], "MB/s")
+            rows.add(f"bench/reading.py {name}: peak", f"{count}, of {size:.1f} MB", [memory], "MiB")
             ratio = "" if last is None else f"  x{seconds / last:.2f}"
             print(f"{count:>9} {name:<15} {size:8.1f} MB {seconds:8.2f} s {size / seconds:8.1f} MB/s {memory:9.1f} MiB{ratio}", flush=True)
             last = seconds

@@ -229,7 +229,27 @@ def introduced(name):
     return [*(f"it has no section {it}" for it in SECTIONS if f"\n## {it}\n" not in text), *lost_names(own, [name])]
 
 
+# What was measured.
+
+MEASURED = TOP / "bench" / "results.tsv"
+FIELDS = {"date": r"(\d{4}-\d\d-\d\d)?", "commit": "([0-9a-f]{8})?", "machine": ".*", "what": ".+", "size": ".*",
+          "median": r"(\d+(\.\d+)?)?", "least": r"(\d+(\.\d+)?)?", "unit": ".+"}
+
+
+def is_measured(row):
+    """Whether a row of the table has its fields, and a figure."""
+    fields = row.split("\t")
+    known = len(fields) == len(FIELDS) and all(map(re.fullmatch, FIELDS.values(), fields))
+    return known and any(fields[5:7])
+
+
+def odd_rows():
+    head, *rows = MEASURED.read_text().splitlines()
+    return ([] if head.split("\t") == [*FIELDS] else [head]) + [it for it in rows if not is_measured(it)]
+
+
 def checks():
+    yield "rows of bench/results.tsv", odd_rows
     yield "diagram docs/LAYERS.md", diagram
     yield from rooms.checks()
     yield from definitions.checks()
