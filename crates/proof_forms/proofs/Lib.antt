@@ -1,0 +1,4 @@
+mod Adding
+mod Counts
+mod Greatest
+mod Stopping
