@@ -1,4 +1,4 @@
-//! Times a policy map of 16,000 keys over 1,000 identities: sets, look-ups, a copy and clears.
+//! Times policy maps of 4,096 to 65,536 keys, sixteen an identity: sets, look-ups, a copy and clears.
 ghost use Rattle.std.specs.Prelude.{◌≡◌};
 
 use anyhow::Result;
@@ -12,10 +12,11 @@ use std::rt::Clock;
 use std::sync::ledger::{Blank, Ledger};
 use std::time::Instant;
 
-/// Identities, and keys of each.
-const IDENTITIES: u32 = 1_000;
+/// How many keys a map has, the greatest as many as one may have.
+const SIZES: [u32; 5] = [4_096, 8_192, 16_384, 32_768, 65_536];
 
-const KEYS: u32 = 16_000;
+/// How many keys an identity has.
+const OF_ONE: u32 = 16;
 
 /// How many packets are looked up.
 const LOOK_UPS: u32 = 100_000;
@@ -25,11 +26,17 @@ fn port_of(i: u32) -> u16 {
     (i.wrapping_mul(0x9e37_79b1) >> 16) as u16
 }
 
+/// The identity of a key's number, where there are so many keys.
+fn id_of(i: u32, keys: u32) -> u32 {
+    let identities = (keys / OF_ONE).max(1);
+    (i % identities).wrapping_add(256)
+}
+
 /// The key of a number: one port of an identity.
-fn key_of(i: u32) -> MapKey {
+fn key_of(i: u32, keys: u32) -> MapKey {
     MapKey {
         dir: Direction::Ingress,
-        id: 256 + i % IDENTITIES,
+        id: id_of(i, keys),
         proto: KeyProto::Tcp,
         port: PortPrefix {
             bits: port_of(i),
@@ -39,20 +46,20 @@ fn key_of(i: u32) -> MapKey {
 }
 
 /// Sets the keys.
-fn fill(trie: &mut PolicyTrie) -> Result<(), AllocError> {
-    for i in 0..KEYS {
+fn fill(trie: &mut PolicyTrie, keys: u32) -> Result<(), AllocError> {
+    for i in 0..keys {
         if trie.count() < 1_000_000 {
-            trie.set(key_of(i), Kind::Allow)?;
+            trie.set(key_of(i, keys), Kind::Allow)?;
         }
     }
     Ok(())
 }
 
 /// Clears the keys, and counts those that were there.
-fn clear(trie: &mut PolicyTrie) -> u32 {
+fn clear(trie: &mut PolicyTrie, keys: u32) -> u32 {
     let mut there = 0u32;
-    for i in 0..KEYS {
-        if trie.clear(&key_of(i)) {
+    for i in 0..keys {
+        if trie.clear(&key_of(i, keys)) {
             there = there.wrapping_add(1);
         }
     }
@@ -60,20 +67,21 @@ fn clear(trie: &mut PolicyTrie) -> u32 {
 }
 
 /// How many packets are allowed: half of them on a port of a key.
-fn allowed_over<L: Ledger>(blank: Blank, trie: &PolicyTrie) -> u32
+fn allowed_over<L: Ledger>(blank: Blank, trie: &PolicyTrie, keys: u32) -> u32
     requires name { blank.name ≡ L.name }
     requires parts { blank.parts ≡ L.parts }
     requires some { blank.parts ≡ 1 }
 {
     let mut steps = Steps::<L>::new(blank);
+    let twice = keys.saturating_mul(2).max(1);
     let mut allowed = 0u32;
     for i in 0..LOOK_UPS {
-        let id = 256 + i % IDENTITIES;
+        let id = id_of(i, keys);
         let word = trie.look(
             Direction::Ingress,
             id,
             Proto::Tcp,
-            port_of(i % (2 * KEYS)),
+            port_of(i % twice),
             &mut steps,
         );
         if word == Word::Allowed {
@@ -83,25 +91,33 @@ fn allowed_over<L: Ledger>(blank: Blank, trie: &PolicyTrie) -> u32
     allowed
 }
 
-fn allowed(trie: &PolicyTrie) -> u32 {
-    allowed_over::<Brand>(Blank::new(1), trie)
+fn allowed(trie: &PolicyTrie, keys: u32) -> u32 {
+    allowed_over::<Brand>(Blank::new(1), trie, keys)
 }
 
-fn time_sets<R: Clock + Eprint + AllocGlobal>(rt: &R, trie: &mut PolicyTrie) -> Result<()> {
+fn time_sets<R: Clock + Eprint + AllocGlobal>(
+    rt: &R,
+    trie: &mut PolicyTrie,
+    keys: u32,
+) -> Result<()> {
     let start = Instant::now(rt)?;
-    fill(trie)?;
-    let nanos = start.elapsed(rt)?.as_nanos() / u128::from(KEYS);
+    fill(trie, keys)?;
+    let nanos = start.elapsed(rt)?.as_nanos() / u128::from(keys.max(1));
     let count = trie.count();
     let nodes = trie.nodes();
     eprintln!(rt; "set: {nanos} ns, {count} keys, {nodes} nodes")?;
     Ok(())
 }
 
-fn time_look_ups<R: Clock + Eprint + AllocGlobal>(rt: &R, trie: &PolicyTrie) -> Result<()> {
+fn time_look_ups<R: Clock + Eprint + AllocGlobal>(
+    rt: &R,
+    trie: &PolicyTrie,
+    keys: u32,
+) -> Result<()> {
     let start = Instant::now(rt)?;
-    let found = allowed(trie);
+    let found = allowed(trie, keys);
     let nanos = start.elapsed(rt)?.as_nanos() / u128::from(LOOK_UPS);
-    eprintln!(rt; "look: {nanos} ns, {found} allowed")?;
+    eprintln!(rt; "look: {nanos} ns, {keys} keys, {found} allowed")?;
     Ok(())
 }
 
@@ -118,23 +134,34 @@ fn time_copy<R: Clock + Eprint + AllocGlobal>(rt: &R, trie: &PolicyTrie) -> Resu
     Ok(())
 }
 
-fn time_clears<R: Clock + Eprint + AllocGlobal>(rt: &R, trie: &mut PolicyTrie) -> Result<()> {
+fn time_clears<R: Clock + Eprint + AllocGlobal>(
+    rt: &R,
+    trie: &mut PolicyTrie,
+    keys: u32,
+) -> Result<()> {
     let start = Instant::now(rt)?;
-    let there = clear(trie);
-    let nanos = start.elapsed(rt)?.as_nanos() / u128::from(KEYS);
+    let there = clear(trie, keys);
+    let nanos = start.elapsed(rt)?.as_nanos() / u128::from(keys.max(1));
     eprintln!(rt; "clear: {nanos} ns, {there} keys")?;
     Ok(())
 }
 
-fn time_all<R: Clock + Eprint + AllocGlobal>(rt: &R, trie: &mut PolicyTrie) -> Result<()> {
-    time_sets(rt, trie)?;
-    time_look_ups(rt, trie)?;
+fn time_all<R: Clock + Eprint + AllocGlobal>(
+    rt: &R,
+    trie: &mut PolicyTrie,
+    keys: u32,
+) -> Result<()> {
+    time_sets(rt, trie, keys)?;
+    time_look_ups(rt, trie, keys)?;
     time_copy(rt, trie)?;
-    time_clears(rt, trie)
+    time_clears(rt, trie, keys)
 }
 
-/// Times all of these, on a map that is empty at first.
+/// Times all of these, on a map of each size that is empty at first.
 pub(crate) fn time<R: Clock + Eprint + AllocGlobal>(rt: &R) -> Result<()> {
-    let mut trie = PolicyTrie::new(rt.alloc());
-    time_all(rt, &mut trie)
+    for keys in &SIZES {
+        let mut trie = PolicyTrie::new(rt.alloc());
+        time_all(rt, &mut trie, *keys)?;
+    }
+    Ok(())
 }
