@@ -1,7 +1,7 @@
 //! The writer of a board.
-ghost use Rattle.std.specs.Prelude.{◌≡◌, ◌<◌, ◌≤◌, ◌^◌, ◌++◌, ◌∷◌, [], None, Some, length, IfOk, IfSome, OnOk, OnErr, IsTrue};
+ghost use Rattle.std.specs.Prelude.{◌≡◌, ◌<◌, ◌≤◌, ◌^◌, ◌++◌, ◌∷◌, [], None, Some, false, length, IfOk, IfSome, IsErr, OnOk, OnErr, IsTrue};
 ghost use mathlib.Core.List.{IsPrefix};
-ghost use Rattle.left_right.specs.Handles.{published};
+ghost use Rattle.left_right.specs.Handles.{pending, published};
 ghost use Rattle.pol_model.specs.After.{after};
 ghost use Rattle.pol_model.specs.Committed.{committed_of};
 ghost use Rattle.pol_model.specs.Fault.{fault_of};
@@ -45,6 +45,8 @@ where
     spent: bool,
     counts: Vec<u64>,
     ghost shown: { published board ≡ seen },
+    // Nothing waits to be shown: what was refused is never shown.
+    ghost calm: { spent ≡ false → pending board ≡ [] },
     ghost counted: { Counted counts.items seen },
 }
 
@@ -83,19 +85,17 @@ fn until_fits<N: NodeName, W: Wait>(rt: &W, seen: &Seen<N>, counts: &[u64], pass
     unreachable!()
 }
 
-/// Shows a history with an event more, where there is one. After want of memory the event is never shown.
+/// Shows a history with an event more, where there is one.
 fn append<N: NodeName, R: Wait + Drop>(
     board: &mut WriteHandle<Face<N>, FaceOp<N>, R>,
     longer: Option<Seen<N>>,
     change: FaceChange,
 ) -> Result<Seen<N>, Memory>
     requires change { IfSome longer (λ l. IsChangeOf N.options change l) }
-    ensures ok { IfOk result (λ l. (longer ≡ Some l) × (published board.new ≡ l)) }
+    requires calm { pending board.old ≡ [] }
+    ensures ok { IfOk result (λ l. (longer ≡ Some l) × (published board.new ≡ l) × (pending board.new ≡ [])) }
     ensures err { OnErr result (published board.new ≡ published board.old) }
 {
-    if board.has_pending_operations() {
-        return Err(Memory);
-    }
     let Some(longer) = longer else {
         return Err(Memory);
     };
@@ -134,6 +134,7 @@ impl<N: NodeName, R: Wait + Drop> BoardWriter<N, R> {
         counts: Vec<u64>,
     ) -> BoardWriter<N, R>
         requires shown { published board ≡ seen }
+        requires calm { pending board ≡ [] }
         requires counted { Counted counts.items seen }
         ensures { result.seen ≡ seen }
     {
@@ -193,6 +194,7 @@ impl<N: NodeName, R: Wait + Drop> BoardWriter<N, R> {
         ensures shown { pass.new.has.history ≡ self.new.seen }
         ensures err { OnErr result (self.new.seen ≡ self.old.seen) }
         ensures err_grows { OnErr result (PassGrowsWhole N.options pass.old pass.new []) }
+        ensures spent { IsTrue self.old.spent → IsErr result × IsTrue self.new.spent }
     {
         let _ = done;
         until_fits(rt, &self.seen, &self.counts, pass);
@@ -231,6 +233,7 @@ impl<N: NodeName, R: Wait + Drop> BoardWriter<N, R> {
         ensures added { OnOk result (self.new.seen ≡ self.old.seen ++ event.Publish (endpoint_id taken.now.endpoint) taken.now.revision (table_at N.options self.old.seen (endpoint_id taken.now.endpoint) taken.now.revision) ∷ []) }
         ensures shown { pass.new.has.history ≡ self.new.seen }
         ensures err { OnErr result (self.new.seen ≡ self.old.seen) }
+        ensures spent { IsTrue self.old.spent → IsErr result × IsTrue self.new.spent }
     {
         until_fits(rt, &self.seen, &self.counts, pass);
         pass.shown(&self.seen);
@@ -269,6 +272,7 @@ impl<N: NodeName, R: Wait + Drop> BoardWriter<N, R> {
         ensures added { OnOk result (self.new.seen ≡ self.old.seen ++ event.Blocked (endpoint_id taken.now.endpoint) taken.now.revision count ∷ []) }
         ensures shown { pass.new.has.history ≡ self.new.seen }
         ensures err { OnErr result (self.new.seen ≡ self.old.seen) }
+        ensures spent { IsTrue self.old.spent → IsErr result × IsTrue self.new.spent }
     {
         until_fits(rt, &self.seen, &self.counts, pass);
         pass.shown(&self.seen);

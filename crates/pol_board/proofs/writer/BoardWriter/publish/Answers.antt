@@ -11,8 +11,8 @@ use Rattle.pol_board.proofs.Counting.{counted-publish}
 use Rattle.pol_board.proofs.Showing.{longer_is, longer-is_change, own_shown}
 use Rattle.pol_board.proofs.writer.BoardWriter.publish.Goals as goal
 
-pub append-requires : goal.append-requires
-append-requires g c =
+pub append-requires-clause-change : goal.append-requires-clause-change
+append-requires-clause-change g c =
     let t = c.args.taken.now in let h = c.args.self.now.seen in let options = g.N.NodeName.options in
     let table = table_at options h (endpoint_id t.endpoint) t.revision in
     let state = state-prefix options c.args.pass.now.has.history h t.revision c.until_fits.ensures.grows c.requires.seen in
@@ -20,7 +20,7 @@ append-requires g c =
       leads = c.requires.leads;
       numbers = λ address. c.requires.taken.addresses address ∙ ap (λ (s : State). numbers_in s address) (sym state);
     }) in
-    record { change = longer-is_change options c.in_ok-change.change h (event.Publish (endpoint_id t.endpoint) t.revision table) c.publish-longer.result tells c.publish-longer.ensures }
+    longer-is_change options c.in_ok-change.change h (event.Publish (endpoint_id t.endpoint) t.revision table) c.publish-longer.result tells c.publish-longer.ensures
 
 pub shown-requires-2-clause-own : goal.shown-requires-2-clause-own
 shown-requires-2-clause-own g c =
