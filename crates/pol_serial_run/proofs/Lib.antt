@@ -1,0 +1,4 @@
+pub mod Commits
+pub mod Telling
+pub mod Going
+pub mod Worked

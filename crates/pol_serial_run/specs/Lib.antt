@@ -1,0 +1,4 @@
+pub mod SerialRun
+pub mod Accepted
+pub mod Asking
+pub mod Worked
