@@ -80,7 +80,7 @@ def what_is_refused_unforeseen_is_not_read(folder, wrong):
         status, out, err = door.call("list", "--to", "shop/cart", "--from", "shop/web", *state)
     row = ["shop/web", "shop/cart", "every protocol and port", "egress: no policy isolates it; ingress: no policy isolates it; unsure: shop/odd isn't read whole"]
     told(wrong, "the row", (status, stripped("\n".join(out.splitlines()[2:]))), (4, [row]))
-    told(wrong, "what is said of it", any(it.startswith("wenirako: shop/odd isn't in force: policyd refused it: 36 ") for it in err.splitlines()), True)
+    told(wrong, "what is said of it", any(it.startswith("wenirako: 1 policy isn't read whole: shop/odd: it isn't in force: policyd refused it: 36 ") for it in err.splitlines()), True)
 
 
 def checks():

@@ -370,7 +370,7 @@ def refusals_that_were_not_foreseen(wrong):
     before = read([NAMESPACE, *PODS, FINE, policy("gone", FINE["spec"])])
     fine = next(it for it in before.parts() if it.name == "shop/fine")
     for removed, wanted in (
-        (["cnp/shop/gone"], ["shop/fine isn't in force: policyd refused it: 14 unsupported news"]),
+        (["cnp/shop/gone"], ["1 policy isn't read whole: shop/fine: it isn't in force: policyd refused it: 14 unsupported news"]),
         (["cnp/shop/fine"], "shop/fine isn't read: 14 unsupported news. Nothing can be said of it"),
     ):
         made = changed(before, (), removed)

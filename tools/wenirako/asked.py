@@ -39,8 +39,7 @@ class Asked:
 
     def notes(self) -> list[str]:
         """What is said of what answers lack."""
-        found = [f"{name} isn't in force: policyd refused it: {why}" for name, why in self.halves.unforeseen.items()]
-        return [*self.states.notes(), *found]
+        return list(self.states.notes())
 
     def why(self, half: Half, segment: Segment) -> str:
         return of_half(half, self.halves.why(segment), self.states.written)

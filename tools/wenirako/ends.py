@@ -103,10 +103,10 @@ class Universe:
             self.taken.add(number_of(self.sets[at].address))
         return self.numbers[labels]
 
-    def mistrust(self, policies: Iterable) -> None:
-        """Takes policies that the core refuses, and that were thought to be read, for such that aren't."""
-        for part in policies:
-            found = Unsure(part.name, "policyd refused it", "", isolates=True, selector=part.selects, said=part.line)
+    def mistrust(self, policies: Iterable[tuple]) -> None:
+        """Takes policies that the core refuses, each with why, and that were thought to be read, for such that aren't."""
+        for part, why in policies:
+            found = Unsure(part.name, f"it isn't in force: policyd refused it: {why}", "", isolates=True, selector=part.selects, said=part.line)
             for state in self.states:
                 if any(it.line == part.line for it in state.parts()):
                     state.all_unsure.append(found)

@@ -90,7 +90,7 @@ class Halves:
             except Misjudged as found:
                 more = {line: why for line, why in found.refused.items() if line not in self.core.refused and line in self.documents}
                 self.unforeseen.update({self.documents[line].name: why for line, why in more.items()})
-                self.universe.mistrust(self.documents[line] for line in more)
+                self.universe.mistrust((self.documents[line], why) for line, why in more.items())
                 self.beside = Beside(self.universe)
                 self.select({*self.core.refused, *more} if more else {*found.refused})
         raise NoAnswer("policyd refuses other policies each time")
