@@ -6,7 +6,7 @@ from typing import Sequence
 
 from .report import Report
 
-SCHEMA = "wenirako/1"
+SCHEMA = "wenirako/2"
 # Cells are padded up to so many letters; a longer one shifts its line alone.
 WIDEST = 60
 # What a forge takes of a comment, with room for a heading, and how many rows stand unfolded.
