@@ -23,7 +23,7 @@ pub(crate) const CONFIG: KeptConfig = KeptConfig {
 };
 
 /// How a commit ended.
-enum Told {
+pub(crate) enum Told {
     Kept(u64),
     Refused,
     NoMemory,
