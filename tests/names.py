@@ -12,8 +12,11 @@ import program
 
 TYPE = re.compile(r"(?m)^(pub )?(?:pub\(\w+\) )?(?:enum|struct|trait|union|type) (\w+)")
 TWICE = {
+    # Those of both families take the place of those of IPv4, under their names.
+    "Addr": "pol_addr pol_ip",
     "Entries": "pol_audit pol_rule",
     "Kept": "pol_kept pol_kept_filters",
+    "Prefix": "pol_addr pol_ip",
 }
 
 # Names that crates had, which said less of what they hold than those that they have.
