@@ -17,6 +17,7 @@ TWICE = {
     "Entries": "pol_audit pol_rule",
     "Kept": "pol_kept pol_kept_filters",
     "Prefix": "pol_addr pol_ip",
+    "PrefixTable": "pol_ip_table pol_prefix_table",
 }
 
 # Names that crates had, which said less of what they hold than those that they have.

@@ -1,0 +1,6 @@
+pub mod Links
+pub mod Sizes
+pub mod Slots
+pub mod Starts
+pub mod Table
+pub mod Trie

@@ -1,0 +1,132 @@
+//! Walks from the root down to a prefix.
+ghost use Rattle.std.specs.Prelude.{◌≡◌, ◌+◌, ◌<◌, ◌≤◌, IfSome, IfNone, Some};
+ghost use Rattle.slab.specs.Slab.{get};
+ghost use Rattle.pol_ip.specs.Address.{family_of, width_of};
+ghost use Rattle.pol_ip.specs.Cidr.{IsPrefix};
+ghost use Rattle.pol_ip_table.specs.Trie.{IsTrie, HasRoot, child_toward, StandsOver, IsDeepest, NoneBetween, IsSpot, len_at};
+ghost use Rattle.pol_ip_table.specs.Starts.{HasReached};
+
+use crate::bits::Bits;
+use crate::node::PrefixNode;
+use crate::nodes::Nodes;
+use pol_ip::Prefix;
+
+/// The key of the node below that may cover the target: the one on the target's side.
+fn toward(node: &PrefixNode, target: &Prefix) -> Option<usize>
+    ensures next { result ≡ child_toward node.now target.now }
+    ensures valid { IsPrefix target.now }
+{
+    if node.prefix.len() < target.len() {
+        node.child(target.bit(node.prefix.len()))
+    } else {
+        None
+    }
+}
+
+/// The next node on the way to the target that covers it and is shorter than the limit.
+pub(crate) fn step<B: Bits>(
+    nodes: &Nodes<B>,
+    at: usize,
+    target: &Prefix,
+    limit: u8,
+) -> Option<usize>
+    requires trie { IsTrie B.family nodes.now }
+    requires stands { StandsOver nodes.now target.now limit at }
+    ensures stands { IfSome result (StandsOver nodes.now target.now limit) }
+    ensures deeper { IfSome result (λ next. len_at nodes.now at < len_at nodes.now next) }
+    ensures between { IfSome result (NoneBetween nodes.now target.now at) }
+    ensures deepest { IfNone result (IsDeepest nodes.now target.now limit at) }
+{
+    let next = toward(&nodes.at(at), target)?;
+    let node = nodes.at(next);
+    if node.prefix.len() < limit && node.prefix.covers(target) {
+        Some(next)
+    } else {
+        None
+    }
+}
+
+/// The key of the longest node that covers the target and is shorter.
+pub(crate) fn parent_of<B: Bits>(nodes: &Nodes<B>, target: &Prefix) -> usize
+    requires trie { IsTrie B.family nodes.now }
+    requires rooted { HasRoot B.family (get nodes.now) }
+    requires family { family_of target.now.addr ≡ B.family }
+    requires longer { 0 < target.now.len }
+    ensures { IsDeepest nodes.now target.now target.now.len result }
+{
+    let limit = target.len();
+    let mut at = 0;
+    while let Some(next) = step(nodes, at, target, limit) {
+        at = next;
+    }
+    at
+}
+
+/// Where the prefix belongs: the key of the longest node that covers it and is shorter, and the side.
+pub(crate) fn spot_of<B: Bits>(nodes: &Nodes<B>, prefix: &Prefix) -> (usize, bool)
+    requires trie { IsTrie B.family nodes.now }
+    requires rooted { HasRoot B.family (get nodes.now) }
+    requires family { family_of prefix.now.addr ≡ B.family }
+    requires longer { 0 < prefix.now.len }
+    ensures spot { IsSpot nodes.now prefix.now result.0 result.1 }
+    ensures valid { IsPrefix prefix.now }
+{
+    let _ = prefix.len();
+    let parent = parent_of(nodes, prefix);
+    (parent, prefix.bit(nodes.at(parent).prefix.len()))
+}
+
+/// How far a walk has come: the prefix that it leads to, the longest node so far that covers it, the number of the longest
+/// of these nodes that has one, and how many it came by.
+#[derive(Clone, Copy, Debug)]
+pub(crate) struct Reached {
+    pub(crate) to: Prefix,
+    pub(crate) at: usize,
+    pub(crate) number: Option<u32>,
+    pub(crate) visits: u8,
+}
+
+/// At the root.
+pub(crate) fn at_root<B: Bits>(nodes: &Nodes<B>, to: Prefix) -> Reached
+    requires trie { IsTrie B.family nodes.now }
+    requires rooted { HasRoot B.family (get nodes.now) }
+    requires family { family_of to.addr ≡ B.family }
+    ensures to { result.to ≡ to }
+    ensures reached { HasReached nodes.now result }
+{
+    let _ = to.len();
+    Reached {
+        to,
+        at: 0,
+        number: nodes.at(0).number,
+        visits: 1,
+    }
+}
+
+/// On to the longest node that covers the prefix. The walk comes by at most one node of each length: 33 of them, or 129 in the
+/// trie of IPv6.
+pub(crate) fn to_end<B: Bits>(nodes: &Nodes<B>, from: Reached) -> Reached
+    requires trie { IsTrie B.family nodes.now }
+    requires reached { HasReached nodes.now from }
+    ensures to { result.to ≡ from.to }
+    ensures reached { HasReached nodes.now result }
+    ensures deepest { IsDeepest nodes.now from.to (from.to.len + 1) result.at }
+    ensures visits { result.visits ≤ width_of from.to.addr + 1 }
+{
+    let to = from.to;
+    let limit = to.len() + 1;
+    let mut at = from.at;
+    let mut number = from.number;
+    let mut visits = from.visits;
+    while let Some(next) = step(nodes, at, &to, limit) {
+        at = next;
+        number = nodes.at(at).number.or(number);
+        visits += 1;
+    }
+    Reached {
+        to,
+        at,
+        number,
+        visits,
+    }
+}
