@@ -16,6 +16,7 @@ TWICE = {
     "Addr": "pol_addr pol_ip",
     "Entries": "pol_audit pol_rule",
     "Kept": "pol_kept pol_kept_filters",
+    "LocalPrefixes": "pol_ip_prefixes pol_local_prefixes",
     "Prefix": "pol_addr pol_ip",
     "PrefixTable": "pol_ip_table pol_prefix_table",
 }

@@ -1,0 +1,4 @@
+pub mod Between
+pub mod Kept
+pub mod Ranked
+pub mod Walk
