@@ -441,9 +441,9 @@ def modules_are_small(_, wrong):
 
 
 def one_formatter_lays_them_out(_, wrong):
-    """`black` has nothing to change, where it is there."""
-    if shutil.which("black") is None:
-        print("left out, since black isn't there: the layout of tools and recipes")
+    """`black` has nothing to change, where one of the year that pyproject.toml names is there."""
+    if shutil.which("black") is None or not subprocess.run(["black", "--version"], stdout=subprocess.PIPE, text=True).stdout.startswith("black, 23."):
+        print("left out, since no black 23 is there: the layout of tools and recipes")
         return
     done = subprocess.run(["black", "--check", "-q", "tools", "recipes", "tools/release", "recipes/from-kubectl", "recipes/what-if"], cwd=TOP)
     told(wrong, "whether black would change something: `black tools recipes`", done.returncode, 0)
