@@ -64,6 +64,13 @@ def what_comes_unread_marks_all_that_it_may_change(folder, wrong):
         told(wrong, "the page", door.call("diff", *given, "--format", "html")[1].count('"does":"unsure"'), 2)
         told(wrong, "a comment", "denied-by-default | unsure |" in door.call("diff", *given, "--format", "markdown")[1], True)
     told(wrong, "as an error", door.call("diff", *comes, "--strict")[:2], (1, ""))
+    # and the names beside the world stand at their own ports alone
+    free = policy("free", {"endpointSelector": {"matchLabels": {"app": "cart"}}, "egress": [{"toFQDNs": [{"matchName": "a.example"}], "toPorts": [{"ports": [{"port": "443", "protocol": "TCP"}]}]}]})
+    out = policy("news", {"endpointSelector": {"matchLabels": {"app": "cart"}}, "egress": [{"toEntities": ["world"], "news": 1}]})
+    value = json.loads(door.call("diff", "--state", door.write("free.json", listed(NAMESPACE, *PODS, free)), "--add", door.write("out.json", out), "--format", "json")[1])
+    world = [(it["ports"], it.get("names", [])) for it in value["rows"] if {"cidr": "0.0.0.0/0", "except": []} in it["to"]]
+    rest = [{"protocols": ["TCP"], "ranges": [[0, 442], [444, 65535]]}, {"protocols": ["UDP", "SCTP"], "ranges": [[0, 65535]]}]
+    told(wrong, "names beside the world", sorted(world, key=lambda it: len(it[1])), [(rest, []), ([{"protocols": ["TCP"], "ranges": [[443, 443]]}], ["a.example"])])
     # what other policies deny by rule, and a half that denies for sure, leave nothing to turn
     sure = policy("sure", {"endpointSelector": {}, "ingressDeny": [{"fromEntities": ["all"]}]})
     told(wrong, "where all is denied", door.call("diff", "--state", door.write("sure.json", listed(NAMESPACE, *PODS, deny, sure)), "--add", path)[:2], (0, ""))

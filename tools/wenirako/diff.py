@@ -9,7 +9,7 @@ is shown too, and marked, though both verdicts are alike.
 """
 from __future__ import annotations
 
-from typing import Iterable, NamedTuple, Optional
+from typing import Callable, Iterable, NamedTuple, Optional
 
 from lib import regions
 from lib.reading import Bad
@@ -65,11 +65,11 @@ class Stretch(NamedTuple):
         return [it[2:] for it in self.halves]
 
 
-def joined_alike(found: Iterable[Stretch]) -> list[Stretch]:
-    """Stretches, with those made one that touch and are told alike."""
+def joined_alike(found: Iterable[Stretch], names: Callable[[Stretch], tuple]) -> list[Stretch]:
+    """Stretches, with those made one that touch and are told alike, with the same names beside the world."""
     made: list[Stretch] = []
     for it in found:
-        if made and made[-1].high + 1 == it.low and made[-1].is_told_as(it):
+        if made and made[-1].high + 1 == it.low and made[-1].is_told_as(it) and names(made[-1]) == names(it):
             made[-1] = made[-1]._replace(high=it.high)
         else:
             made.append(it)
@@ -181,7 +181,7 @@ class Diff:
         before, after = wanted(source, target, 0), wanted(source, target, 1)
         key = tuple(map(self.kind, before, after))
         if key not in self.kept:
-            self.kept[key] = joined_alike(it for it in self.stretches(before, after) if it.is_shown or it.is_half)
+            self.kept[key] = joined_alike((it for it in self.stretches(before, after) if it.is_shown or it.is_half), self.names_beside)
         return self.kept[key]
 
     def kind(self, before: Wanted, after: Wanted) -> tuple:
