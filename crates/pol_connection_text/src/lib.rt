@@ -7,6 +7,7 @@
 
 mod connection;
 mod end;
+pub mod laws;
 mod line;
 mod name;
 mod prefix;
