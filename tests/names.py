@@ -19,6 +19,8 @@ TWICE = {
     "LocalPrefixes": "pol_ip_prefixes pol_local_prefixes",
     "Prefix": "pol_addr pol_ip",
     "PrefixTable": "pol_ip_table pol_prefix_table",
+    "Status": "pol_status policyd",
+    "Stopped": "pol_play_kept pol_sessions",
 }
 
 # Names that crates had, which said less of what they hold than those that they have.

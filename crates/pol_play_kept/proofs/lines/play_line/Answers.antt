@@ -1,0 +1,37 @@
+use Rattle.std.proofs.Common.{Ok, Err, refl}
+use Rattle.pol_serial_run.specs.SerialRun.{machine_after_lines, machine_of}
+use Rattle.pol_play_kept.specs.declared.line.Stopped.TheVariants.{Disk as DiskFailed}
+use Rattle.pol_play_kept.proofs.Committing.{same_error}
+use Rattle.pol_play_kept.proofs.Going.{line_moments, one_more, stops_here}
+use Rattle.pol_play_kept.proofs.lines.play_line.Goals as goal
+
+pub returns-in-Ok-push-clause-goes_on : goal.returns-in-Ok-push-clause-goes_on
+returns-in-Ok-push-clause-goes_on g c options start readings so_far =
+    let d = g.D.Disk in
+    one_more d.seen d.may_leave options start readings c.args.progress.now c.args.disk.now c.args.machine.now so_far _ c.in-Ok.told c.push.new.self
+    c.answer_line.new.disk c.answer_line.new.machine (c.in-Ok.ensures.plays _ so_far.stands).answered c.answer_line.ensures.options
+    c.in-Ok-push.ensures.text c.in-Ok-push.ensures.marked c.in-Ok-push.ensures.phase
+
+pub returns-in-Ok-push-clause-any_moment : goal.returns-in-Ok-push-clause-any_moment
+returns-in-Ok-push-clause-any_moment g c options start readings so_far =
+    let d = g.D.Disk in
+    line_moments d.seen d.may_leave options start readings c.args.progress.now c.args.disk.now c.args.machine.now so_far d.moment d.left_since c.args.progress.now.phase _
+    c.answer_line.new.disk c.answer_line.new.machine _ (c.answer_line.ensures.plays _ so_far.stands)
+
+pub returns-in-Err-push-clause-any_moment : goal.returns-in-Err-push-clause-any_moment
+returns-in-Err-push-clause-any_moment g c options start readings so_far =
+    let d = g.D.Disk in
+    line_moments d.seen d.may_leave options start readings c.args.progress.now c.args.disk.now c.args.machine.now so_far d.moment d.left_since c.args.progress.now.phase _
+    c.answer_line.new.disk c.answer_line.new.machine _ (c.answer_line.ensures.plays _ so_far.stands)
+
+pub returns-in-Err-clause-stops : goal.returns-in-Err-clause-stops
+returns-in-Err-clause-stops g c options start readings so_far is =
+    let d = g.D.Disk in
+    stops_here d.seen d.may_leave options start readings c.args.progress.now c.args.disk.now c.args.machine.now so_far d.moment d.left_since g.met.D.Disk.counts_now
+    c.args.progress.now.phase _ c.answer_line.new.disk c.answer_line.new.machine _ (c.in-Err.ensures.plays _ so_far.stands) (same_error c.in-Err.stopped DiskFailed is)
+
+pub returns-in-Err-clause-any_moment : goal.returns-in-Err-clause-any_moment
+returns-in-Err-clause-any_moment g c options start readings so_far =
+    let d = g.D.Disk in
+    line_moments d.seen d.may_leave options start readings c.args.progress.now c.args.disk.now c.args.machine.now so_far d.moment d.left_since c.args.progress.now.phase _
+    c.answer_line.new.disk c.answer_line.new.machine _ (c.answer_line.ensures.plays _ so_far.stands)

@@ -1,0 +1,4 @@
+pub mod Images
+pub mod Answering
+pub mod Played
+pub mod Words
