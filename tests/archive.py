@@ -9,11 +9,16 @@ import shutil
 import subprocess
 
 TOP = pathlib.Path(__file__).resolve().parent.parent
-STAND_IN = TOP / "tests" / "standin.py"
+STAND_IN, LISTS = TOP / "tests" / "standin.py", TOP / "tests" / "standin_connections.py"
 
 
 class Door:
-    """Calls the front door in this process, where tests/standin.py answers."""
+    """Calls the front door in this process, where tests/standin.py answers.
+
+    With `has_connections` tests/judge tells what is open too, as connections does, in the place of a proved build.
+    """
+
+    has_connections = False
 
     def __init__(self, folder):
         self.top = pathlib.Path(folder)
@@ -28,17 +33,19 @@ class Door:
     def call(self, *words, given=""):
         """The status and the two outputs."""
         import front_random
-        from wenirako import core, main, programs
+        from wenirako import core, main, opened, programs
 
         out, err = io.StringIO(), io.StringIO()
         stdin, program = io.TextIOWrapper(io.BytesIO(given.encode())), programs.Program(["none"], False, "a stand-in")
-        known = {"found": lambda *_: program, "there": lambda: program, "commit": lambda: "0123456789ab"}
+        lists = program if self.has_connections else None
+        known = {"found": lambda *_: program, "there": lambda: program, "connections": lambda: lists, "commit": lambda: "0123456789ab"}
         with contextlib.ExitStack() as stack:
             stack.enter_context(contextlib.redirect_stdout(out))
             stack.enter_context(contextlib.redirect_stderr(err))
             stack.enter_context(replaced(main.sys, stdin=stdin))
             stack.enter_context(replaced(main.programs, **known))
             stack.enter_context(replaced(core.Core, play=lambda _, *asked: front_random.in_process(*asked)))
+            stack.enter_context(replaced(opened.Opened, play=lambda _, lines: front_random.lines_of_connections(lines)))
             try:
                 status = main.asked_for(list(words), "wenirako")
             except SystemExit as ended:
@@ -59,10 +66,15 @@ def replaced(whole, **parts):
             setattr(whole, name, it)
 
 
-class Archive:
-    """A folder in which ./wenirako asks the stand-in, or another program of this text."""
+def calling(program):
+    """The text of a program that is another one."""
+    return f'#!/bin/sh\nexec "{program}" "$@"\n'
 
-    def __init__(self, folder, program=None):
+
+class Archive:
+    """A folder in which ./wenirako asks the stand-in, or another program of this text; and what is open of `lists`, too."""
+
+    def __init__(self, folder, program=None, lists=None):
         self.top = pathlib.Path(folder) / "archive"
         ignored = shutil.ignore_patterns("__pycache__")
         for name in ("tools", "recipes"):
@@ -70,10 +82,13 @@ class Archive:
         for name in ("wenirako", "play"):
             shutil.copy(TOP / name, self.top / name)
         (self.top / "bin").mkdir()
-        path = self.top / "bin" / "policyd"
-        path.write_text(program or f'#!/bin/sh\nexec "{STAND_IN}" "$@"\n')
-        path.chmod(0o755)
-        files = {"bin/policyd": hashlib.sha256(path.read_bytes()).hexdigest()}
+        files = {}
+        for name, text in (("policyd", program or calling(STAND_IN)), ("connections", lists)):
+            if text is not None:
+                path = self.top / "bin" / name
+                path.write_text(text)
+                path.chmod(0o755)
+                files[f"bin/{name}"] = hashlib.sha256(path.read_bytes()).hexdigest()
         (self.top / "MANIFEST.json").write_text(json.dumps({"commit": "0123456789ab", "proved": False, "files": files}))
 
     def write(self, name, value):

@@ -15,7 +15,7 @@ import time
 import compare
 import front_random
 import schema
-from archive import Archive, Door, replaced
+from archive import LISTS, Archive, Door, calling, replaced
 from play_checks import told
 from recipes_checks import NAMESPACE, PODS, pod, policy
 from wenirako import coarse, drawing, flows, kubectl, listing, progress, resolving, words, writing
@@ -90,6 +90,28 @@ def what_is_open(folder, wrong):
     told(wrong, "with the policies", [(it["decided_by"], it["verdict"]) for it in value["rows"]], [(DECIDED, "allowed")])
     form = json.loads((TOP / "docs" / "answer.schema.json").read_text())
     wrong += schema.wrong_with(value, form, form)
+
+
+def connections_are_asked(folder, wrong):
+    """What is open is asked of connections where it is there, and is the same; an end of it that is no answer is told."""
+    here = Archive(folder)
+    words = ["--state", here.write("state.json", (EXAMPLE / "state.json").read_text()), "--quiet"]
+    plain = here.call("list", *words)
+    seen = f'#!/bin/sh\necho asked >>"{here.top}/asked"\nexec "{LISTS}" "$@"\n'
+    shutil.rmtree(here.top)
+    there = Archive(folder, lists=seen)
+    there.write("state.json", (EXAMPLE / "state.json").read_text())
+    told(wrong, "what is open", there.call("list", *words), plain)
+    told(wrong, "how often it is asked", (there.top / "asked").read_text().split(), ["asked"])
+    status, out, err = there.call(*words, command="recipes/connections")
+    told(wrong, "by the recipe", (status, out, err), (*plain[:2], plain[2].replace("wenirako: ", "connections: ")))
+    few = there.call("list", "--from", "shop/cart", *words)
+    told(wrong, "where little of it is asked about", (few[0], (there.top / "asked").read_text().split()), (0, ["asked"] * 2))
+    told(wrong, "another file in its place", there.write("bin/connections", calling(LISTS)) and there.call("list", *words)[0], 70)
+    shutil.rmtree(there.top)
+    broken = Archive(folder, lists="#!/bin/sh\necho connections: out of memory >&2\nexit 5\n")
+    broken.write("state.json", (EXAMPLE / "state.json").read_text())
+    told(wrong, "without an answer", broken.call("list", *words), (70, "", "wenirako: connections ended with the status 5: connections: out of memory\n"))
 
 
 def why_is_told(folder, wrong):
@@ -445,7 +467,7 @@ def one_formatter_lays_them_out(_, wrong):
     if shutil.which("black") is None or not subprocess.run(["black", "--version"], stdout=subprocess.PIPE, text=True).stdout.startswith("black, 23."):
         print("left out, since no black 23 is there: the layout of tools and recipes")
         return
-    done = subprocess.run(["black", "--check", "-q", "tools", "recipes", "tools/release", "recipes/from-kubectl", "recipes/what-if"], cwd=TOP)
+    done = subprocess.run(["black", "--check", "-q", "tools", "recipes", "tools/release", "recipes/connections", "recipes/from-kubectl", "recipes/what-if"], cwd=TOP)
     told(wrong, "whether black would change something: `black tools recipes`", done.returncode, 0)
 
 
@@ -461,9 +483,17 @@ def run(check):
         return wrong
 
 
+def over_connections(check):
+    """A check, where connections is asked too."""
+    with replaced(Door, has_connections=True):
+        return run(check)
+
+
 def checks():
-    found = (a_change_is_told, forms_agree, what_is_open, why_is_told, expectations_are_held, flows_are_replayed)
+    found = (a_change_is_told, forms_agree, what_is_open, connections_are_asked, why_is_told, expectations_are_held, flows_are_replayed)
     found += (two_states_are_compared, slips_are_asked_of_the_bridge, workloads_and_namespaces, names_are_ends, words_agree, bash_completes, kubectl_is_asked)
     found += (children_end_too, other_programs_are_not_asked, progress_lives, ports_are_read, unions_and_flat_ranges)
     found += (forms_are_safe, flows_are_read, modules_are_small, one_formatter_lays_them_out, random_changes_are_told)
-    return [(f"front door {it.__name__.replace('_', ' ')}", lambda it=it: run(it)) for it in found]
+    listing_ones = (what_is_open, expectations_are_held, workloads_and_namespaces, names_are_ends)
+    yield from ((f"front door {it.__name__.replace('_', ' ')}", lambda it=it: run(it)) for it in found)
+    yield from ((f"front door {it.__name__.replace('_', ' ')}, over connections", lambda it=it: over_connections(it)) for it in listing_ones)

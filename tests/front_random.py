@@ -4,7 +4,8 @@
     tests/front_random.py [SEED ..]     the clusters of these seeds, 1 to 3 where none is given
 
 The front door asks tests/standin.py in place of policyd. A packet is in a line of `diff` exactly where its connection
-changes, and in one of `list` exactly where it passes; the packets are of random ends, protocols and ports.
+changes, and in one of `list` exactly where it passes; the packets are of random ends, protocols and ports. `list` says the
+same where it asks tests/judge in place of connections too.
 """
 import json
 import pathlib
@@ -18,7 +19,7 @@ for folder in ("recipes", "tools", "tests"):
     sys.path.insert(0, str(TOP / folder))
 import random_changes as made  # noqa: E402
 import standin  # noqa: E402
-from judge import rules  # noqa: E402
+from judge import opened, rules  # noqa: E402
 from judge.reading import read_address, read_line  # noqa: E402
 from lib import state as bridge  # noqa: E402
 from lib.labels import Filter  # noqa: E402
@@ -27,17 +28,36 @@ from wenirako.asked import Asked  # noqa: E402
 from wenirako.progress import Progress  # noqa: E402
 
 PACKETS = 300
+# What two answers are compared by.
+SAID = ("summary", "cells", "rows", "status")
 
 
 def in_process(lines, numbers):
     return standin.answers("".join(f"{it}\n" for it in lines).encode())
 
 
-def asked(of_states, node=None):
-    """A question of these states, which asks the stand-in without running it."""
-    found = Asked(of_states, lambda: programs.Program(["none"], False, ""), Progress("random", True), node)
-    found.halves.core.play = in_process
+def lines_of_connections(lines):
+    """What connections writes of a script, by tests/judge."""
+    written, status = opened.told("".join(f"{it}\n" for it in lines).encode())
+    assert status in (0, 1), status
+    return written.decode().splitlines()
+
+
+def asked(of_states, node=None, lists=None):
+    """A question of these states, which asks the stand-in without running it; and what is open `lists`, where it is given."""
+    none = programs.Program(["none"], False, "")
+    found = Asked(of_states, lambda: none, Progress("random", True), node, lambda: none if lists else None)
+    found.halves.core.play, found.opened.play = in_process, lists
     return found
+
+
+def differences(of_states):
+    """What `list` says otherwise where it asks for whole connections, and whether it asked so, in lines."""
+    scripts = []
+    lists = lambda lines: scripts.append(lines) or lines_of_connections(lines)
+    alone, over = (listing.report(asked(of_states, lists=it), None, None, None, "pod") for it in (None, lists))
+    wrong = [f"{name}: {getattr(alone, name)}, and over connections {getattr(over, name)}" for name in SAID if getattr(alone, name) != getattr(over, name)]
+    return wrong + ([] if scripts else ["connections wasn't asked"])
 
 
 def judged(state):
@@ -105,7 +125,7 @@ def play(seed):
             wrong.append(f"{it}: {was} before and {passes} after, and diff says {got}")
         if len(rows_with(opened, it)) != passes:
             wrong.append(f"{it}: {passes} after, and list has {len(rows_with(opened, it))} lines of it")
-    return wrong, changed
+    return wrong + differences(states.States(change.after)), changed
 
 
 def main(seeds):

@@ -5,7 +5,7 @@ import compare
 import front_random
 import schema
 from archive import Door, replaced
-from front_checks import flow, listed, run, stripped
+from front_checks import flow, listed, over_connections, run, stripped
 from play_checks import told
 from recipes_checks import NAMESPACE, PODS, policy
 
@@ -82,8 +82,9 @@ def what_is_refused_unforeseen_is_not_read(folder, wrong):
     odd = policy("odd", {"endpointSelector": {"matchLabels": {"app": "cart"}}, "ingress": [{"fromEndpoints": [{"matchLabels": {"app": "web"}}]}]})
     nothing = json.dumps({"op": "delete", "kind": "CiliumNetworkPolicy", "namespace": "no", "name": "no"})
     state = ["--state", door.write("state.json", listed(NAMESPACE, *PODS, odd))]
-    plain = front_random.in_process
-    with replaced(front_random, in_process=lambda lines, numbers: plain([nothing if '"odd"' in it else it for it in lines], numbers)):
+    plain, lists = front_random.in_process, front_random.lines_of_connections
+    other = lambda lines: [nothing if '"odd"' in it else it for it in lines]
+    with replaced(front_random, in_process=lambda lines, numbers: plain(other(lines), numbers), lines_of_connections=lambda lines: lists(other(lines))):
         status, out, err = door.call("list", "--to", "shop/cart", "--from", "shop/web", *state)
     row = ["shop/web", "shop/cart", "every protocol and port", "egress: no policy isolates it; ingress: no policy isolates it; unsure: shop/odd isn't read whole"]
     told(wrong, "the row", (status, stripped("\n".join(out.splitlines()[2:]))), (4, [row]))
@@ -92,4 +93,5 @@ def what_is_refused_unforeseen_is_not_read(folder, wrong):
 
 def checks():
     found = (what_is_not_sure_is_marked, what_comes_unread_marks_all_that_it_may_change, what_is_refused_unforeseen_is_not_read)
-    return [(f"front door {it.__name__.replace('_', ' ')}", lambda it=it: run(it)) for it in found]
+    yield from ((f"front door {it.__name__.replace('_', ' ')}", lambda it=it: run(it)) for it in found)
+    yield from ((f"front door {it.__name__.replace('_', ' ')}, over connections", lambda it=it: over_connections(it)) for it in found[::2])

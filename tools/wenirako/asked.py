@@ -5,11 +5,12 @@ from typing import Callable, Iterable, Optional, Sequence
 
 from lib import regions
 
-from .connections import Stretch, stretches, wanted
+from .connections import Stretch, open_stretches, stretches, wanted
 from .core import Core
 from .ends import End, Outside, Universe
 from .halves import Halves, Segment
 from .naming import Names
+from .opened import Opened
 from .programs import Program
 from .progress import Progress
 from .reasons import of_half
@@ -24,10 +25,12 @@ Piece = tuple
 class Asked:
     """A question's states, and the way to answers about them."""
 
-    def __init__(self, states: States, find: Callable[[], Program], progress: Progress, node: Optional[str] = None):
+    def __init__(self, states: States, find: Callable[[], Program], progress: Progress, node: Optional[str] = None, lists: Callable[[], Optional[Program]] = lambda: None):
+        """`find` gives policyd, and `lists` connections, where that is there."""
         self.states, self.progress = states, progress
         self.universe = Universe(states.ends(), node, states.are_whole)
         self.halves = Halves(self.universe, Core(find, self.universe.sets, progress), states.phases())
+        self.opened = Opened(lists, self.halves, progress)
         self.names = Names(self.universe.groups)
 
     def about(self, pairs: Iterable[tuple[End, End]], ports: PortRange = EVERY_PORT, phase: int = 0, is_open: Optional[bool] = None, explains: bool = True) -> "About":
@@ -54,7 +57,8 @@ class About:
         self.kinds: dict[int, tuple[int, End]] = {}
         # (of all connections between ends of two kinds one is asked about)
         alike = {self.kind(*pair): pair for pair in pairs}
-        asked.halves.ask((it for pair in alike.values() for it in wanted(*pair, phase)), "asking about connections")
+        self.told = asked.opened.told(alike, phase) if is_open is True else {}
+        asked.halves.ask((it for kind, pair in alike.items() if kind not in self.told for it in wanted(*pair, phase)), "asking about connections")
 
     def kind(self, *pair: End) -> tuple[int, ...]:
         """What the verdicts on a connection depend on: the numbers of its ends' kinds."""
@@ -79,7 +83,9 @@ class About:
         return found
 
     def judged(self, source: End, target: End) -> Iterable[Stretch]:
-        halves = self.asked.halves
+        halves, told = self.asked.halves, self.told.get(self.kind(source, target))
+        if told is not None:
+            return self.cut(open_stretches(halves, source, target, self.phase, told))
         # (most connections of an isolated pod are denied whole, and need no look at each stretch)
         if self.is_open is True and any(halves.is_shut(*it) for it in wanted(source, target, self.phase)):
             return ()

@@ -5,15 +5,17 @@ cluster has one.
 """
 from __future__ import annotations
 
-from typing import Iterable, NamedTuple, Optional, Sequence
+from typing import Iterable, Mapping, NamedTuple, Optional, Sequence
 
-from .core import ALLOWED, BY_RULE
+from .core import ALLOWED, BY_RULE, NoAnswer
 from .ends import End, Group
 from .halves import Halves, Profile, Segment, Side, joined
 from .selecting import EGRESS, INGRESS
 
 # A half as it is asked for: its phase, its endpoint's set of labels, its direction and the other side.
 Wanted = tuple
+# First and last ports, ascending.
+Ranges = Sequence[tuple[int, int]]
 
 
 class Stretch(NamedTuple):
@@ -62,6 +64,25 @@ def stretches(halves: Halves, source: End, target: End, phase: int) -> Iterable[
     found = profiles(halves, asked)
     for protocol, low, high, segments in joined(found) if found else ():
         yield Stretch(protocol, low, high, tuple((it[2], segment) for it, segment in zip(asked, segments)))
+
+
+def open_stretches(halves: Halves, source: End, target: End, phase: int, told: Mapping[str, Ranges]) -> Iterable[Stretch]:
+    """A connection's stretches that are open, where it is told at which ports of which protocol it is."""
+    asked = wanted(source, target, phase) if told else []
+    for protocol, low, high, segments in joined([halves.passing(*it) for it in asked]) if asked else ():
+        if is_within(told.get(protocol, ()), low, high):
+            halves.words.update((it.question, ALLOWED) for it in segments)
+            yield Stretch(protocol, low, high, tuple((it[2], segment) for it, segment in zip(asked, segments)))
+
+
+def is_within(ranges: Ranges, low: int, high: int) -> bool:
+    """Whether a stretch lies in one of the ranges; it lies in one, or apart from all."""
+    for first, last in ranges:
+        if first <= low and high <= last:
+            return True
+        if first <= high and low <= last:
+            raise NoAnswer(f"connections tells the ports {first} to {last} from others, and {low} to {high} were thought to be judged alike")
+    return False
 
 
 def pairs_with(source: End, target: End, is_noded: bool) -> bool:

@@ -108,9 +108,7 @@ class Halves:
             remote = self.remote(side)
             if remote is not None:
                 phase, at = self.stand_ins.setdefault(half, (phase, at))
-                self.pending[key] = {
-                    protocol: [(low, high, Question(phase, at, direction, remote, protocol, low)) for low, high in cuts.items()] for protocol, (cuts, _) in self.stretches(half).items()
-                }
+                self.pending[key] = self.questions(half, phase, at, remote)
                 asked.update(it for each in self.pending[key].values() for _, _, it in each)
                 asked.add(Question(phase, at, direction, NOBODY, "TCP", 0))
         if asked:
@@ -129,6 +127,21 @@ class Halves:
                     profile[like] = segments
             self.profiles[half, alike] = profile
         self.pending = {}
+
+    def questions(self, half: Half, phase: int, at: int, remote: tuple) -> dict[str, list]:
+        """What is asked of a half: a question for each stretch of ports, of each protocol that it tells from those before."""
+        question = lambda protocol, low: Question(phase, at, half.direction, remote, protocol, low)
+        return {protocol: [(low, high, question(protocol, low)) for low, high in cuts.items()] for protocol, (cuts, _) in self.stretches(half).items()}
+
+    def passing(self, phase: int, at: int, direction: str, side: Side) -> Profile:
+        """A half as it is where all of it is allowed: each stretch, with the question that asks for its reasons."""
+        half, remote = self.half(phase, at, direction), self.remote(side)
+        key = ("passing", half, self.alike(half, side))
+        if key not in self.kept and remote is not None:
+            phase, at = self.stand_ins.setdefault(half, (phase, at))
+            each = {protocol: [Segment(low, high, ALLOWED, it) for low, high, it in listed] for protocol, listed in self.questions(half, phase, at, remote).items()}
+            self.kept[key] = {like: each[protocol] for protocol, (_, alike) in self.stretches(half).items() for like in alike}
+        return self.kept[key]
 
     def key(self, phase: int, at: int, direction: str, side: Side) -> tuple:
         """What the verdicts of a half depend on."""

@@ -72,7 +72,7 @@ class Run:
         # (what is asked of the state after a change alone needs no other)
         if self.name in ("list", "check"):
             states = states.afterwards()
-        return self.made(Asked(states, lambda: programs.found(self.say, self.progress), self.progress, self.option("node")))
+        return self.made(Asked(states, lambda: programs.found(self.say, self.progress), self.progress, self.option("node"), programs.connections))
 
     def made(self, asked: Asked) -> Report:
         words = self.words

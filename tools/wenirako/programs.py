@@ -17,7 +17,7 @@ from . import children
 from .progress import Progress
 
 TOP = pathlib.Path(__file__).resolve().parent.parent.parent
-MANIFEST, NAME = TOP / "MANIFEST.json", "policyd"
+MANIFEST, NAME, LISTS = TOP / "MANIFEST.json", "policyd", "connections"
 NOT_PROVED = "NOT PROVED: this build was checked by no proof. ./play --prove proves it, and .ci/run all crates with their tests"
 
 
@@ -45,8 +45,8 @@ def manifest() -> Optional[dict]:
     return json.loads(MANIFEST.read_text()) if MANIFEST.is_file() else None
 
 
-def of_archive(told: dict) -> Program:
-    path, wanted = TOP / "bin" / NAME, told["files"].get(f"bin/{NAME}")
+def of_archive(told: dict, name: str = NAME) -> Program:
+    path, wanted = TOP / "bin" / name, told["files"].get(f"bin/{name}")
     if not path.is_file():
         raise NoProgram(f"{path} isn't there, and {MANIFEST} names it: unpack the archive once more")
     if hashlib.sha256(path.read_bytes()).hexdigest() != wanted:
@@ -65,6 +65,18 @@ def there() -> Optional[Program]:
     if unproved.is_kept():
         return Program([str(unproved.KEPT)], False, "a build without proof, which is kept")
     return None
+
+
+def connections() -> Optional[Program]:
+    """The program that lists connections, where it stands proved, or in an archive; None where it doesn't.
+
+    A build of it without proof isn't asked: it tells no more than policyd does, and takes longer.
+    """
+    told = manifest()
+    if told is not None:
+        return of_archive(told, LISTS) if f"bin/{LISTS}" in told["files"] else None
+    build = of_tests("program").CONNECTIONS
+    return Program([str(build.program)], True, "a proved build of the sources") if build.is_proved() else None
 
 
 def found(say: Callable[[str], None], progress: Progress) -> Program:

@@ -1,0 +1,124 @@
+"""Asks `connections` what is open: all between some ends at once, where a proved build of that program is there.
+
+It is given the policies of a state, and each set of labels as a named identity. What it writes of a pair is what passes by
+both halves, so what only one half says is asked of policyd, as all is where there is no such build.
+"""
+from __future__ import annotations
+
+import ipaddress
+import json
+from typing import Callable, Iterable, Mapping, Optional, Sequence
+
+from lib import regions
+from lib.reading import line_of
+
+from . import children
+from .connections import Ranges, wanted
+from .core import Misjudged, NoAnswer
+from .ends import ENTITIES, End, Group, Outside
+from .halves import Halves
+from .programs import Program
+from .progress import Progress
+
+# It is asked where the pairs of pods in question are no fewer than one of so many that it goes through.
+SHARE = 4
+# An end as `connections` writes it: what it is, and its name.
+Key = tuple[str, str]
+# The ranges of open ports of each protocol.
+Open = Mapping[str, Ranges]
+
+
+class Opened:
+    """Answers which connections are open, as `connections` says."""
+
+    def __init__(self, find: Callable[[], Optional[Program]], halves: Halves, progress: Progress):
+        """`find` gives the program where it is there: it is called once, when there is something to ask."""
+        self.find, self.halves, self.progress = find, halves, progress
+        self.found: Optional[tuple[Optional[Program]]] = None
+
+    def program(self) -> Optional[Program]:
+        self.found = self.found or (self.find(),)
+        return self.found[0]
+
+    def told(self, pairs: Mapping[tuple, tuple[End, End]], phase: int) -> dict[tuple, Open]:
+        """What is open of pairs, by their keys; without those that it can't tell of, and empty where it isn't asked."""
+        known = {key: pair for key, pair in pairs.items() if self.is_known(pair, phase)}
+        ends = {it.at(phase) for pair in known.values() for it in pair if isinstance(it, Group)}
+        among = sum(all(isinstance(it, Group) for it in pair) for pair in known.values())
+        if not among or among * SHARE < len(ends) ** 2 or self.program() is None:
+            return {}
+        said = self.said(sorted(ends), phase)
+        place = Places(self.halves, phase)
+        return {key: said.get((place.of(source), place.of(target)), {}) for key, (source, target) in known.items()}
+
+    def is_known(self, pair: tuple[End, End], phase: int) -> bool:
+        """Whether it can tell of a pair: not where a packet can't have an end, nor where names open unknown addresses."""
+        halves = self.halves
+        if any(halves.remote(it) is None for it in pair if isinstance(it, Outside)):
+            return False
+        return not any(isinstance(side, Outside) and halves.beside.names(phase, at, direction) for _, at, direction, side in wanted(*pair, phase))
+
+    def said(self, ends: Sequence[int], phase: int) -> dict[tuple[Key, Key], Open]:
+        """What is open between sets of labels, and between them and what is no pod."""
+        sets, policies = self.halves.universe.sets, [it.line for it in self.halves.policies[phase]]
+        lines = [*(line_of("", {"op": "identity", "name": name_of(at), "labels": sets[at].labels}) for at in ends), *policies]
+        self.progress.begin("asking what is open", 1)
+        listed = [json.loads(it) for it in self.play(lines)]
+        self.progress.end()
+        self.hold(lines, policies, [it for it in listed if "answer" in it])
+        return by_pairs(it for it in listed if "answer" not in it)
+
+    def hold(self, lines: Sequence[str], policies: Sequence[str], listed: Iterable[dict]) -> None:
+        """Complains where other lines are refused than was foreseen."""
+        refused = {lines[it["line"] - 1]: it["answer"].split(" ", 1)[1] for it in listed}
+        if not refused.keys() <= {*policies}:
+            raise NoAnswer(f"connections refuses {next(it for it in refused if it not in policies)}")
+        if {*refused} != self.halves.core.refused & {*policies}:
+            raise Misjudged(refused)
+
+    def play(self, lines: Sequence[str]) -> list[str]:
+        """What the program writes of a script, line by line."""
+        program = self.program()
+        assert program is not None
+        done = children.run(program.command, "".join(f"{it}\n" for it in lines).encode(), tick=self.progress.tick)
+        if done.status not in (0, 1):
+            why = done.err.decode(errors="replace").strip()
+            raise NoAnswer(f"connections ended with the status {done.status}" + (f": {why[-1000:]}" if why else ""))
+        return done.out.decode().splitlines()
+
+
+class Places:
+    """How `connections` names ends of a state."""
+
+    def __init__(self, halves: Halves, phase: int):
+        self.halves, self.phase = halves, phase
+        self.held = regions.named(entry for rule in halves.selections[phase].rules for _, entry in rule.part.entries())
+        self.kept: dict[Outside, Key] = {}
+
+    def of(self, end: End) -> Key:
+        if isinstance(end, Group):
+            return "identity", name_of(end.at(self.phase))
+        if end not in self.kept:
+            self.kept[end] = self.outside(end)
+        return self.kept[end]
+
+    def outside(self, end: Outside) -> Key:
+        """An entity, or the region of the address that stands for an end: the longest prefix around it that is held."""
+        kind, value = self.halves.remote(end) or ("", "")
+        if kind == "identity":
+            return "reserved", ENTITIES[value]
+        address = ipaddress.IPv4Network(value)
+        return "region", str(max((it for it in self.held if address.subnet_of(it)), key=lambda it: it.prefixlen))
+
+
+def name_of(at: Optional[int]) -> str:
+    return f"i{at}"
+
+
+def by_pairs(listed: Iterable[dict]) -> dict[tuple[Key, Key], Open]:
+    """Lines of open ports, by their ends."""
+    found: dict[tuple[Key, Key], dict[str, list]] = {}
+    for it in listed:
+        ((source,), (target,)) = it["from"].items(), it["to"].items()
+        found.setdefault((source, target), {}).setdefault(it["protocol"], []).append(tuple(it["ports"]))
+    return found
