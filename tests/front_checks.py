@@ -114,6 +114,17 @@ def connections_are_asked(folder, wrong):
     told(wrong, "without an answer", broken.call("list", *words), (70, "", "wenirako: connections ended with the status 5: connections: out of memory\n"))
 
 
+def a_change_is_held(folder, wrong):
+    """What connections says of a change has to be what the rows say, and nothing else."""
+    door, lists = Door(folder), front_random.lines_of_connections
+    row = '{"from":{"identity":"g%d"},"to":{"reserved":"host"},"protocol":"UDP","ports":[7,9],"before":"allowed","after":{"egress":"denied-by-rule","ingress":"allowed"}}'
+    less, more = "policyd says that shop/cart-5d8b4-t6k9z to pay/ledger-0, TCP 8443-8443, opens, and connections doesn't", "host, UDP 7-9, shuts, and policyd doesn't"
+    for what, other, said in (("a line less", lambda them: [it for it in them if "8443" not in it], less), ("a line more", lambda them: [*them, row % 0], more)):
+        with replaced(Door, has_connections=True), replaced(front_random, lines_of_connections=lambda lines: other(lists(lines))):
+            status, out, err = door.call("diff", *STATE, *BOTH)
+        told(wrong, what, (status, out, said in err), (70, "", True))
+
+
 def why_is_told(folder, wrong):
     door, form = Door(folder), json.loads((TOP / "docs" / "answer.schema.json").read_text())
     isolated = "no entry allows it; isolated by shop/cart-traffic"
@@ -490,10 +501,10 @@ def over_connections(check):
 
 
 def checks():
-    found = (a_change_is_told, forms_agree, what_is_open, connections_are_asked, why_is_told, expectations_are_held, flows_are_replayed)
+    found = (a_change_is_told, forms_agree, what_is_open, connections_are_asked, a_change_is_held, why_is_told, expectations_are_held, flows_are_replayed)
     found += (two_states_are_compared, slips_are_asked_of_the_bridge, workloads_and_namespaces, names_are_ends, words_agree, bash_completes, kubectl_is_asked)
     found += (children_end_too, other_programs_are_not_asked, progress_lives, ports_are_read, unions_and_flat_ranges)
     found += (forms_are_safe, flows_are_read, modules_are_small, one_formatter_lays_them_out, random_changes_are_told)
-    listing_ones = (what_is_open, expectations_are_held, workloads_and_namespaces, names_are_ends)
+    asking = (a_change_is_told, forms_agree, what_is_open, expectations_are_held, two_states_are_compared, workloads_and_namespaces, names_are_ends)
     yield from ((f"front door {it.__name__.replace('_', ' ')}", lambda it=it: run(it)) for it in found)
-    yield from ((f"front door {it.__name__.replace('_', ' ')}, over connections", lambda it=it: over_connections(it)) for it in listing_ones)
+    yield from ((f"front door {it.__name__.replace('_', ' ')}, over connections", lambda it=it: over_connections(it)) for it in asking)

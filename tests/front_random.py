@@ -4,8 +4,8 @@
     tests/front_random.py [SEED ..]     the clusters of these seeds, 1 to 3 where none is given
 
 The front door asks tests/standin.py in place of policyd. A packet is in a line of `diff` exactly where its connection
-changes, and in one of `list` exactly where it passes; the packets are of random ends, protocols and ports. `list` says the
-same where it asks tests/judge in place of connections too.
+changes, and in one of `list` exactly where it passes; the packets are of random ends, protocols and ports. Both say the
+same where they ask tests/judge in place of connections too.
 """
 import json
 import pathlib
@@ -39,7 +39,7 @@ def in_process(lines, numbers):
 def lines_of_connections(lines):
     """What connections writes of a script, by tests/judge."""
     written, status = opened.told("".join(f"{it}\n" for it in lines).encode())
-    assert status in (0, 1), status
+    assert status in (0, 1, 3), status
     return written.decode().splitlines()
 
 
@@ -51,11 +51,15 @@ def asked(of_states, node=None, lists=None):
     return found
 
 
-def differences(of_states):
-    """What `list` says otherwise where it asks for whole connections, and whether it asked so, in lines."""
+def whole_list(of):
+    return listing.report(of, None, None, None, "pod")
+
+
+def differences(of_states, report):
+    """What an answer says otherwise where it asks for whole connections, and whether it asked so, in lines."""
     scripts = []
     lists = lambda lines: scripts.append(lines) or lines_of_connections(lines)
-    alone, over = (listing.report(asked(of_states, lists=it), None, None, None, "pod") for it in (None, lists))
+    alone, over = (report(asked(of_states, lists=it)) for it in (None, lists))
     wrong = [f"{name}: {getattr(alone, name)}, and over connections {getattr(over, name)}" for name in SAID if getattr(alone, name) != getattr(over, name)]
     return wrong + ([] if scripts else ["connections wasn't asked"])
 
@@ -114,7 +118,7 @@ def play(seed):
         before = bridge.read(json.dumps({"apiVersion": "v1", "kind": "List", "items": items}), Filter())
         change = states.changed(before, [file.name], [])
     changing = diffing.report(asked(change)).rows
-    opened = listing.report(asked(states.States(change.after)), None, None, None, "pod").rows
+    opened = whole_list(asked(states.States(change.after))).rows
     old, after = Judge(change.before), Judge(change.after)
     wrong, changed = [], 0
     for it in (made.packet(pick, names) for _ in range(PACKETS)):
@@ -125,7 +129,7 @@ def play(seed):
             wrong.append(f"{it}: {was} before and {passes} after, and diff says {got}")
         if len(rows_with(opened, it)) != passes:
             wrong.append(f"{it}: {passes} after, and list has {len(rows_with(opened, it))} lines of it")
-    return wrong + differences(states.States(change.after)), changed
+    return wrong + differences(states.States(change.after), whole_list) + differences(change, diffing.report), changed
 
 
 def main(seeds):

@@ -94,4 +94,4 @@ def what_is_refused_unforeseen_is_not_read(folder, wrong):
 def checks():
     found = (what_is_not_sure_is_marked, what_comes_unread_marks_all_that_it_may_change, what_is_refused_unforeseen_is_not_read)
     yield from ((f"front door {it.__name__.replace('_', ' ')}", lambda it=it: run(it)) for it in found)
-    yield from ((f"front door {it.__name__.replace('_', ' ')}, over connections", lambda it=it: over_connections(it)) for it in found[::2])
+    yield from ((f"front door {it.__name__.replace('_', ' ')}, over connections", lambda it=it: over_connections(it)) for it in found)

@@ -377,7 +377,7 @@ def refusals_that_were_not_foreseen(wrong):
         asked = front_random.asked(States(made.before, made.after))
         asked.halves.core.play = refusing(fine.line)
         try:
-            Diff(asked.states, asked.halves)
+            Diff(asked.states, asked.halves, asked.opened)
             said = [it for it in asked.notes() if "policyd refused it" in it]
         except Bad as bad:
             said = str(bad)

@@ -1,7 +1,7 @@
 """Asks the core what it says of packets, in as few runs as may be.
 
-This is the one place that knows which program judges packets: `policyd`, which is given scripts. A program that gives
-whole connections would be asked here in its place, by another `Core` with the same `verdicts` and `reasons`.
+This is the one place that knows which program judges packets: `policyd`, which is given scripts. What is open between all
+ends at once is asked of `connections`, by `opened`.
 """
 from __future__ import annotations
 

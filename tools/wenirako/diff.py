@@ -18,7 +18,9 @@ from .connections import Wanted, pairs_with, profiles, wanted
 from .core import ALLOWED, BY_RULE
 from .ends import End, Outside
 from .halves import Halves, Segment, joined
+from .holding import Held
 from .naming import Names
+from .opened import Opened
 from .reasons import NO_ENTRY, of_change
 from .rows import Line, Rows, Told
 from .selecting import DIRECTIONS, EGRESS, Half
@@ -39,7 +41,12 @@ class Stretch(NamedTuple):
     @property
     def is_shown(self) -> bool:
         """Whether the connection changes, or may for what isn't read."""
-        return (self.words[0] == ALLOWED) != (self.words[1] == ALLOWED) or bool(self.unsure)
+        return self.changes or bool(self.unsure)
+
+    @property
+    def changes(self) -> bool:
+        """Whether the connection is open before or after alone, as far as it is read."""
+        return (self.words[0] == ALLOWED) != (self.words[1] == ALLOWED)
 
     @property
     def is_half(self) -> bool:
@@ -103,8 +110,8 @@ def word_of(segments: Iterable[Segment]) -> str:
 class Diff:
     """The connections that change, and those of which a half alone does."""
 
-    def __init__(self, states: States, halves: Halves):
-        self.states, self.halves, self.universe = states, halves, halves.universe
+    def __init__(self, states: States, halves: Halves, opened: Opened):
+        self.states, self.halves, self.opened, self.universe = states, halves, opened, halves.universe
         self.found: list[Changed] = halves.foreseen(self.find)
         self.hold_unforeseen()
 
@@ -119,9 +126,16 @@ class Diff:
         moving = [it for it in candidates if self.moves(*it)]
         self.halves.ask((it for pair in moving for phase in (0, 1) for it in wanted(*pair, phase)), "asking about other halves")
         found = [(*pair, it) for pair in moving for it in self.changed(*pair)]
+        self.hold(found)
         once = {id(it): it for *_, it in found}
         self.halves.explain((segment for it in once.values() for pair in it.segments() if it.asks(*pair) for segment in pair), "asking for reasons")
         return found
+
+    def hold(self, found: Iterable[Changed]) -> None:
+        """Complains where `connections` is there, and says that other connections change."""
+        if self.opened.program() is not None:
+            known = [it for it in found if it[2].changes and not any(isinstance(end, Outside) and end.kind == "name" for end in it[:2])]
+            Held(self.opened, self.groups).hold((source, target, it.protocol, it.low, it.high, it.is_allowed) for source, target, it in known)
 
     def hold_unforeseen(self) -> None:
         """Of a policy that comes or goes and that is refused for an unforeseen reason, nothing can be said."""
@@ -135,7 +149,7 @@ class Diff:
 
     def candidates(self) -> list[tuple[End, End]]:
         """Pairs of a source and a target of which a half may change."""
-        groups = self.halves.merged(it for it in self.universe.groups if it.before is not None and it.after is not None)
+        groups = self.groups = self.halves.merged(it for it in self.universe.groups if it.before is not None and it.after is not None)
         relabelled = [it for it in groups if it.before != it.after]
         found: dict[tuple[End, End], None] = {}
         for direction in DIRECTIONS:

@@ -21,7 +21,7 @@ MAY = "unsure"
 
 def report(asked: Asked) -> Report:
     """The connections that change, and what is said of halves that do so alone."""
-    found = Diff(asked.states, asked.halves)
+    found = Diff(asked.states, asked.halves, asked.opened)
     lines, others = found.lines(asked.names), found.lines(asked.names, False)
     notes = [*alone(asked.names, others), *asked.notes(), *missing(asked)]
     doubts = list(dict.fromkeys(name for it in lines for name in it.told.unsure))

@@ -19,9 +19,12 @@ from .ends import ENTITIES, End, Group, Outside
 from .halves import Halves
 from .programs import Program
 from .progress import Progress
+from .statuses import BAD, NOTHING, TELLS
 
 # It is asked where the pairs of pods in question are no fewer than one of so many that it goes through.
 SHARE = 4
+# What stands between two scripts, and what the second is called.
+DIVIDER, AFTER = "--", "after"
 # An end as `connections` writes it: what it is, and its name.
 Key = tuple[str, str]
 # The ranges of open ports of each protocol.
@@ -60,44 +63,48 @@ class Opened:
 
     def said(self, ends: Sequence[int], phase: int) -> dict[tuple[Key, Key], Open]:
         """What is open between sets of labels, and between them and what is no pod."""
-        sets, policies = self.halves.universe.sets, [it.line for it in self.halves.policies[phase]]
-        lines = [*(line_of("", {"op": "identity", "name": name_of(at), "labels": sets[at].labels}) for at in ends), *policies]
-        self.progress.begin("asking what is open", 1)
-        listed = [json.loads(it) for it in self.play(lines)]
-        self.progress.end()
-        self.hold(lines, policies, [it for it in listed if "answer" in it])
-        return by_pairs(it for it in listed if "answer" not in it)
+        return by_pairs(self.answers([self.script({name_of(at): at for at in ends}, phase)], "asking what is open"))
 
-    def hold(self, lines: Sequence[str], policies: Sequence[str], listed: Iterable[dict]) -> None:
-        """Complains where other lines are refused than was foreseen."""
-        refused = {lines[it["line"] - 1]: it["answer"].split(" ", 1)[1] for it in listed}
-        if not refused.keys() <= {*policies}:
+    def script(self, sets: Mapping[str, int], phase: int) -> list[str]:
+        """The policies of a state, and sets of labels by names."""
+        labels = lambda at: self.halves.universe.sets[at].labels
+        return [*(line_of("", {"op": "identity", "name": name, "labels": labels(at)}) for name, at in sets.items()), *(it.line for it in self.halves.policies[phase])]
+
+    def answers(self, scripts: Sequence[Sequence[str]], what: str) -> list[dict]:
+        """What is written of a script, or of two, but for what is refused, which has to be as was foreseen."""
+        self.progress.begin(what, 1)
+        listed = [json.loads(it) for it in self.play([*scripts[0], *(line for it in scripts[1:] for line in (DIVIDER, *it))])]
+        self.progress.end()
+        refused = {scripts[it.get("side") == AFTER][it["line"] - 1]: it["answer"].split(" ", 1)[1] for it in listed if "answer" in it}
+        policies = {*self.halves.documents} & {line for it in scripts for line in it}
+        if not refused.keys() <= policies:
             raise NoAnswer(f"connections refuses {next(it for it in refused if it not in policies)}")
-        if {*refused} != self.halves.core.refused & {*policies}:
+        if {*refused} != self.halves.core.refused & policies:
             raise Misjudged(refused)
+        return [it for it in listed if "answer" not in it]
 
     def play(self, lines: Sequence[str]) -> list[str]:
         """What the program writes of a script, line by line."""
         program = self.program()
         assert program is not None
         done = children.run(program.command, "".join(f"{it}\n" for it in lines).encode(), tick=self.progress.tick)
-        if done.status not in (0, 1):
+        if done.status not in (NOTHING, BAD, TELLS):
             why = done.err.decode(errors="replace").strip()
             raise NoAnswer(f"connections ended with the status {done.status}" + (f": {why[-1000:]}" if why else ""))
         return done.out.decode().splitlines()
 
 
 class Places:
-    """How `connections` names ends of a state."""
+    """How `connections` names ends of a state, or of several."""
 
-    def __init__(self, halves: Halves, phase: int):
-        self.halves, self.phase = halves, phase
-        self.held = regions.named(entry for rule in halves.selections[phase].rules for _, entry in rule.part.entries())
+    def __init__(self, halves: Halves, *phases: int):
+        self.halves, self.phases = halves, phases
+        self.held = regions.named(entry for it in phases for rule in halves.selections[it].rules for _, entry in rule.part.entries())
         self.kept: dict[Outside, Key] = {}
 
     def of(self, end: End) -> Key:
         if isinstance(end, Group):
-            return "identity", name_of(end.at(self.phase))
+            return "identity", name_of(end.at(self.phases[0]))
         if end not in self.kept:
             self.kept[end] = self.outside(end)
         return self.kept[end]

@@ -1,0 +1,107 @@
+"""Holds what a change opens and shuts against `connections`, where a proved build of it is there.
+
+Rows are worked out from what policyd says of the halves that may change. What opens and shuts between all ends is what
+`connections` says: each row has to be there, and nothing else.
+"""
+from __future__ import annotations
+
+import ipaddress
+from typing import Iterable, NamedTuple, Optional, Sequence
+
+from .connections import pairs_with
+from .core import ALLOWED, NoAnswer
+from .ends import End, Group, Outside
+from .opened import Key, Opened, Places
+from .selecting import EGRESS, INGRESS
+
+
+class Change(NamedTuple):
+    """Ports at which a connection opens, or shuts, by the names of its ends."""
+
+    source: Key
+    target: Key
+    protocol: str
+    low: int
+    high: int
+    opens: bool
+
+
+class Held:
+    """Ends that stand before and after a change, with how `connections` names them."""
+
+    def __init__(self, opened: Opened, groups: Sequence[Group]):
+        self.opened, self.halves = opened, opened.halves
+        self.groups = {f"g{at}": it for at, it in enumerate(groups)}
+        self.names = {id(it): name for name, it in self.groups.items()}
+        self.places = Places(self.halves, 0, 1)
+        self.kept: dict[tuple[Key, Key], Optional[tuple[Key, Key]]] = {}
+
+    def hold(self, found: Iterable[tuple[End, End, str, int, int, bool]]) -> None:
+        """Complains where something opens or shuts that isn't found, or is found and doesn't."""
+        ours = joined(Change(self.key(source), self.key(target), *rest) for source, target, *rest in found)
+        other = next(iter(ours ^ self.told()), None)
+        if other is not None:
+            ways = "connections", "policyd"
+            one, silent = ways if other not in ours else ways[::-1]
+            ports = f"{other.protocol} {other.low}-{other.high}"
+            raise NoAnswer(f"{one} says that {self.said(other.source)} to {self.said(other.target)}, {ports}, {'opens' if other.opens else 'shuts'}, and {silent} doesn't")
+
+    def key(self, end: End) -> Key:
+        return ("identity", self.names[id(end)]) if isinstance(end, Group) else self.places.of(end)
+
+    def said(self, key: Key) -> str:
+        return self.groups[key[1]].pods[0].name if key[0] == "identity" else key[1]
+
+    def told(self) -> set[Change]:
+        """What `connections` says of the ends that rows have."""
+        scripts = [self.opened.script({name: it.at(phase) for name, it in self.groups.items()}, phase) for phase in (0, 1)]
+        listed = self.opened.answers(scripts, "asking what opens and shuts")
+        return {known for it in joined(map(change_of, (it for it in listed if "from" in it))) for known in [self.known(it)] if known}
+
+    def known(self, it: Change) -> Optional[Change]:
+        """A change with its regions as rows name them; None where no row can have its ends."""
+        key = it.source, it.target
+        if key not in self.kept:
+            self.kept[key] = self.ends(*key)
+        named = self.kept[key]
+        return None if named is None else it._replace(source=named[0], target=named[1])
+
+    def ends(self, one: Key, other: Key) -> Optional[tuple[Key, Key]]:
+        source, target = self.end(one, other, INGRESS), self.end(other, one, EGRESS)
+        if source is None or target is None or not pairs_with(source, target, self.halves.universe.node is not None):
+            return None
+        return self.key(source), self.key(target)
+
+    def end(self, key: Key, other: Key, direction: str) -> Optional[End]:
+        """The end of that name, where the half of the other one has this direction."""
+        if key[0] == "identity":
+            return self.groups[key[1]]
+        half = self.groups[other[1]]
+        listed = self.halves.outer(*((phase, half.at(phase), direction) for phase in (0, 1)))
+        if key[0] == "reserved":
+            return next((it for it in listed if self.places.of(it) == key), None)
+        return around(ipaddress.IPv4Network(key[1]), listed)
+
+
+def around(region: ipaddress.IPv4Network, listed: Iterable[Outside]) -> Optional[Outside]:
+    """The nearest region around one, where it is listed: None where no packet is of it."""
+    found = {it.value: it for it in listed if it.kind == "region"}
+    prefixes = frozenset().union(*(it.prefixes for it in found.values()))
+    nearest = max((it for it in prefixes if region.subnet_of(it)), key=lambda it: it.prefixlen, default=None)
+    return found.get(nearest)
+
+
+def change_of(it: dict) -> Change:
+    ((source,), (target,)) = it["from"].items(), it["to"].items()
+    return Change(source, target, it["protocol"], *it["ports"], it["after"] == ALLOWED)
+
+
+def joined(found: Iterable[Change]) -> set[Change]:
+    """Changes, with those made one that touch."""
+    made: list[Change] = []
+    for it in sorted(found):
+        if made and made[-1]._replace(low=0, high=0) == it._replace(low=0, high=0) and made[-1].high + 1 == it.low:
+            made[-1] = made[-1]._replace(high=it.high)
+        else:
+            made.append(it)
+    return {*made}
