@@ -1,9 +1,11 @@
 -- Which half of a prefix another lies in.
-use Rattle.std.proofs.Common.{◌≡◌, ◌<◌, ◌≤◌, Bool, true, false, not, refl, ◌⊎◌, inl, inr, arith}
+use Rattle.pol_addr.proofs.ByFamily.{family_of-later}
+use Rattle.std.proofs.Common.{◌∙◌, ◌≡◌, ◌<◌, ◌≤◌, Bool, true, false, not, refl, ◌⊎◌, inl, inr, arith}
 use Rattle.pol_addr.specs.declared.network.Prefix.{Prefix}
+use Rattle.pol_addr.specs.Address.{family_of}
 use Rattle.pol_addr.specs.Cidr.{IsPrefix}
 use Rattle.pol_addr.specs.Prefix.{bit_of, half, covers}
-use Rattle.pol_addr.proofs.Containment.{covers-parts, covers_half, covers_from_half, halves_apart}
+use Rattle.pol_addr.proofs.Containment.{covers-family, covers-parts, covers_half, covers_from_half, halves_apart}
 
 -- two bits are the same, or one is the other turned
 pub cases_side : (d high : Bool) → (d ≡ high) ⊎ (d ≡ not high)
@@ -21,6 +23,10 @@ same_half p q false false over over' = refl
 pub not_both : (p q : Prefix) (high : Bool) → covers (half p high) q ≡ true → covers (half p (not high)) q ≡ true → ⊥
 not_both p q true over over' = halves_apart p q over over'
 not_both p q false over over' = halves_apart p q over' over
+
+-- what lies in a half of a prefix is of its family
+pub half-family : (p q : Prefix) (high : Bool) → covers (half p high) q ≡ true → family_of q.addr ≡ family_of p.addr
+half-family p q high over = covers-family (half p high) q over ∙ family_of-later _ p.addr
 
 -- a half of a prefix does not cover the prefix
 pub half_no_cover : (p : Prefix) (d : Bool) → IsPrefix p → covers (half p d) p ≡ true → ⊥

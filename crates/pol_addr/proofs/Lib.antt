@@ -1,7 +1,11 @@
 pub mod Blocks
+pub mod ByFamily
 pub mod Containment
 pub mod Texts
+pub mod Bytes
+pub mod HexTexts
 pub mod PrefixTexts
+pub mod Printed
 pub mod Equality
 pub mod Halves
 pub mod Order

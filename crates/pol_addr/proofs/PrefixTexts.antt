@@ -1,19 +1,21 @@
 -- The reader of a prefix reads the grammar of prefixes, and nothing else.
-use Rattle.std.proofs.Common.{◌≡◌, ◌≢◌, ℕ, zero, suc, ◌<◌, ◌≤◌, ◌==◌, false, List, [], ◌∷◌, ◌++◌, length, get_or, Option, Some, None, option_map, IfSome, IfNone, decimal, codes, Bor, refl, sym, ap, ◌∙◌, inl, inr, append_assoc, arith, ne_eqb, eq-eqb}
+use Rattle.std.proofs.Common.{◌≡◌, ◌≢◌, ℕ, suc, ◌<◌, ◌≤◌, ◌==◌, false, List, [], ◌∷◌, ◌++◌, length, get_or, Option, Some, None, option_map, IfSome, IfNone, decimal, codes, Bor, refl, sym, ap, ◌∙◌, inl, inr, append_assoc, arith, ne_eqb, eq-eqb}
 use Rattle.std.proofs.lemmas.Option.{none-some, same_Some}
 use Rattle.std.proofs.lemmas.Bool.{cases_eq}
 use Rattle.std.proofs.lemmas.Fmt.{decimal_is_IsNumeral}
 use Rattle.std.proofs.lemmas.Str.Parse.{digit_at}
 use Rattle.std.proofs.lemmas.Str.Pattern.{IsSplitOnceResult, split_parts}
-use Rattle.std.specs.Str.Parse.{AllDigits}
 use Rattle.std.proofs.NetLemmas.Options.{and_then_some, map_some, same_parts}
-use Rattle.pol_addr.specs.Address.{Addr, read_addr}
+use Rattle.pol_addr.specs.Address.{Addr, V4, V6, read_addr, width_of}
 use Rattle.pol_addr.specs.Prefix.{Prefix, cut_at, read_len, read_parts, read_prefix}
-use Rattle.pol_addr.specs.Grammar.{WritesAddr, WritesPrefix}
+use Rattle.pol_addr.specs.Grammar.{WritesAddr, WritesOctets, WritesPrefix}
+use Rattle.pol_addr.specs.Grammar.WritesAddr.{dotted, hex}
 use Rattle.pol_addr.specs.Grammar.WritesPrefix.{bare, pair}
 use Rattle.pol_addr.specs.Cidr.{IsPrefix}
-use Rattle.pol_addr.proofs.Blocks.{IsPrefix-network}
-use Rattle.pol_addr.proofs.Texts.{IsAddr-writes, read_addr_complete, read_addr_sound, read_len_complete, read_len_sound}
+use Rattle.pol_addr.proofs.Bytes.{has, lacks_both, lacks_from, none_at}
+use Rattle.pol_addr.proofs.ByFamily.{IsPrefix-cleared}
+use Rattle.pol_addr.proofs.HexTexts.{IsAddr-writes, lacks_byte, read_addr_complete, read_addr_sound}
+use Rattle.pol_addr.proofs.Texts.{read_len_complete, read_len_sound}
 
 -- ---- the cut at a byte
 lacks_tail : (byte x : ℕ) (xs : List ℕ) → ((i : ℕ) → i < length (x ∷ xs) → get_or (x ∷ xs) i 0 ≢ byte) → (i : ℕ) → i < length xs → get_or xs i 0 ≢ byte
@@ -50,34 +52,34 @@ cut_at-split_once byte text (Some x) h ascii =
     rw joined (cut_at-some byte x.0.now x.1.now none)
 
 -- ---- an address text has no slash
--- each byte is another than this
-abbrev Lacks : ℕ → List ℕ → Type 0
-Lacks byte text = (i : ℕ) → i < length text → get_or text i 0 ≢ byte
+lacks_decimal : (n : ℕ) → n ≤ 255 → has 47 (decimal n) ≡ false
+lacks_decimal n small =
+    lacks_from 47 (decimal n) (λ i within. let at = digit_at (decimal n) i (decimal_is_IsNumeral n (omega arith)).0.1 within in λ e. omega (arith, at))
 
-lacks_append : (byte : ℕ) (xs ys : List ℕ) → Lacks byte xs → Lacks byte ys → (i : ℕ) → i < length (xs ++ ys) → get_or (xs ++ ys) i 0 ≢ byte
-lacks_append byte [] ys none none' i within = none' i within
-lacks_append byte (x ∷ xs) ys none none' zero within = none 0 (omega arith)
-lacks_append byte (x ∷ xs) ys none none' (suc i) within = lacks_append byte xs ys (lacks_tail byte x xs none) none' i (omega arith)
+lacks_parts : (a b c d : List ℕ) → has 47 a ≡ false → has 47 b ≡ false → has 47 c ≡ false → has 47 d ≡ false → has 47 (a ++ codes "." ++ b ++ codes "." ++ c ++ codes "." ++ d) ≡ false
+lacks_parts a b c d no_a no_b no_c no_d =
+    let one = lacks_both 47 a (codes ".") no_a refl in
+    let two = lacks_both 47 (a ++ codes "." ++ b) (codes ".") (lacks_both 47 (a ++ codes ".") b one no_b) refl in
+    let three = lacks_both 47 (a ++ codes "." ++ b ++ codes "." ++ c) (codes ".") (lacks_both 47 (a ++ codes "." ++ b ++ codes ".") c two no_c) refl in
+    lacks_both 47 (a ++ codes "." ++ b ++ codes "." ++ c ++ codes ".") d three no_d
 
-lacks_digits : (text : List ℕ) → AllDigits 10 text → Lacks 47 text
-lacks_digits text digits i within = let at = digit_at text i digits within in λ e. omega (arith, at)
-
-lacks_decimal : (n : ℕ) → n ≤ 255 → Lacks 47 (decimal n)
-lacks_decimal n small = lacks_digits (decimal n) (decimal_is_IsNumeral n (omega arith)).0.1
-
-lacks_dot : (i : ℕ) → i < length (codes ".") → get_or (codes ".") i 0 ≢ 47
-lacks_dot zero within = λ e. omega arith
-lacks_dot (suc i) within = absurd (omega arith)
-
-after_dot : (front : List ℕ) (n : ℕ) → Lacks 47 front → n ≤ 255 → Lacks 47 (front ++ codes "." ++ decimal n)
-after_dot front n none small = lacks_append 47 (front ++ codes ".") (decimal n) (lacks_append 47 front (codes ".") none lacks_dot) (lacks_decimal n small)
-
-lacks_slash : (text : List ℕ) (addr : Addr) → WritesAddr text addr → Lacks 47 text
-lacks_slash text addr h = rw h.written (
-    after_dot _ h.d
-    (after_dot _ h.c (after_dot _ h.b (lacks_decimal h.a (omega (arith, h.octets))) (omega (arith, h.octets))) (omega (arith, h.octets)))
-    (omega (arith, h.octets))
+octets_lack : (text : List ℕ) (addr : Addr) → WritesOctets text addr → has 47 text ≡ false
+octets_lack text addr h =
+    rw h.written (
+    lacks_parts (decimal h.a) (decimal h.b) (decimal h.c) (decimal h.d) (lacks_decimal h.a (omega (arith, h.octets))) (lacks_decimal h.b (omega (arith, h.octets))) (lacks_decimal h.c (omega (arith, h.octets)))
+    (lacks_decimal h.d (omega (arith, h.octets)))
     )
+
+no_slash : (text : List ℕ) (addr : Addr) → WritesAddr text addr → has 47 text ≡ false
+no_slash text addr (dotted h) = octets_lack text addr h
+no_slash text addr (hex h) = lacks_byte 47 (omega arith) refl text h.groups h.written
+
+lacks_slash : (text : List ℕ) (addr : Addr) → WritesAddr text addr → (i : ℕ) → i < length text → get_or text i 0 ≢ 47
+lacks_slash text addr h = none_at 47 text (no_slash text addr h)
+
+width_small : (addr : Addr) → width_of addr < 256
+width_small (V4 n) = omega arith
+width_small (V6 n) = omega arith
 
 -- ---- the grammar
 pub read_prefix_complete : (text : List ℕ) (p : Prefix) → WritesPrefix text p → read_prefix text ≡ Some p
@@ -88,7 +90,7 @@ read_prefix_complete text p (bare h) =
 read_prefix_complete text p (pair h) =
     let some = cut_at-some 47 h.addr_text (decimal h.len) (lacks_slash h.addr_text h.addr h.address) in
     let joined : text ≡ h.addr_text ++ 47 ∷ decimal h.len = h.written ∙ append_assoc h.addr_text (47 ∷ []) (decimal h.len) in
-    rw (joined, some, read_addr_complete h.addr_text h.addr h.address, read_len_complete (decimal h.len) h.len h.len_in_range refl) (ap Some (sym h.value))
+    rw (joined, some, read_addr_complete h.addr_text h.addr h.address, read_len_complete (width_of h.addr) (decimal h.len) h.len (width_small h.addr) h.len_in_range refl) (ap Some (sym h.value))
 
 read_parts_sound : (text : List ℕ) (p : Prefix) (cut : Option (List ℕ × List ℕ)) → cut_at 47 text ≡ cut → read_parts text cut ≡ Some p → WritesPrefix text p
 read_parts_sound text p None is e =
@@ -96,8 +98,8 @@ read_parts_sound text p None is e =
     bare (record { addr = addr; address = read_addr_sound text addr read; value = sym (same_Some _ _ value) })
 read_parts_sound text p (Some (front, rest)) is e =
     and_then_some _ (read_addr front) p e λ addr read e'.
-    and_then_some _ (read_len rest) p e' λ len read' value.
-    let (small, written) = read_len_sound rest len read' in
+    and_then_some _ (read_len (width_of addr) rest) p e' λ len read' value.
+    let (small, written) = read_len_sound (width_of addr) rest len read' in
     pair (record {
       addr_text = front;
       addr = addr;
@@ -125,8 +127,8 @@ pub writes_one_prefix : (text : List ℕ) (p q : Prefix) → WritesPrefix text p
 writes_one_prefix text p q h k = same_Some p q (sym (read_prefix_complete text p h) ∙ read_prefix_complete text q k)
 
 IsPrefix-writes : (text : List ℕ) (p : Prefix) → WritesPrefix text p → IsPrefix p
-IsPrefix-writes text p (bare h) = rw h.value (IsPrefix-network 32 h.addr.bits (omega arith) (IsAddr-writes text h.addr h.address))
-IsPrefix-writes text p (pair h) = rw h.value (IsPrefix-network h.len h.addr.bits h.len_in_range (IsAddr-writes h.addr_text h.addr h.address))
+IsPrefix-writes text p (bare h) = rw h.value (IsPrefix-cleared (width_of h.addr) h.addr (omega arith) (IsAddr-writes text h.addr h.address))
+IsPrefix-writes text p (pair h) = rw h.value (IsPrefix-cleared h.len h.addr h.len_in_range (IsAddr-writes h.addr_text h.addr h.address))
 
 pub IsPrefix-read_prefix : (text : List ℕ) (p : Prefix) → read_prefix text ≡ Some p → IsPrefix p
 IsPrefix-read_prefix text p e = IsPrefix-writes text p (read_prefix_sound text p e)

@@ -1,5 +1,5 @@
--- The readers read the grammar, and nothing else.
-use Rattle.std.proofs.Common.{◌≡◌, ◌≢◌, leb, ℕ, ◌<◌, ◌≤◌, List, [], ◌∷◌, length, get_or, Option, Some, None, option_map, IfSome, IfNone, option_and_then, if◌then◌else◌, Result, Ok, Err, MatchResult, slice_index, decimal, refl, sym, ap, ◌∙◌, inl, inr, append-nil, arith, lit≤, ne_eqb, le-leb, leb-true}
+-- The readers of IPv4 addresses and of lengths read their grammar, and nothing else.
+use Rattle.std.proofs.Common.{◌≡◌, ◌≢◌, leb, ℕ, ◌<◌, ◌≤◌, List, [], ◌∷◌, length, get_or, Option, Some, None, option_map, option_and_then, if◌then◌else◌, Result, Ok, Err, MatchResult, slice_index, decimal, refl, sym, ap, ◌∙◌, inl, inr, append-nil, arith, lit≤, ne_eqb, le-leb, leb-true}
 use Rattle.std.proofs.lemmas.Option.{none-some, same_Some}
 use Rattle.std.proofs.lemmas.Bool.{cases_lt}
 use Rattle.std.proofs.lemmas.Fmt.{decimal_is_IsNumeral, first_decimal, decimal_digit, decimal-digits_value}
@@ -12,21 +12,21 @@ use Rattle.std.specs.Net.Grammar.{IsDotted, IsIpv4Text, Parses}
 use Rattle.std.specs.Result.{result_ok}
 use Rattle.std.proofs.NetLemmas.Options.{and_then_some, cond_some}
 use Rattle.std.proofs.NetLemmas.Ipv4.{read_ipv4_sound, read_ipv4_complete, read_octet_sound, read_octet_complete}
-use Rattle.pol_addr.specs.Address.{Addr, IsAddr, addr_of_octets, read_addr}
+use Rattle.pol_addr.specs.Address.{Addr, IsAddr, addr_of_octets, read_v4}
 use Rattle.pol_addr.specs.Prefix.{read_len}
-use Rattle.pol_addr.specs.Grammar.{WritesAddr}
+use Rattle.pol_addr.specs.Grammar.{WritesOctets}
 
 digits_model : IsNumeralModel (AllDigits 10) (digits_value 10)
 digits_model = numerals_by_value _ tells_digits
 
-none_from : {A : Type 0} (o : Option A) → ((x : A) → o ≡ Some x → ⊥) → o ≡ None
+pub none_from : {A : Type 0} (o : Option A) → ((x : A) → o ≡ Some x → ⊥) → o ≡ None
 none_from None none = refl
 none_from (Some x) none = absurd (none x refl)
 
-whole_value-some : {A : Type 0} (r : Read A) (x : A) → r ≡ Some (x, []) → whole_value r ≡ Some x
+pub whole_value-some : {A : Type 0} (r : Read A) (x : A) → r ≡ Some (x, []) → whole_value r ≡ Some x
 whole_value-some r x e = rw e refl
 
-whole_value-sound : {A : Type 0} (r : Read A) (x : A) → whole_value r ≡ Some x → r ≡ Some (x, [])
+pub whole_value-sound : {A : Type 0} (r : Read A) (x : A) → whole_value r ≡ Some x → r ≡ Some (x, [])
 whole_value-sound None x e = absurd (none-some x e)
 whole_value-sound (Some (y, [])) x e = ap (λ v. Some (v, [])) (same_Some y x e)
 whole_value-sound (Some (y, c ∷ rest)) x e = absurd (none-some x (rw (ne_eqb (length (c ∷ rest)) 0 (omega arith)) at e))
@@ -39,7 +39,7 @@ abbrev pub addr_of_ipv4 : Ipv4Addr → Addr
 addr_of_ipv4 a = addr_of_list (ipv4_octets a)
 
 -- std's words for an address text, and the grammar's
-writes_from_dotted : (text octets : List ℕ) → IsDotted text octets → WritesAddr text (addr_of_list octets)
+pub writes_from_dotted : (text octets : List ℕ) → IsDotted text octets → WritesOctets text (addr_of_list octets)
 writes_from_dotted text octets h = rw h.value (record {
   a = h.a;
   b = h.b;
@@ -50,7 +50,7 @@ writes_from_dotted text octets h = rw h.value (record {
   value = refl;
 })
 
-dotted_from_writes : (text : List ℕ) (addr : Addr) (h : WritesAddr text addr) → IsDotted text (h.a ∷ h.b ∷ h.c ∷ h.d ∷ [])
+pub dotted_from_writes : (text : List ℕ) (addr : Addr) (h : WritesOctets text addr) → IsDotted text (h.a ∷ h.b ∷ h.c ∷ h.d ∷ [])
 dotted_from_writes text addr h = record {
   a = h.a;
   b = h.b;
@@ -61,36 +61,48 @@ dotted_from_writes text addr h = record {
   spelled = h.written;
 }
 
-pub read_addr_complete : (text : List ℕ) (addr : Addr) → WritesAddr text addr → read_addr text ≡ Some addr
-unfolding read_addr
-read_addr_complete text addr h =
+pub read_v4_complete : (text : List ℕ) (addr : Addr) → WritesOctets text addr → read_v4 text ≡ Some addr
+unfolding read_v4
+read_v4_complete text addr h =
     let octets = h.a ∷ h.b ∷ h.c ∷ h.d ∷ [] in
     let read : read_ipv4 text ≡ Some (octets, []) = rw append-nil at (read_ipv4_complete text octets [] (dotted_from_writes text addr h) (lit≤ tt)) in
     rw (whole_value-some (read_ipv4 text) octets read) (ap Some (sym h.value))
 
-pub read_addr_sound : (text : List ℕ) (addr : Addr) → read_addr text ≡ Some addr → WritesAddr text addr
-unfolding read_addr
-read_addr_sound text addr e =
+pub read_v4_sound : (text : List ℕ) (addr : Addr) → read_v4 text ≡ Some addr → WritesOctets text addr
+unfolding read_v4
+read_v4_sound text addr e =
     and_then_some _ (whole_value (read_ipv4 text)) addr e λ octets whole value.
     let (front, split, dotted) = read_ipv4_sound text octets [] (whole_value-sound (read_ipv4 text) octets whole) in
     rw (split, append-nil front, ← same_Some _ _ value) (writes_from_dotted front octets dotted)
 
-pub read_len_at : (text : List ℕ) (n : ℕ) → n < 256 → text ≡ decimal n → read_len text ≡ (if leb n 32 then Some n else None)
+pub read_v4_none : (text : List ℕ) → ((addr : Addr) → ¬ (WritesOctets text addr)) → read_v4 text ≡ None
+read_v4_none text none = none_from (read_v4 text) (λ addr e. none addr (read_v4_sound text addr e))
+
+-- what the standard library's `parse` answers is the reading of the text
+pub parsed_v4 : {E : Type 0} (text : List ℕ) (r : Result Ipv4Addr E) (o : Option Ipv4Addr) → Parses IsIpv4Text text r → o ≡ result_ok r → read_v4 text ≡ option_map addr_of_ipv4 o
+parsed_v4 text (Ok a) o h is = rw is (read_v4_complete text (addr_of_ipv4 a) (writes_from_dotted text (ipv4_octets a) h))
+parsed_v4 text (Err e) o h is = rw is (read_v4_none text (λ addr w. h (record { octets = w.a ∷ w.b ∷ w.c ∷ w.d ∷ [] }) (dotted_from_writes text addr w)))
+
+pub IsAddr-octets : (text : List ℕ) (addr : Addr) → WritesOctets text addr → IsAddr addr
+IsAddr-octets text addr h = rw h.value (omega (arith, h.octets))
+
+-- ---- lengths
+pub read_len_at : (most : ℕ) (text : List ℕ) (n : ℕ) → n < 256 → text ≡ decimal n → read_len most text ≡ (if leb n most then Some n else None)
 unfolding read_len
-read_len_at text n small written =
+read_len_at most text n small written =
     let read : read_octet text ≡ Some (n, []) = rw (written, ← append-nil (decimal n)) (read_octet_complete n [] small (lit≤ tt)) in
     rw (whole_value-some (read_octet text) n read) refl
 
-pub read_len_complete : (text : List ℕ) (len : ℕ) → len ≤ 32 → text ≡ decimal len → read_len text ≡ Some len
-read_len_complete text len small written = read_len_at text len (omega arith) written ∙ rw (le-leb len 32 small) refl
+pub read_len_complete : (most : ℕ) (text : List ℕ) (len : ℕ) → most < 256 → len ≤ most → text ≡ decimal len → read_len most text ≡ Some len
+read_len_complete most text len fits small written = read_len_at most text len (omega arith) written ∙ rw (le-leb len most small) refl
 
-pub read_len_sound : (text : List ℕ) (len : ℕ) → read_len text ≡ Some len → (len ≤ 32) × (text ≡ decimal len)
+pub read_len_sound : (most : ℕ) (text : List ℕ) (len : ℕ) → read_len most text ≡ Some len → (len ≤ most) × (text ≡ decimal len)
 unfolding read_len
-read_len_sound text len e =
+read_len_sound most text len e =
     and_then_some _ (whole_value (read_octet text)) len e λ n whole kept.
     let (fits, front, stop) = read_octet_sound text [] n (whole_value-sound (read_octet text) n whole) in
-    let (small, same) = cond_some (leb n 32) n len kept in
-    (omega (arith, leb-true n 32 small, same), front ∙ append-nil (decimal n) ∙ ap decimal same)
+    let (small, same) = cond_some (leb n most) n len kept in
+    (omega (arith, leb-true n most small, same), front ∙ append-nil (decimal n) ∙ ap decimal same)
 
 -- `parse` at a text without a sign or a leading zero reads what `decimal` writes
 pub parse_plain_decimal : {E : Type 0} (text : List ℕ) (r : Result ℕ E) → get_or text 0 0 ≢ 43 → (get_or text 0 0 ≡ 48 → length text ≡ 1) → ParsesUnsigned 8 10 text r → MatchResult r (λ n. (n < 256) × (text ≡ decimal n)) (λ _. (n : ℕ) → n < 256 → text ≢ decimal n)
@@ -115,37 +127,14 @@ not_plain text n small written =
     ]
 
 -- a length that no text writes is not read
-pub read_len_none : (text : List ℕ) → ((n : ℕ) → n ≤ 32 → text ≢ decimal n) → read_len text ≡ None
-read_len_none text none = none_from (read_len text) (λ n e. let (small, written) = read_len_sound text n e in none n small written)
-
-pub read_addr_none : (text : List ℕ) → ((addr : Addr) → ¬ (WritesAddr text addr)) → read_addr text ≡ None
-read_addr_none text none = none_from (read_addr text) (λ addr e. none addr (read_addr_sound text addr e))
-
--- what the standard library's `parse` answers is the reading of the text
-pub parsed_addr : {E : Type 0} (text : List ℕ) (r : Result Ipv4Addr E) (o : Option Ipv4Addr) → Parses IsIpv4Text text r → o ≡ result_ok r → read_addr text ≡ option_map addr_of_ipv4 o
-parsed_addr text (Ok a) o h is = rw is (read_addr_complete text (addr_of_ipv4 a) (writes_from_dotted text (ipv4_octets a) h))
-parsed_addr text (Err e) o h is = rw is (read_addr_none text (λ addr w. h (record { octets = w.a ∷ w.b ∷ w.c ∷ w.d ∷ [] }) (dotted_from_writes text addr w)))
+pub read_len_none : (most : ℕ) (text : List ℕ) → ((n : ℕ) → n ≤ most → text ≢ decimal n) → read_len most text ≡ None
+read_len_none most text none = none_from (read_len most text) (λ n e. let (small, written) = read_len_sound most text n e in none n small written)
 
 -- what `parse` answers of a plain text is the reading of a length, but for its bound
-pub parsed_len : {E : Type 0} (text : List ℕ) (r : Result ℕ E) (o : Option ℕ) → get_or text 0 0 ≢ 43 → (get_or text 0 0 ≡ 48 → length text ≡ 1) → ParsesUnsigned 8 10 text r → o ≡ result_ok r → read_len text ≡ option_and_then (λ n. if leb n 32 then Some n else None) o
-parsed_len {E = E} text (Ok n) o no_plus no_zero h is =
+pub parsed_len : {E : Type 0} (most : ℕ) (text : List ℕ) (r : Result ℕ E) (o : Option ℕ) → most < 256 → get_or text 0 0 ≢ 43 → (get_or text 0 0 ≡ 48 → length text ≡ 1) → ParsesUnsigned 8 10 text r → o ≡ result_ok r → read_len most text ≡ option_and_then (λ n. if leb n most then Some n else None) o
+parsed_len {E = E} most text (Ok n) o fits no_plus no_zero h is =
     let (small, written) = parse_plain_decimal {E = E} text (Ok n) no_plus no_zero h in
-    rw is (read_len_at text n small written)
-parsed_len {E = E} text (Err e) o no_plus no_zero h is =
+    rw is (read_len_at most text n small written)
+parsed_len {E = E} most text (Err e) o fits no_plus no_zero h is =
     let none = parse_plain_decimal {E = E} text (Err e) no_plus no_zero h in
-    rw is (read_len_none text (λ n small. none n (omega arith)))
-
--- an answer that is the reading of the text has the grammar's value, or there is none
-pub some_writes : (text : List ℕ) (r : Option Addr) → r ≡ read_addr text → IfSome r (WritesAddr text)
-some_writes text None is = tt
-some_writes text (Some addr) is = read_addr_sound text addr (sym is)
-
-pub none_writes : (text : List ℕ) (r : Option Addr) → r ≡ read_addr text → IfNone r ((addr : Addr) → ¬ (WritesAddr text addr))
-none_writes text None is = λ addr h. none-some addr (is ∙ read_addr_complete text addr h)
-none_writes text (Some addr) is = tt
-
-pub writes_one_addr : (text : List ℕ) (a b : Addr) → WritesAddr text a → WritesAddr text b → a ≡ b
-writes_one_addr text a b h k = same_Some a b (sym (read_addr_complete text a h) ∙ read_addr_complete text b k)
-
-pub IsAddr-writes : (text : List ℕ) (addr : Addr) → WritesAddr text addr → IsAddr addr
-IsAddr-writes text addr h = rw h.value (omega (arith, h.octets))
+    rw is (read_len_none most text (λ n small. none n (omega arith)))

@@ -1,24 +1,40 @@
--- 0.0.0.0/0, the prefix of length 0, and when one prefix is shorter than another.
+-- The prefix of length 0 of a family, and when one prefix is shorter than another.
 use Rattle.std.proofs.Common.{◌≡◌, ◌≢◌, ◌<◌, true, sym, ap, ◌∙◌, inl, inr, arith}
+use Rattle.std.proofs.lemmas.Nat.{pow_pos}
 use Rattle.std.proofs.lemmas.Bool.{cases_eq}
+use Rattle.pol_addr.specs.Families.{Family, Ipv4, Ipv6}
 use Rattle.pol_addr.specs.declared.network.Prefix.{Prefix}
-use Rattle.pol_addr.specs.Cidr.{IsPrefix, network}
-use Rattle.pol_addr.specs.Prefix.{world, covers}
-use Rattle.pol_addr.proofs.Blocks.{network-none}
-use Rattle.pol_addr.proofs.Containment.{covers_from, covers_refl, same_from_covered}
+use Rattle.pol_addr.specs.Address.{Addr, IsAddr, addr_in, family_of}
+use Rattle.pol_addr.specs.Cidr.{IsPrefix, cleared}
+use Rattle.pol_addr.specs.Prefix.{contains, covers, world}
+use Rattle.pol_addr.proofs.ByFamily.{cleared-none, family_of-addr_in}
+use Rattle.pol_addr.proofs.Containment.{contains_from, covers_from, covers_refl, same_from_covered}
 use Rattle.pol_addr.proofs.Halves.{covers_len}
 
-pub world-IsPrefix : IsPrefix world
-world-IsPrefix = record { len_in_range = omega arith; bits_in_range = omega arith; host_bits_clear = network-none 0 (omega arith) }
+IsAddr-first : (f : Family) → IsAddr (addr_in f 0)
+IsAddr-first Ipv4 = omega arith
+IsAddr-first Ipv6 = pow_pos 128
 
-pub covers-world : (p : Prefix) → IsPrefix p → covers world p ≡ true
-covers-world p valid = covers_from world p (omega arith) (network-none p.bits valid.bits_in_range)
+pub world-IsPrefix : (f : Family) → IsPrefix (world f)
+world-IsPrefix f = record {
+  len_in_range = omega arith;
+  addr_in_range = IsAddr-first f;
+  host_bits_clear = cleared-none (addr_in f 0) (IsAddr-first f) ∙ ap (λ g. addr_in g 0) (family_of-addr_in f 0);
+}
+
+-- it contains each address of the family
+pub contains-world : (a : Addr) → IsAddr a → contains (world (family_of a)) a ≡ true
+contains-world a small = contains_from (world (family_of a)) a (cleared-none a small)
+
+-- and covers each prefix
+pub covers-world : (p : Prefix) → IsPrefix p → covers (world (family_of p.addr)) p ≡ true
+covers-world p valid = covers_from (world (family_of p.addr)) p (omega arith) (cleared-none p.addr valid.addr_in_range)
 
 -- the prefix of length 0
-pub world_from_len : (p : Prefix) → IsPrefix p → p.len ≡ 0 → p ≡ world
+pub world_from_len : (p : Prefix) → IsPrefix p → p.len ≡ 0 → p ≡ world (family_of p.addr)
 world_from_len p valid zero =
-    let bits : p.bits ≡ 0 = sym valid.host_bits_clear ∙ ap (λ l. network l p.bits) zero ∙ network-none p.bits valid.bits_in_range in
-    λ i. record { bits = bits i; len = zero i }
+    let addr : p.addr ≡ addr_in (family_of p.addr) 0 = sym valid.host_bits_clear ∙ ap (λ l. cleared l p.addr) zero ∙ cleared-none p.addr valid.addr_in_range in
+    λ i. record { addr = addr i; len = zero i }
 
 -- a prefix that covers another one is shorter
 pub strictly : (p q : Prefix) → IsPrefix q → covers p q ≡ true → q ≢ p → p.len < q.len

@@ -9,14 +9,14 @@ fn begins_plainly(text: &str) -> bool
     !matches!(text.as_bytes(), [b'+', ..] | [b'0', _, ..])
 }
 
-/// The length that the text writes: 0 to 32, in decimal digits without leading zeros.
-pub(crate) fn parse_len(text: &str) -> Option<u8>
-    ensures reads { result ≡ read_len text.now }
-    ensures within { IfSome result (λ len. len ≤ 32) }
+/// The length that the text writes: 0 to `most`, in decimal digits without leading zeros.
+pub(crate) fn parse_len(text: &str, most: u8) -> Option<u8>
+    ensures reads { result ≡ read_len most text.now }
+    ensures within { IfSome result (λ len. len ≤ most) }
 {
     if !begins_plainly(text) {
         return None;
     }
     let len = text.parse::<u8>().ok()?;
-    if len <= 32 { Some(len) } else { None }
+    if len <= most { Some(len) } else { None }
 }

@@ -5,6 +5,7 @@ use Rattle.std.proofs.lemmas.Option.{same_Some}
 use Rattle.std.specs.Option.{option_or}
 use Rattle.slab.specs.Slab.{Slab, get}
 use Rattle.pol_addr.specs.declared.network.Prefix.{Prefix}
+use Rattle.pol_addr.specs.declared.family.Family.{Family}
 use Rattle.pol_addr.specs.Prefix.{covers, world}
 use Rattle.pol_addr.proofs.Containment.{same_from_covered}
 use Rattle.pol_prefix_table.specs.declared.node.PrefixNode.{PrefixNode}
@@ -77,8 +78,8 @@ module _ (s : Slab PrefixNode) (t : IsTree (get s)) (target : Prefix) where
   first root is over zero None numbered = λ j m is_m over_m short.
       ap (λ x. x.number) (alone 0 j root m is is_m over over_m (omega arith)) ∙ numbered
 
-  pub best_start : (limit : ℕ) (root : PrefixNode) → get s 0 ≡ Some root → StandsOver s target limit 0 → root.prefix ≡ world → IsBest s target 0 root.number
-  best_start limit root is h prefix_is =
+  pub best_start : (family : Family) (limit : ℕ) (root : PrefixNode) → get s 0 ≡ Some root → StandsOver s target limit 0 → root.prefix ≡ world family → IsBest s target 0 root.number
+  best_start family limit root is h prefix_is =
       let same : h.node ≡ root = same_Some h.node root (sym h.there ∙ is) in
       let over : covers root.prefix target ≡ true = ap (λ x. covers x.prefix target) (sym same) ∙ h.over in
       subst (λ most. MatchOption root.number (NoNumberUpTo s target most) (IsNumberUpTo s target most)) (sym (len_at-node s 0 root is))

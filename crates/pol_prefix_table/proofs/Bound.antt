@@ -2,6 +2,7 @@
 use Rattle.std.proofs.Common.{◌≡◌, ℕ, suc, ◌+◌, ◌*◌, ◌≤◌, cond, length, List, [], ◌∷◌, is_some, Option, Some, None, refl, sym, ap, ◌∙◌, arith}
 use Rattle.std.specs.FinMap as map
 use Rattle.slab.specs.Slab.{Slab, get, slab_len}
+use Rattle.pol_addr.specs.declared.family.Family.{Family}
 use Rattle.pol_addr.specs.declared.network.Prefix.{Prefix}
 use Rattle.pol_addr.specs.Order.{prefix_cmp}
 use Rattle.pol_addr.proofs.Order.{prefix_cmp_total}
@@ -14,11 +15,11 @@ use Rattle.pol_prefix_table.proofs.Places.{no_nodes}
 use Rattle.pol_prefix_table.proofs.Sums.{sum_none, sum_one, sum_needed}
 
 -- ---- as many entries as numbers
-abbrev Fresh : List (Prefix × ℕ) → Type 0
+abbrev pub Fresh : List (Prefix × ℕ) → Type 0
 Fresh [] = Unit {0}
 Fresh (e ∷ es) = (map.find prefix_cmp e.0 es ≡ None) × Fresh es
 
-len_fresh : (es : List (Prefix × ℕ)) → Fresh es → map.len (map.from_entries {R = prefix_cmp} es) ≡ length es
+pub len_fresh : (es : List (Prefix × ℕ)) → Fresh es → map.len (map.from_entries {R = prefix_cmp} es) ≡ length es
 len_fresh [] fresh = map.len-empty prefix_cmp ℕ
 len_fresh (e ∷ es) fresh =
     map.len-insert prefix_cmp_total (map.from_entries es) e.0 e.1
@@ -50,7 +51,7 @@ length_numbered [] = refl
 length_numbered (None ∷ xs) = length_numbered xs
 length_numbered (Some o ∷ xs) = omega (arith, length_before o.prefix o.number (numbered xs), length_numbered xs)
 
-numbers_len : (s : Slab PrefixNode) → IsTrie s → map.len (map_of s) ≡ sum_of (λ n. count n.number) s.slots
+numbers_len : {family : Family} (s : Slab PrefixNode) → IsTrie family s → map.len (map_of s) ≡ sum_of (λ n. count n.number) s.slots
 numbers_len s t =
     let tree = t.tree in
     len_fresh (numbered s.slots) (fresh_numbered s.slots tree.apart) ∙ length_numbered s.slots
@@ -61,10 +62,10 @@ numbers_most [] = omega arith
 numbers_most (None ∷ xs) = numbers_most xs
 numbers_most (Some n ∷ xs) = omega (arith, count_le n.number, numbers_most xs)
 
-pub nodes_least : (s : Slab PrefixNode) → IsTrie s → map.len (map_of s) ≤ slab_len s
+pub nodes_least : {family : Family} (s : Slab PrefixNode) → IsTrie family s → map.len (map_of s) ≤ slab_len s
 nodes_least s t = omega (arith, numbers_len s t, sum_one s.slots, numbers_most s.slots)
 
-most_by : (s : Slab PrefixNode) → IsTrie s → IsTight s → (xs : List (Option PrefixNode)) → s.slots ≡ xs → sum_of one xs ≤ 2 * sum_of (λ n. count n.number) xs + 1
+most_by : {family : Family} (s : Slab PrefixNode) → IsTrie family s → IsTight s → (xs : List (Option PrefixNode)) → s.slots ≡ xs → sum_of one xs ≤ 2 * sum_of (λ n. count n.number) xs + 1
 most_by s t tight [] is = omega arith
 most_by s t tight (None ∷ xs) is =
     let none : (j : ℕ) → slot xs j ≡ None = λ j. absent j (slot xs j) refl in
@@ -82,5 +83,5 @@ most_by s t tight (Some root ∷ xs) is =
     let needed = sum_needed xs (λ j n at. tight (suc j) n (λ same. omega (arith, same)) (λ same. omega (arith, same)) (ap (λ ys. slot ys (suc j)) is ∙ at)) in
     omega (arith, all, all_links, all_nodes, needed)
 
-pub nodes_most : (s : Slab PrefixNode) → IsTrie s → IsTight s → slab_len s ≤ 2 * map.len (map_of s) + 1
+pub nodes_most : {family : Family} (s : Slab PrefixNode) → IsTrie family s → IsTight s → slab_len s ≤ 2 * map.len (map_of s) + 1
 nodes_most s t tight = omega (arith, numbers_len s t, sum_one s.slots, most_by s t tight s.slots refl)

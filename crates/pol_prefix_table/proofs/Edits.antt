@@ -4,9 +4,11 @@ use Rattle.std.proofs.lemmas.Option.{none-some, same_Some}
 use Rattle.std.proofs.lemmas.Bool.{cases_eq}
 use Rattle.slab.specs.Slab.{Slab, get, Updates}
 use Rattle.pol_addr.specs.Cidr.{IsPrefix}
+use Rattle.pol_addr.specs.declared.family.Family.{Family}
+use Rattle.pol_addr.specs.Address.{family_of}
 use Rattle.pol_addr.specs.Prefix.{world}
 use Rattle.pol_addr.proofs.Containment.{covers_from_half}
-use Rattle.pol_addr.proofs.Halves.{half_moved, covers_moved}
+use Rattle.pol_addr.proofs.Halves.{half-family, half_moved, covers_moved}
 use Rattle.pol_prefix_table.specs.declared.node.PrefixNode.{PrefixNode}
 use Rattle.pol_prefix_table.specs.Trie.{child, with_child, IsTree, IsTrie, HasRoot, FitsBelow, HasOnly, number_of, Numbers, SameNumbers, StillThere, AllStillThere}
 use Rattle.pol_prefix_table.specs.Sizes.{weight, IsBalanced, IsTightBut, loosened}
@@ -25,7 +27,7 @@ with_child-other : (n : PrefixNode) (high : Bool) (key : Option ℕ) → child (
 with_child-other n true key = refl
 with_child-other n false key = refl
 
-with_child-prefix : (n : PrefixNode) (high : Bool) (key : Option ℕ) → (with_child n high key).prefix ≡ n.prefix
+pub with_child-prefix : (n : PrefixNode) (high : Bool) (key : Option ℕ) → (with_child n high key).prefix ≡ n.prefix
 with_child-prefix n true key = refl
 with_child-prefix n false key = refl
 
@@ -34,19 +36,20 @@ with_child-number n true key = refl
 with_child-number n false key = refl
 
 -- a root that is still there
-IsTrie-rooted : (s : Slab PrefixNode) → IsTree (get s) → HasRoot (get s) → IsBalanced s → IsTrie s
-IsTrie-rooted s t root balanced = record {
+IsTrie-rooted : {family : Family} (s : Slab PrefixNode) → IsTree (get s) → HasRoot family (get s) → ((i : ℕ) (n : PrefixNode) → get s i ≡ Some n → family_of n.prefix.addr ≡ family) → IsBalanced s → IsTrie family s
+IsTrie-rooted s t root of_family balanced = record {
   fresh = λ none. absurd (none-some root.0 (sym none ∙ root.1));
   rooted = λ i n is. root;
+  of_family = of_family;
   tree = t;
   balanced = balanced;
 }
 
-root_there : (at : ℕ → Option PrefixNode) → HasRoot at → IsSome (at 0)
-root_there at (root, is, _) = ap is_some is
+root_there : (family : Family) (at : ℕ → Option PrefixNode) → HasRoot family at → IsSome (at 0)
+root_there family at (root, is, _) = ap is_some is
 
-pub HasRoot-kept : (old new : ℕ → Option PrefixNode) → HasRoot old → ((n : PrefixNode) → old 0 ≡ Some n → (m : PrefixNode) × (new 0 ≡ Some m) × (m.prefix ≡ n.prefix)) → HasRoot new
-HasRoot-kept old new (root, is, prefix_is) keeps = let (m, is', same) = keeps root is in (m, is', same ∙ prefix_is)
+pub HasRoot-kept : (family : Family) (old new : ℕ → Option PrefixNode) → HasRoot family old → ((n : PrefixNode) → old 0 ≡ Some n → (m : PrefixNode) × (new 0 ≡ Some m) × (m.prefix ≡ n.prefix)) → HasRoot family new
+HasRoot-kept family old new (root, is, prefix_is) keeps = let (m, is', same) = keeps root is in (m, is', same ∙ prefix_is)
 
 pub still_twice : (old mid new : Slab PrefixNode) → AllStillThere old mid → AllStillThere mid new → AllStillThere old new
 still_twice old mid new first second j n is =
@@ -54,7 +57,7 @@ still_twice old mid new first second j n is =
     let (m', is'', same') = second j m is' in
     (m', is'', same' ∙ same)
 
-module _ (old mid new : Slab PrefixNode) (i key : ℕ) (high : Bool) (c : PrefixNode) (t : IsTrie old) (fits : FitsBelow old i high c) (vacant : get old key ≡ None)
+module _ {family : Family} (old mid new : Slab PrefixNode) (i key : ℕ) (high : Bool) (c : PrefixNode) (t : IsTrie family old) (fits : FitsBelow old i high c) (vacant : get old key ≡ None)
     (inserted : Updates old mid key (Some c)) (linked : Updates mid new i (Some (with_child fits.parent high (Some key)))) where
   not_key : (k : ℕ) (n : PrefixNode) → get old k ≡ Some n → k ≢ key
   not_key k n is same = none-some n (sym vacant ∙ ap (get old) (sym same) ∙ is)
@@ -85,9 +88,17 @@ module _ (old mid new : Slab PrefixNode) (i key : ℕ) (high : Bool) (c : Prefix
   pub attached_kept : AllStillThere old new
   attached_kept k m is = let (m', is', same, _) = keeps k m is in (m', is', same)
 
-  pub attached_trie : IsTrie new
-  attached_trie = IsTrie-rooted new tree' (HasRoot-kept (get old) (get new) (t.rooted i fits.parent fits.there) (λ n is. let (m, is', same, _) = keeps 0 n is in (m, is', same)))
-      (balanced_attached old mid new i key high fits.parent c (root_there (get old) (t.rooted i fits.parent fits.there)) t.balanced (inserted.others i (not_key i fits.parent fits.there) ∙ fits.there) vacant fits.counted inserted linked)
+  attached_family : (k : ℕ) (m : PrefixNode) → get new k ≡ Some m → family_of m.prefix.addr ≡ family
+  attached_family k m is =
+      elim (attached_from (get old) (get new) i key fits.parent (with_child fits.parent high (Some key)) c high t.tree attached k m is) [
+        | inl fresh ↦ ap (λ y. family_of y.prefix.addr) fresh.1 ∙ half-family fits.parent.prefix c.prefix high fits.under ∙ t.of_family i fits.parent fits.there
+        | inr was ↦ ap (λ q. family_of q.addr) was.2 ∙ t.of_family k was.0 was.1
+      ]
+
+  pub attached_trie : IsTrie family new
+  attached_trie = IsTrie-rooted new tree' (HasRoot-kept family (get old) (get new) (t.rooted i fits.parent fits.there) (λ n is. let (m, is', same, _) = keeps 0 n is in (m, is', same)))
+      attached_family
+      (balanced_attached old mid new i key high fits.parent c (root_there family (get old) (t.rooted i fits.parent fits.there)) t.balanced (inserted.others i (not_key i fits.parent fits.there) ∙ fits.there) vacant fits.counted inserted linked)
 
   pub attached_there : get new key ≡ Some c
   attached_there = let h = attached in h.new
@@ -123,7 +134,7 @@ link_longer at t i k n m high is is_m link =
     let (_, longer) = covers_from_half n.prefix c.prefix high (t.valid i n is) (t.valid k c is_c) over in
     omega (arith, longer, ap (λ x. x.prefix.len) same)
 
-module _ (old mid new : Slab PrefixNode) (i k : ℕ) (high : Bool) (only : Option ℕ) (t : IsTrie old) (h : HasOnly old i high k only)
+module _ {family : Family} (old mid new : Slab PrefixNode) (i k : ℕ) (high : Bool) (only : Option ℕ) (t : IsTrie family old) (h : HasOnly old i high k only)
     (linked : Updates old mid i (Some (with_child h.parent high only))) where
   apart_keys : i ≢ k
   apart_keys same =
@@ -159,20 +170,25 @@ module _ (old mid new : Slab PrefixNode) (i k : ℕ) (high : Bool) (only : Optio
     pub splice_others : StillThere old new k
     splice_others l n differs is = let (m, is', same, _) = spliced_kept l n differs is in (m, is', same)
 
-    not_root : (n : PrefixNode) → get old 0 ≡ Some n → n.prefix ≡ world → 0 ≢ k
+    not_root : (n : PrefixNode) → get old 0 ≡ Some n → n.prefix ≡ world family → 0 ≢ k
     not_root n is prefix_is same =
         let nodes : n ≡ h.node = same_Some n h.node (sym is ∙ ap (get old) same ∙ h.is) in
         omega (arith, link_longer (get old) t.tree i k h.parent h.node high h.there h.is h.link, ap (λ x. x.prefix.len) nodes, ap (λ p. p.len) prefix_is)
 
-    pub spliced_root : HasRoot (get new)
+    pub spliced_root : HasRoot family (get new)
     spliced_root =
         let (root, is, prefix_is) = t.rooted i h.parent h.there in
         let (m, is', same) = splice_others 0 root (not_root root is prefix_is) is in
         (m, is', same ∙ prefix_is)
 
-    pub spliced_trie : IsTrie new
-    spliced_trie = IsTrie-rooted new spliced' spliced_root
-        (balanced_spliced old mid new i k high h.parent h.node only (root_there (get old) (t.rooted i h.parent h.there)) t.balanced h.there still_before h.link h.counted linked removed)
+    spliced_family : (l : ℕ) (m : PrefixNode) → get new l ≡ Some m → family_of m.prefix.addr ≡ family
+    spliced_family l m is =
+        let (_, n, is', prefix, _) = spliced_from (get old) (get new) i k h.parent (with_child h.parent high only) h.node high t.tree spliced l m is in
+        ap (λ q. family_of q.addr) prefix ∙ t.of_family l n is'
+
+    pub spliced_trie : IsTrie family new
+    spliced_trie = IsTrie-rooted new spliced' spliced_root spliced_family
+        (balanced_spliced old mid new i k high h.parent h.node only (root_there family (get old) (t.rooted i h.parent h.there)) t.balanced h.there still_before h.link h.counted linked removed)
 
     pub spliced_tight : IsTightBut (get old) k → IsTightBut (get new) (loosened only i)
     spliced_tight tight = tight_spliced (get old) (get new) i k h.parent (with_child h.parent high only) h.node high spliced tight only (with_child-this h.parent high only)
@@ -193,7 +209,7 @@ module _ (old mid new : Slab PrefixNode) (i k : ℕ) (high : Bool) (only : Optio
         record { key = g.key; node = n; there = is; prefix = sym prefix ∙ g.prefix; number = sym number ∙ g.number })
 
 -- ---- a number that is set
-module _ (old new : Slab PrefixNode) (i : ℕ) (n : PrefixNode) (number : Option ℕ) (t : IsTrie old) (is : get old i ≡ Some n) (u : Updates old new i (Some (record n { number = number }))) where
+module _ {family : Family} (old new : Slab PrefixNode) (i : ℕ) (n : PrefixNode) (number : Option ℕ) (t : IsTrie family old) (is : get old i ≡ Some n) (u : Updates old new i (Some (record n { number = number }))) where
   -- the old node has the same prefix and the same links
   record Old (k : ℕ) (m : PrefixNode) : Type 0 where
     node : PrefixNode
@@ -243,9 +259,10 @@ module _ (old new : Slab PrefixNode) (i : ℕ) (n : PrefixNode) (number : Option
             tree.apart k l o.node p.node o.there p.there (sym o.prefix ∙ same ∙ p.prefix);
       }
 
-  pub numbered_trie : IsTrie new
-  numbered_trie = IsTrie-rooted new numbered_tree (HasRoot-kept (get old) (get new) (t.rooted i n is) (λ m is'. new_of 0 m is'))
-      (balanced_numbered old new i n number (root_there (get old) (t.rooted i n is)) t.balanced is u)
+  pub numbered_trie : IsTrie family new
+  numbered_trie = IsTrie-rooted new numbered_tree (HasRoot-kept family (get old) (get new) (t.rooted i n is) (λ m is'. new_of 0 m is'))
+      (λ k m is'. let o = old_of k m is' in ap (λ q. family_of q.addr) o.prefix ∙ t.of_family k o.node o.there)
+      (balanced_numbered old new i n number (root_there family (get old) (t.rooted i n is)) t.balanced is u)
 
   pub numbered_numbers : Numbers old new n.prefix number
   numbered_numbers = numbers_at old new n.prefix number (number_of-node new numbered_tree i (record n { number = number }) u.changed) (λ q differs.

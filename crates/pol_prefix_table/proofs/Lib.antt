@@ -8,6 +8,7 @@ pub mod Edits
 pub mod Places
 pub mod Taking
 pub mod Maps
+pub mod Joined
 pub mod Scan
 pub mod Reached
 pub mod StartLists

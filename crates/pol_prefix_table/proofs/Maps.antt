@@ -6,8 +6,12 @@ use Rattle.std.specs.FinMap as map
 use Rattle.slab.specs.Slab.{Slab, get}
 use Rattle.pol_addr.specs.declared.address.Addr.{Addr}
 use Rattle.pol_addr.specs.declared.network.Prefix.{Prefix}
+use Rattle.pol_addr.specs.declared.family.Family.{Family}
+use Rattle.pol_addr.specs.Families.{width}
+use Rattle.pol_addr.specs.Address.{width_of}
 use Rattle.pol_addr.specs.Prefix.{host_prefix, contains, covers}
-use Rattle.pol_addr.proofs.Containment.{contains-covers}
+use Rattle.pol_addr.proofs.Containment.{contains-covers, contains-family}
+use Rattle.pol_addr.proofs.Halves.{covers_len}
 use Rattle.pol_prefix_table.specs.declared.node.PrefixNode.{PrefixNode}
 use Rattle.pol_addr.specs.Order.{prefix_cmp}
 use Rattle.pol_prefix_table.specs.Sizes.{IsTight}
@@ -32,8 +36,8 @@ map_of-remove old new p numbers =
     ∙ sym (map.get-remove prefix_cmp_total (map_of old) p q ∙ ap (cond (eq_by_cmp prefix_cmp q p) None) (get-map_of old q)))
 
 -- more room changes nothing
-pub IsTrie-room : (s new : Slab PrefixNode) → new ≡ record s { capacity = new.capacity } → IsTrie s → IsTrie new
-IsTrie-room s new same t = subst IsTrie (sym same) (record { fresh = t.fresh; rooted = t.rooted; tree = t.tree; balanced = t.balanced })
+pub IsTrie-room : {family : Family} (s new : Slab PrefixNode) → new ≡ record s { capacity = new.capacity } → IsTrie family s → IsTrie family new
+IsTrie-room {family = family} s new same t = subst (IsTrie family) (sym same) (record { fresh = t.fresh; rooted = t.rooted; of_family = t.of_family; tree = t.tree; balanced = t.balanced })
 
 pub tight_room : (s new : Slab PrefixNode) → new ≡ record s { capacity = new.capacity } → IsTight s → IsTight new
 tight_room s new same tight i n root other is = tight i n root other (sym (ap (λ x. get x i) same) ∙ is)
@@ -55,31 +59,31 @@ node_found s t p some = go (number_of s p) refl (ap is_some (sym (get-map_of s p
 
 module _ (s : Slab PrefixNode) (t : IsTree (get s)) (addr : Addr) where
   -- a node whose prefix contains the address covers it as a prefix
-  over_address : (p : Prefix) (x : ℕ) (h : HasNumber s p x) → IsTrue (contains p addr) → covers h.node.prefix (host_prefix addr) ≡ true
-  over_address p x h inside =
+  len_at_most : (p : Prefix) (x : ℕ) (h : HasNumber s p x) → IsTrue (contains p addr) → h.node.prefix.len ≤ width_of addr
+  len_at_most p x h inside =
       let valid = t.valid h.key h.node h.there in
-      sym (contains-covers h.node.prefix addr valid.len_in_range) ∙ ap (λ q. contains q addr) h.prefix ∙ inside
+      let same = ap width (contains-family h.node.prefix addr (ap (λ q. contains q addr) h.prefix ∙ inside)) in
+      omega (arith, valid.len_in_range, same)
 
-  len_at_most : (p : Prefix) (x : ℕ) (h : HasNumber s p x) → h.node.prefix.len ≤ 32
-  len_at_most p x h = let valid = t.valid h.key h.node h.there in valid.len_in_range
+  over_address : (p : Prefix) (x : ℕ) (h : HasNumber s p x) → IsTrue (contains p addr) → covers h.node.prefix (host_prefix addr) ≡ true
+  over_address p x h inside = sym (contains-covers h.node.prefix addr (len_at_most p x h inside)) ∙ ap (λ q. contains q addr) h.prefix ∙ inside
 
   pub longest_match : (x : ℕ) → IsNumberOver s (host_prefix addr) x → IsLongestMatch (map_of s) addr x
   longest_match x h =
-      let valid = t.valid h.key h.node h.there in
       record {
         prefix = h.node.prefix;
         found = get-map_of s h.node.prefix ∙ number_of-node s t h.key h.node h.there ∙ h.numbered;
-        inside = contains-covers h.node.prefix addr valid.len_in_range ∙ h.over;
+        inside = contains-covers h.node.prefix addr (covers_len h.node.prefix (host_prefix addr) h.over) ∙ h.over;
         longest = λ p matches.
             let (y, g) = node_found s t p matches.0 in
-            let shorter = h.longest g.key g.node g.there (over_address p y g matches.1) (len_at_most p y g) (ap is_some g.number) in
+            let shorter = h.longest g.key g.node g.there (over_address p y g matches.1) (len_at_most p y g matches.1) (ap is_some g.number) in
             omega (arith, shorter, ap (λ q. q.len) g.prefix);
       }
 
   pub none_matches : NoNumberOver s (host_prefix addr) → NoneMatches (map_of s) addr
   none_matches none p matches =
       let (y, g) = node_found s t p matches.0 in
-      none-some y (sym (none g.key g.node g.there (over_address p y g matches.1) (len_at_most p y g)) ∙ g.number)
+      none-some y (sym (none g.key g.node g.there (over_address p y g matches.1) (len_at_most p y g matches.1)) ∙ g.number)
 
   pub found_by : (r : Option ℕ) → IfSome r (IsNumberOver s (host_prefix addr)) → IfSome r (IsLongestMatch (map_of s) addr)
   found_by None h = h

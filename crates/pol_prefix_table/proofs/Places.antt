@@ -5,7 +5,10 @@ use Rattle.std.proofs.lemmas.Bool.{cases_eq}
 use Rattle.slab.specs.Slab.{Slab, get, Updates}
 use Rattle.pol_addr.specs.declared.network.Prefix.{Prefix}
 use Rattle.pol_addr.specs.Cidr.{IsPrefix}
+use Rattle.pol_addr.specs.declared.family.Family.{Family}
+use Rattle.pol_addr.specs.Address.{family_of}
 use Rattle.pol_addr.specs.Prefix.{world, bit_of, half, covers}
+use Rattle.pol_addr.proofs.ByFamily.{family_of-addr_in}
 use Rattle.pol_addr.proofs.World.{world-IsPrefix, strictly}
 use Rattle.pol_addr.proofs.Containment.{covers_refl, covers_half, covers_from_covered, same_from_covered}
 use Rattle.pol_prefix_table.specs.declared.node.PrefixNode.{PrefixNode}
@@ -40,8 +43,8 @@ spot_at s p i n b len valid d is len_is bit =
     }
 
 -- ---- the first node
-module _ (old new : Slab PrefixNode) (key : ℕ) (root : PrefixNode) (none : (i : ℕ) (n : PrefixNode) → get old i ≡ Some n → ⊥) (u : Updates old new key (Some root))
-    (prefix_is : root.prefix ≡ world) (no_number : root.number ≡ None) (no_low : root.low ≡ 0) (no_high : root.high ≡ 0) where
+module _ (family : Family) (old new : Slab PrefixNode) (key : ℕ) (root : PrefixNode) (none : (i : ℕ) (n : PrefixNode) → get old i ≡ Some n → ⊥) (u : Updates old new key (Some root))
+    (prefix_is : root.prefix ≡ world family) (no_number : root.number ≡ None) (no_low : root.low ≡ 0) (no_high : root.high ≡ 0) where
   only_root : (i : ℕ) (n : PrefixNode) → get new i ≡ Some n → (i ≡ key) × (n ≡ root)
   only_root i n is =
       elim (cases_eq i key) [
@@ -54,7 +57,7 @@ module _ (old new : Slab PrefixNode) (key : ℕ) (root : PrefixNode) (none : (i 
   no_child false = ap key_of no_low
 
   root_valid : IsPrefix root.prefix
-  root_valid = subst IsPrefix (sym prefix_is) world-IsPrefix
+  root_valid = subst IsPrefix (sym prefix_is) (world-IsPrefix family)
 
   root_tree : IsTree (get new)
   root_tree = record {
@@ -75,12 +78,13 @@ module _ (old new : Slab PrefixNode) (key : ℕ) (root : PrefixNode) (none : (i 
   first_sum : (f : PrefixNode → ℕ) → sum_of f new.slots + 0 ≡ 0 + f root
   first_sum f = sum_updated f old new key None (Some root) (none_before key) u ∙ ap (λ x. x + f root) (sum_none f old.slots none_before)
 
-  pub root_trie : key ≡ 0 → IsTrie new
+  pub root_trie : key ≡ 0 → IsTrie family new
   root_trie first =
       let there : get new 0 ≡ Some root = ap (get new) (sym first) ∙ u.changed in
       record {
         fresh = λ missing. absurd (none-some root (sym missing ∙ there));
         rooted = λ i n is. (root, there, prefix_is);
+        of_family = λ i n is. ap (λ x. family_of x.prefix.addr) (only_root i n is).1 ∙ ap (λ q. family_of q.addr) prefix_is ∙ family_of-addr_in family 0;
         tree = root_tree;
         balanced = λ _. omega (arith, first_sum links, first_sum one, ap (λ x. count (key_of x)) no_low, ap (λ x. count (key_of x)) no_high);
       }
@@ -88,7 +92,7 @@ module _ (old new : Slab PrefixNode) (key : ℕ) (root : PrefixNode) (none : (i 
   pub root_tight : IsTightBut (get new) key
   root_tight i n _ other is = absurd (other (only_root i n is).0)
 
-  pub root_numbers : IsTrie old → SameNumbers old new
+  pub root_numbers : IsTrie family old → SameNumbers old new
   root_numbers t q = same_number old new t.tree root_tree q
       (λ x h. absurd (none h.key h.node h.there))
       (λ x h. absurd (none-some x (sym no_number ∙ ap (λ y. y.number) (sym (only_root h.key h.node h.there).1) ∙ h.number)))
@@ -151,7 +155,7 @@ fits_over s i high n p number b k m is valid under link is_m over =
     }
 
 -- without a root there is no node
-pub no_nodes : (s : Slab PrefixNode) → IsTrie s → get s 0 ≡ None → (i : ℕ) (n : PrefixNode) → get s i ≡ Some n → ⊥
+pub no_nodes : {family : Family} (s : Slab PrefixNode) → IsTrie family s → get s 0 ≡ None → (i : ℕ) (n : PrefixNode) → get s i ≡ Some n → ⊥
 no_nodes s t missing i n is = let (root, there, _) = t.rooted i n is in none-some root (sym missing ∙ there)
 
 -- ---- a prefix beside the node that stands in its spot

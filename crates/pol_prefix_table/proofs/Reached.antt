@@ -4,6 +4,8 @@ use Rattle.std.proofs.lemmas.Option.{none-some}
 use Rattle.slab.specs.Slab.{Slab, get}
 use Rattle.pol_addr.specs.Cidr.{IsPrefix}
 use Rattle.pol_addr.specs.declared.network.Prefix.{Prefix}
+use Rattle.pol_addr.specs.declared.family.Family.{Family}
+use Rattle.pol_addr.specs.Address.{family_of}
 use Rattle.pol_addr.specs.Prefix.{covers}
 use Rattle.pol_addr.proofs.Containment.{covers_trans, covers_from_covered}
 use Rattle.pol_addr.proofs.Halves.{covers_len}
@@ -89,12 +91,12 @@ reached_further s r to h further =
     }
 
 -- ---- at the root, and at the end
-pub reached_root : (s : Slab PrefixNode) → IsTree (get s) → (to : Prefix) (root : PrefixNode) → HasRoot (get s) → IsPrefix to → get s 0 ≡ Some root → HasReached s (record { to = to; at = 0; number = root.number; visits = 1 })
-reached_root s t to root has valid is =
-    let h = root_stands s to (to.len + 1) has valid (omega arith) in
+pub reached_root : {family : Family} (s : Slab PrefixNode) → IsTree (get s) → (to : Prefix) (root : PrefixNode) → HasRoot family (get s) → IsPrefix to → family_of to.addr ≡ family → get s 0 ≡ Some root → HasReached s (record { to = to; at = 0; number = root.number; visits = 1 })
+reached_root s t to root has valid same is =
+    let h = root_stands s to (to.len + 1) has valid same (omega arith) in
     record {
       stands = h;
-      best = best_start s t to (to.len + 1) root is h (world_root s root has is);
+      best = best_start s t to _ (to.len + 1) root is h (world_root _ s root has is);
       few = omega arith;
     }
 

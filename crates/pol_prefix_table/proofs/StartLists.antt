@@ -3,6 +3,7 @@ use Rattle.std.proofs.Common.{◌≡◌, ◌≢◌, ℕ, zero, suc, ◌+◌, ◌
 use Rattle.std.proofs.lemmas.Option.{none-some, same_Some}
 use Rattle.std.proofs.lemmas.Bool.{both_ways, false_from_ne_true}
 use Rattle.slab.specs.Slab.{Slab, get}
+use Rattle.pol_addr.specs.declared.family.Family.{Family}
 use Rattle.pol_addr.specs.declared.network.Prefix.{Prefix}
 use Rattle.pol_addr.specs.Prefix.{covers}
 use Rattle.pol_addr.proofs.Containment.{covers_trans}
@@ -92,5 +93,5 @@ too_long s over xs long are i r is =
     (outside (false_from_ne_true _ (λ covered. omega (arith, covers_len over r.to covered, few, long))), few)
 
 -- ---- more room for nodes changes nothing
-pub starts_room : (s new : Slab PrefixNode) → new ≡ record s { capacity = new.capacity } → IsTrie s → IsTrie new → (xs : List Reached) → AreStarts s xs → AreStarts new xs
+pub starts_room : {family : Family} (s new : Slab PrefixNode) → new ≡ record s { capacity = new.capacity } → IsTrie family s → IsTrie family new → (xs : List Reached) → AreStarts s xs → AreStarts new xs
 starts_room s new same t t' = starts_kept s new t.tree t'.tree (λ j n is. (n, ap (λ x. get x j) same ∙ is, refl)) (numbers_room s new same)

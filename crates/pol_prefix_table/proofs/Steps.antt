@@ -5,6 +5,8 @@ use Rattle.std.proofs.lemmas.Option.{none-some, same_Some}
 use Rattle.slab.specs.Slab.{Slab, get}
 use Rattle.pol_addr.specs.declared.network.Prefix.{Prefix}
 use Rattle.pol_addr.specs.Cidr.{IsPrefix}
+use Rattle.pol_addr.specs.declared.family.Family.{Family}
+use Rattle.pol_addr.specs.Address.{family_of}
 use Rattle.pol_addr.specs.Prefix.{bit_of, half, covers, world}
 use Rattle.pol_addr.proofs.Containment.{covers_trans, covers_half, covers_from_half, covers_from_covered}
 use Rattle.pol_addr.proofs.World.{covers-world}
@@ -89,14 +91,14 @@ module _ (s : Slab PrefixNode) (t : IsTree (get s)) (target : Prefix) (valid : I
       let node : c' ≡ c = same_Some c' c (sym is_c' ∙ ap (get s) key ∙ is_c) in
       omega (arith, covers_len c'.prefix m.prefix over', ap (λ x. x.prefix.len) node, len_at-node s k c is_c)
 
--- the root covers every prefix
-pub root_stands : (s : Slab PrefixNode) (target : Prefix) (limit : ℕ) → HasRoot (get s) → IsPrefix target → 0 < limit → StandsOver s target limit 0
-root_stands s target limit (root, is, prefix_is) valid some = record {
+-- the root covers every prefix of the family
+pub root_stands : {family : Family} (s : Slab PrefixNode) (target : Prefix) (limit : ℕ) → HasRoot family (get s) → IsPrefix target → family_of target.addr ≡ family → 0 < limit → StandsOver s target limit 0
+root_stands s target limit (root, is, prefix_is) valid same some = record {
   node = root;
   there = is;
-  over = ap (λ p. covers p target) prefix_is ∙ covers-world target valid;
+  over = ap (λ p. covers p target) (prefix_is ∙ ap world (sym same)) ∙ covers-world target valid;
   short = omega (arith, ap (λ p. p.len) prefix_is);
 }
 
-pub world_root : (s : Slab PrefixNode) (n : PrefixNode) → HasRoot (get s) → get s 0 ≡ Some n → n.prefix ≡ world
-world_root s n (root, is, prefix_is) is_n = ap (λ x. x.prefix) (same_Some n root (sym is_n ∙ is)) ∙ prefix_is
+pub world_root : (family : Family) (s : Slab PrefixNode) (n : PrefixNode) → HasRoot family (get s) → get s 0 ≡ Some n → n.prefix ≡ world family
+world_root family s n (root, is, prefix_is) is_n = ap (λ x. x.prefix) (same_Some n root (sym is_n ∙ is)) ∙ prefix_is

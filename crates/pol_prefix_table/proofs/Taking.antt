@@ -6,7 +6,9 @@ use Rattle.std.specs.Option.{option_or}
 use Rattle.slab.specs.Slab.{Slab, get}
 use Rattle.pol_addr.specs.declared.network.Prefix.{Prefix}
 use Rattle.pol_addr.specs.Cidr.{IsPrefix}
-use Rattle.pol_addr.specs.Prefix.{half, covers}
+use Rattle.pol_addr.specs.declared.family.Family.{Family}
+use Rattle.pol_addr.specs.Address.{family_of}
+use Rattle.pol_addr.specs.Prefix.{half, covers, world}
 use Rattle.pol_addr.proofs.Containment.{covers_from_half, covers_refl, same_from_covered}
 use Rattle.pol_prefix_table.specs.declared.node.PrefixNode.{PrefixNode}
 use Rattle.pol_prefix_table.specs.Trie.{child, IsTree, IsTrie, IsSpot, IsNodeOf, HasOnly, Numbers, StillThere, StillThereOutside, number_of}
@@ -24,11 +26,11 @@ some_from_test None some = absurd (cc)
 some_from_test (Some n) some = (n, refl)
 
 -- the root has the prefix of length 0
-pub root_node : (s : Slab PrefixNode) (t : IsTrie s) (p : Prefix) → IsSome (get s 0) → IsPrefix p → p.len ≡ 0 → IsNodeOf s p 0
-root_node s t p some valid zero =
+pub root_node : {family : Family} (s : Slab PrefixNode) (t : IsTrie family s) (p : Prefix) → IsSome (get s 0) → IsPrefix p → family_of p.addr ≡ family → p.len ≡ 0 → IsNodeOf s p 0
+root_node s t p some valid same zero =
     let (n, is) = some_from_test (get s 0) some in
     let (root, there, prefix_is) = t.rooted 0 n is in
-    record { node = root; there = there; prefix = prefix_is ∙ sym (world_from_len p valid zero) }
+    record { node = root; there = there; prefix = prefix_is ∙ ap world (sym same) ∙ sym (world_from_len p valid zero) }
 
 -- the node of a prefix stands in the prefix's spot
 pub in_spot : (s : Slab PrefixNode) (t : IsTree (get s)) (p : Prefix) (i : ℕ) (high : Bool) (spot : IsSpot s p i high) (j : ℕ) (n : PrefixNode) → get s j ≡ Some n → n.prefix ≡ p → child spot.parent high ≡ Some j
@@ -56,13 +58,13 @@ spot_apart s t n i j high spot is same =
     omega (arith, spot_shorter s t n.prefix i high spot, ap (λ x. x.prefix.len) nodes)
 
 -- only the root has the prefix of length 0
-pub root_key : (s : Slab PrefixNode) → IsTrie s → (i : ℕ) (n : PrefixNode) → get s i ≡ Some n → n.prefix.len ≡ 0 → i ≡ 0
+pub root_key : {family : Family} (s : Slab PrefixNode) → IsTrie family s → (i : ℕ) (n : PrefixNode) → get s i ≡ Some n → n.prefix.len ≡ 0 → i ≡ 0
 root_key s t i n is zero =
     let (root, there, prefix_is) = t.rooted i n is in
     let tree = t.tree in
-    tree.apart i 0 n root is there (world_from_len n.prefix (tree.valid i n is) zero ∙ sym prefix_is)
+    tree.apart i 0 n root is there (world_from_len n.prefix (tree.valid i n is) zero ∙ ap world (t.of_family i n is) ∙ sym prefix_is)
 
-pub below_root : (s : Slab PrefixNode) → IsTrie s → (i : ℕ) (n : PrefixNode) → get s i ≡ Some n → i ≢ 0 → 0 < n.prefix.len
+pub below_root : {family : Family} (s : Slab PrefixNode) → IsTrie family s → (i : ℕ) (n : PrefixNode) → get s i ≡ Some n → i ≢ 0 → 0 < n.prefix.len
 below_root s t i n is other =
     elim (cases_lt 0 n.prefix.len) [
       | inl longer ↦ longer

@@ -6,6 +6,8 @@ use Rattle.std.specs.FinMap as map
 use Rattle.slab.specs.Slab.{Slab, get}
 use Rattle.pol_addr.specs.Cidr.{IsPrefix}
 use Rattle.pol_addr.specs.declared.network.Prefix.{Prefix}
+use Rattle.pol_addr.specs.declared.family.Family.{Family}
+use Rattle.pol_addr.specs.Address.{family_of}
 use Rattle.pol_addr.specs.Prefix.{world, bit_of, half, covers}
 use Rattle.pol_prefix_table.specs.declared.node.PrefixNode.{PrefixNode}
 use Rattle.pol_addr.specs.Order.{prefix_cmp}
@@ -24,14 +26,15 @@ pub record IsTree (at : ℕ → Option PrefixNode) : Type 0 where
   pub reached : (i j : ℕ) (n m : PrefixNode) (high : Bool) → at i ≡ Some n → at j ≡ Some m → covers (half n.prefix high) m.prefix ≡ true → (k : ℕ) × (c : PrefixNode) × (child n high ≡ Some k) × (at k ≡ Some c) × (covers c.prefix m.prefix ≡ true)
   pub apart : (i j : ℕ) (n m : PrefixNode) → at i ≡ Some n → at j ≡ Some m → n.prefix ≡ m.prefix → i ≡ j
 
--- the root is the node of 0.0.0.0/0, under the key 0
-abbrev pub HasRoot : (ℕ → Option PrefixNode) → Type 0
-HasRoot at = (root : PrefixNode) × (at 0 ≡ Some root) × (root.prefix ≡ world)
+-- the root is the node of the family's prefix of length 0, under the key 0
+abbrev pub HasRoot : Family → (ℕ → Option PrefixNode) → Type 0
+HasRoot family at = (root : PrefixNode) × (at 0 ≡ Some root) × (root.prefix ≡ world family)
 
--- The root is there as soon as any node is, and each other node stands right below one.
-pub record IsTrie (s : Slab PrefixNode) : Type 0 where
+-- A trie of one family. The root is there as soon as any node is, and each other node stands right below one.
+pub record IsTrie (family : Family) (s : Slab PrefixNode) : Type 0 where
   pub fresh : get s 0 ≡ None → s.vacant_key ≡ 0
-  pub rooted : (i : ℕ) (n : PrefixNode) → get s i ≡ Some n → HasRoot (get s)
+  pub rooted : (i : ℕ) (n : PrefixNode) → get s i ≡ Some n → HasRoot family (get s)
+  pub of_family : (i : ℕ) (n : PrefixNode) → get s i ≡ Some n → family_of n.prefix.addr ≡ family
   pub tree : IsTree (get s)
   pub balanced : IsBalanced s
 

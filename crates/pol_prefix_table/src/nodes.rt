@@ -1,24 +1,26 @@
 //! Nodes by key.
 ghost use Rattle.std.specs.Prelude.{◌≡◌, ◌+◌, ◌<◌, ◌≤◌, ◌↔◌, ◌^◌, ◌/◌, [], length, max, Some, None, IsTrue, IfOk, OnOk};
+ghost use Rattle.pol_addr.specs.Address.{family_of};
 ghost use Rattle.slab.specs.Slab.{get, ContainsKey, HasRoomFor, Updates, slab_len};
 
+use crate::bits::Bits;
 use crate::node::PrefixNode;
 use crate::slot::NodeSlot;
 use std::alloc::{AllocError as Memory, Global};
 use std::marker::Model;
 
-/// Nodes, each under a key, and freed keys are given out again. Contracts see it as the kit's slab, whose slots for nodes take 32
-/// bytes each.
+/// Nodes of one family, each under a key, and freed keys are given out again. Contracts see it as the kit's slab, whose slots
+/// for nodes would take more bytes.
 #[derive(Drop)]
-pub(crate) struct Nodes {
-    slots: Vec<NodeSlot>,
+pub(crate) struct Nodes<B: Bits> {
+    slots: Vec<NodeSlot<B>>,
     // How many slots have a node.
     len: usize,
     // The first of the free slots, or their end where there is none.
     next: usize,
 }
 
-impl Model for Nodes {
+impl<B: Bits> Model for Nodes<B> {
     ghost use Rattle.slab.specs.Slab.{Slab};
     ghost use Rattle.pol_prefix_table.specs.declared.node.PrefixNode.{PrefixNode};
 
@@ -27,14 +29,14 @@ impl Model for Nodes {
     ghost use Rattle.std.specs.Prelude.{vec_capacity};
     ghost use Rattle.pol_prefix_table.specs.Slots.{seen_as, AreSlots};
 
-    ghost view = { λ n. seen_as n.slots.items n.next (vec_capacity n.slots) };
+    ghost view = { λ n. seen_as B.seen n.slots.items n.next (vec_capacity n.slots) };
 
-    ghost invariant = { λ n. AreSlots n.slots.items n.len n.next };
+    ghost invariant = { λ n. AreSlots B.seen n.slots.items n.len n.next };
 }
 
-impl Nodes {
+impl<B: Bits> Nodes<B> {
     /// No nodes. It takes no memory yet.
-    pub(crate) fn new(alloc: Global) -> Nodes
+    pub(crate) fn new(alloc: Global) -> Nodes<B>
         ensures empty { result.slots ≡ [] }
         ensures first_key { result.vacant_key ≡ 0 }
     {
@@ -47,7 +49,8 @@ impl Nodes {
 
     /// How many nodes there are.
     pub(crate) fn len(&self) -> usize
-        ensures { result ≡ slab_len self.now }
+        ensures value { result ≡ slab_len self.now }
+        ensures small { result < 2 ^ 32 }
     {
         self.len
     }
@@ -72,7 +75,8 @@ impl Nodes {
     /// The node under this key.
     pub(crate) fn at(&self, key: usize) -> PrefixNode
         requires { ContainsKey self.now key }
-        ensures { get self.now key ≡ Some result }
+        ensures node { get self.now key ≡ Some result }
+        ensures family { family_of result.prefix.addr ≡ B.family }
     {
         self.slots[key].node()
     }
@@ -93,6 +97,7 @@ impl Nodes {
 
     /// Puts a node under the next key, and gives it.
     pub(crate) fn insert_reserved(&mut self, node: PrefixNode) -> usize
+        requires family { family_of node.prefix.addr ≡ B.family }
         requires room { HasRoomFor self.old 1 }
         requires small { self.old.capacity < 2 ^ 32 }
         ensures key { result ≡ self.old.vacant_key }
@@ -116,7 +121,8 @@ impl Nodes {
 
     /// Puts another node in the place of the one under this key.
     pub(crate) fn set(&mut self, key: usize, node: PrefixNode)
-        requires { ContainsKey self.old key }
+        requires there { ContainsKey self.old key }
+        requires family { family_of node.prefix.addr ≡ B.family }
         ensures updates { Updates self.old self.new key (Some node) }
         ensures len { slab_len self.new ≡ slab_len self.old }
         ensures vacant_key { self.new.vacant_key ≡ self.old.vacant_key }
@@ -136,7 +142,7 @@ impl Nodes {
     }
 
     /// The same nodes under the same keys once more. The one error is want of memory.
-    pub(crate) fn copy(&self, alloc: Global) -> Result<Nodes, Memory>
+    pub(crate) fn copy(&self, alloc: Global) -> Result<Nodes<B>, Memory>
         ensures { IfOk result (λ copy. copy ≡ record self.now { capacity = copy.capacity }) }
     {
         let mut slots = Vec::with_capacity(alloc, self.slots.len())?;

@@ -1,71 +1,77 @@
-//! What a key has: a node, or nothing, in 20 bytes.
+//! What a key has: a node, or nothing, in 20 bytes for IPv4 and 32 for IPv6.
 ghost use Rattle.std.specs.Prelude.{◌≡◌, ◌<◌, ◌^◌, None, IsSome, is_some};
 ghost use Rattle.slab.specs.declared.Entry.TheVariants.{Vacant, Occupied};
+ghost use Rattle.pol_addr.specs.Address.{family_of};
 ghost use Rattle.pol_addr.specs.Cidr.{IsPrefix};
 ghost use Rattle.pol_prefix_table.specs.Slots.{entry_of, node_in, IsValid};
 
+use crate::bits::Bits;
 use crate::node::PrefixNode;
-use pol_addr::{Addr, Prefix};
+use pol_addr::Prefix;
 use std::mem::size_of;
 
 /// A slot with a node, or a free one with the key of the next free one. The node stands here in parts, the small ones first, so
 /// that no byte but one is lost.
 #[derive(Clone, Copy, Debug)]
-pub(crate) enum NodeSlot {
+pub(crate) enum NodeSlot<B> {
     Free(u32),
     Taken {
         len: u8,
         numbered: bool,
-        bits: u32,
         low: u32,
         high: u32,
         /// The number, or 0 where there is none.
         number: u32,
+        bits: B,
     },
 }
 
-const _: () = prove!(size_of::<NodeSlot>() == 20);
+const _: () = prove!(size_of::<NodeSlot<u32>>() == 20);
 
-impl NodeSlot {
+const _: () = prove!(size_of::<NodeSlot<u128>>() == 32);
+
+impl<B: Bits> NodeSlot<B> {
     /// A free slot before this key in the list of free ones.
-    pub(crate) fn free(next: usize) -> NodeSlot
+    pub(crate) fn free(next: usize) -> NodeSlot<B>
         requires small { next < 2 ^ 32 }
-        ensures { entry_of result ≡ Vacant next }
+        ensures { entry_of B.seen result ≡ Vacant next }
     {
         NodeSlot::Free(next as u32)
     }
 
     /// The slot of this node.
-    pub(crate) fn of(node: PrefixNode) -> NodeSlot
-        ensures entry { entry_of result ≡ Occupied node }
+    pub(crate) fn of(node: PrefixNode) -> NodeSlot<B>
+        requires family { family_of node.prefix.addr ≡ B.family }
+        ensures entry { entry_of B.seen result ≡ Occupied node }
         ensures valid { IsPrefix node.prefix }
     {
         NodeSlot::Taken {
             len: node.prefix.len(),
             numbered: node.number.is_some(),
-            bits: node.prefix.network().bits(),
             low: node.low,
             high: node.high,
             number: node.number.unwrap_or(0),
+            bits: B::of(node.prefix.network()),
         }
     }
 
     /// The node that is here.
     pub(crate) fn node(&self) -> PrefixNode
-        requires there { IsSome (node_in self.now) }
-        requires valid { IsValid self.now }
-        ensures { entry_of self.now ≡ Occupied result }
+        requires there { IsSome (node_in B.seen self.now) }
+        requires valid { IsValid B.seen self.now }
+        ensures entry { entry_of B.seen self.now ≡ Occupied result }
+        ensures family { family_of result.prefix.addr ≡ B.family }
     {
         match *self {
             NodeSlot::Taken {
                 len,
                 numbered,
-                bits,
                 low,
                 high,
                 number,
+                bits,
             } => PrefixNode {
-                prefix: Prefix::new(Addr { bits }, len),
+                prefix: Prefix::new(bits.addr(), len),
                 number: if numbered { Some(number) } else { None },
                 low,
                 high,
@@ -76,8 +82,8 @@ impl NodeSlot {
 
     /// The key of the next free slot.
     pub(crate) fn next(&self) -> usize
-        requires free { node_in self.now ≡ None }
-        ensures { entry_of self.now ≡ Vacant result }
+        requires free { node_in B.seen self.now ≡ None }
+        ensures { entry_of B.seen self.now ≡ Vacant result }
     {
         match *self {
             NodeSlot::Free(next) => next as usize,
@@ -87,7 +93,7 @@ impl NodeSlot {
 
     /// Whether it has a node.
     pub(crate) fn is_taken(&self) -> bool
-        ensures { result ≡ is_some (node_in self.now) }
+        ensures { result ≡ is_some (node_in B.seen self.now) }
     {
         match self {
             NodeSlot::Free(_) => false,

@@ -1,13 +1,16 @@
 //! Where look-ups start: the longest node over each prefix of a few bits.
 ghost use Rattle.std.specs.Prelude.{◌≡◌, ◌≤◌, ◌<◌, IfSome, IfNone, IfOk, false};
 ghost use Rattle.slab.specs.Slab.{get};
+ghost use Rattle.pol_addr.specs.Address.{family_of};
 ghost use Rattle.pol_addr.specs.Prefix.{covers, host_prefix};
 ghost use Rattle.pol_prefix_table.specs.Trie.{IsTrie, HasRoot, IsNumberOver, NoNumberOver};
 ghost use Rattle.pol_prefix_table.specs.Starts.{HasReached, AreStarts, AreStartsOutside};
 
+use crate::bits::Bits;
 use crate::nodes::Nodes;
+use crate::start::Start;
 use crate::walk::{Reached, at_root, to_end};
-use pol_addr::{Addr, Prefix};
+use pol_addr::Prefix;
 use std::alloc::{AllocError as Memory, Global};
 
 /// The most bits that a prefix with a start has.
@@ -28,9 +31,10 @@ fn bits_for(nodes: usize) -> Option<u8>
 }
 
 /// The start of a prefix.
-fn start_over(nodes: &Nodes, over: Prefix) -> Reached
-    requires trie { IsTrie nodes.now }
-    requires rooted { HasRoot (get nodes.now) }
+fn start_over<B: Bits>(nodes: &Nodes<B>, over: Prefix) -> Reached
+    requires trie { IsTrie B.family nodes.now }
+    requires rooted { HasRoot B.family (get nodes.now) }
+    requires family { family_of over.addr ≡ B.family }
     ensures to { result.to ≡ over }
     ensures reached { HasReached nodes.now result }
 {
@@ -38,8 +42,8 @@ fn start_over(nodes: &Nodes, over: Prefix) -> Reached
 }
 
 /// Makes starts for more bits, where the table has outgrown those that it has.
-pub(crate) fn grow(nodes: &Nodes, starts: &mut Vec<Reached>) -> Result<(), Memory>
-    requires trie { IsTrie nodes.now }
+pub(crate) fn grow<B: Bits>(nodes: &Nodes<B>, starts: &mut Vec<Start<B>>) -> Result<(), Memory>
+    requires trie { IsTrie B.family nodes.now }
     requires starts { AreStarts nodes.now starts.old.items }
     ensures { AreStarts nodes.now starts.new.items }
 {
@@ -52,28 +56,37 @@ pub(crate) fn grow(nodes: &Nodes, starts: &mut Vec<Reached>) -> Result<(), Memor
     fill(nodes, starts, bits)
 }
 
+/// The prefix of this length that begins with the last bits of `place`.
+fn beginning<B: Bits>(place: u32, bits: u8) -> Prefix
+    requires some { 0 < bits }
+    requires few { bits ≤ START_BITS }
+    ensures len { result.len ≡ bits }
+    ensures family { family_of result.addr ≡ B.family }
+{
+    Prefix::new(B::beginning(place, bits), bits)
+}
+
 /// Makes the starts of all prefixes of this length.
-fn fill(nodes: &Nodes, starts: &mut Vec<Reached>, bits: u8) -> Result<(), Memory>
-    requires trie { IsTrie nodes.now }
-    requires rooted { HasRoot (get nodes.now) }
+fn fill<B: Bits>(nodes: &Nodes<B>, starts: &mut Vec<Start<B>>, bits: u8) -> Result<(), Memory>
+    requires trie { IsTrie B.family nodes.now }
+    requires rooted { HasRoot B.family (get nodes.now) }
     requires some { 0 < bits }
     requires few { bits ≤ START_BITS }
     ensures { AreStarts nodes.now starts.new.items }
 {
     starts.clear();
     for place in 0..1u32 << bits {
-        let addr = Addr {
-            bits: place << (32 - bits),
-        };
-        starts.push(start_over(nodes, Prefix::new(addr, bits)))?;
+        let start = start_over(nodes, beginning::<B>(place, bits));
+        starts.push(Start::of(start))?;
     }
     Ok(())
 }
 
 /// The start once more, where the prefix covers the start's.
-fn renewed(nodes: &Nodes, over: &Prefix, start: Reached) -> Reached
-    requires trie { IsTrie nodes.now }
-    requires rooted { HasRoot (get nodes.now) }
+fn renewed<B: Bits>(nodes: &Nodes<B>, over: &Prefix, start: Reached) -> Reached
+    requires trie { IsTrie B.family nodes.now }
+    requires rooted { HasRoot B.family (get nodes.now) }
+    requires family { family_of start.to.addr ≡ B.family }
     requires outside { covers over.now start.to ≡ false → HasReached nodes.now start }
     ensures to { result.to ≡ start.to }
     ensures reached { HasReached nodes.now result }
@@ -86,9 +99,9 @@ fn renewed(nodes: &Nodes, over: &Prefix, start: Reached) -> Reached
 }
 
 /// Makes the starts of all prefixes that this one covers once more.
-pub(crate) fn renew(nodes: &Nodes, starts: &mut Vec<Reached>, over: &Prefix)
-    requires trie { IsTrie nodes.now }
-    requires rooted { HasRoot (get nodes.now) }
+pub(crate) fn renew<B: Bits>(nodes: &Nodes<B>, starts: &mut Vec<Start<B>>, over: &Prefix)
+    requires trie { IsTrie B.family nodes.now }
+    requires rooted { HasRoot B.family (get nodes.now) }
     requires outside { AreStartsOutside nodes.now over.now starts.old.items }
     ensures { AreStarts nodes.now starts.new.items }
 {
@@ -96,55 +109,72 @@ pub(crate) fn renew(nodes: &Nodes, starts: &mut Vec<Reached>, over: &Prefix)
         return;
     }
     for i in 0..starts.len() {
-        starts[i] = renewed(nodes, over, starts[i]);
+        let start = renewed(nodes, over, starts[i].reached());
+        starts[i] = Start::of(start);
     }
 }
 
-/// Where the start of an address stands among so many.
-fn place_of(addr: Addr, starts: usize) -> usize {
-    ((starts as u64).wrapping_mul(u64::from(addr.bits())) >> 32) as usize
+/// Where the start of an address with these first 32 bits stands among so many.
+fn place_of(high: u32, starts: usize) -> usize {
+    ((starts as u64).wrapping_mul(u64::from(high)) >> 32) as usize
 }
 
-/// Where a walk to an address may begin: at its start, or else at the root.
-fn start_of(nodes: &Nodes, starts: &[Reached], addr: Addr) -> Reached
-    requires trie { IsTrie nodes.now }
-    requires rooted { HasRoot (get nodes.now) }
-    requires starts { AreStarts nodes.now starts.now }
-    ensures to { result.to ≡ host_prefix addr }
+/// Where a walk may begin: at a start whose prefix covers its own, or else at the root.
+fn from_start<B: Bits>(nodes: &Nodes<B>, start: Reached, to: Prefix) -> Reached
+    requires trie { IsTrie B.family nodes.now }
+    requires rooted { HasRoot B.family (get nodes.now) }
+    requires family { family_of to.addr ≡ B.family }
+    requires start { HasReached nodes.now start }
+    ensures to { result.to ≡ to }
     ensures reached { HasReached nodes.now result }
 {
-    let to = Prefix::host(addr);
-    match starts.get(place_of(addr, starts.len())) {
-        Some(start) if start.to.covers(&to) => Reached {
+    if start.to.covers(&to) {
+        Reached {
             to,
             at: start.at,
             number: start.number,
             visits: start.visits,
-        },
-        _ => at_root(nodes, to),
+        }
+    } else {
+        at_root(nodes, to)
+    }
+}
+
+/// Where a walk to an address may begin.
+fn start_of<B: Bits>(nodes: &Nodes<B>, starts: &[Start<B>], bits: B) -> Reached
+    requires trie { IsTrie B.family nodes.now }
+    requires rooted { HasRoot B.family (get nodes.now) }
+    requires starts { AreStarts nodes.now starts.now }
+    ensures to { result.to ≡ host_prefix (B.seen bits) }
+    ensures reached { HasReached nodes.now result }
+{
+    let to = Prefix::host(bits.addr());
+    match starts.get(place_of(bits.high(), starts.len())) {
+        Some(start) => from_start(nodes, start.reached(), to),
+        None => at_root(nodes, to),
     }
 }
 
 /// The number of the longest node that covers the address.
-pub(crate) fn longest_over(nodes: &Nodes, starts: &[Reached], addr: Addr) -> Option<u32>
-    requires trie { IsTrie nodes.now }
+pub(crate) fn longest_over<B: Bits>(nodes: &Nodes<B>, starts: &[Start<B>], bits: B) -> Option<u32>
+    requires trie { IsTrie B.family nodes.now }
     requires starts { AreStarts nodes.now starts.now }
-    ensures found { IfSome result (IsNumberOver nodes.now (host_prefix addr)) }
-    ensures none { IfNone result (NoNumberOver nodes.now (host_prefix addr)) }
+    ensures found { IfSome result (IsNumberOver nodes.now (host_prefix (B.seen bits))) }
+    ensures none { IfNone result (NoNumberOver nodes.now (host_prefix (B.seen bits))) }
 {
     if !nodes.contains(0) {
         return None;
     }
-    to_end(nodes, start_of(nodes, starts, addr)).number
+    to_end(nodes, start_of(nodes, starts, bits)).number
 }
 
 /// The starts once more. The one error is want of memory.
-pub(crate) fn copied(alloc: Global, starts: &[Reached]) -> Result<Vec<Reached>, Memory>
+pub(crate) fn copied<B: Bits>(alloc: Global, starts: &[Start<B>]) -> Result<Vec<Start<B>>, Memory>
     ensures { IfOk result (λ copy. copy.items ≡ starts.now) }
 {
     let mut copy = Vec::new(alloc);
     for start in starts {
-        copy.push(*start)?;
+        copy.push(Start::of(start.reached()))?;
     }
     Ok(copy)
 }

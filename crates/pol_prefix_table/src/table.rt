@@ -1,43 +1,32 @@
-//! The table: a trie seen as a finite map.
+//! The table: one trie for each family, seen as one finite map.
 ghost use Rattle.std.specs.Prelude.{◌≡◌, ◌+◌, ◌*◌, ◌≤◌, ◌↔◌, OnOk, OnErr, IfOk, IfSome, IsNone};
 ghost use Rattle.std.specs.FinMap as map;
 ghost use Rattle.pol_prefix_table.specs.Table.{IsLongestMatch, NoneMatches, look_up};
 
-use crate::nodes::Nodes;
-use crate::put::put;
-use crate::starts::{copied, grow, longest_over, renew};
-use crate::take::take;
-use crate::walk::Reached;
-use pol_addr::{Addr, Prefix};
+use crate::family_table::FamilyTable;
+use pol_addr::{Addr, Family, Prefix};
 use std::alloc::{AllocError as Memory, Global};
 use std::marker::Model;
 
-/// How many nodes there is room for, as a link to one has 32 bits.
-const MOST_NODES: usize = 4_294_967_295;
-
-/// A finite map from prefixes to numbers, in which an address is looked up by the longest prefix that contains it
-/// (longest-prefix match, RFC 4632, section 5.1).
+/// A finite map from prefixes of both families to numbers, in which an address is looked up by the longest prefix that contains
+/// it (longest-prefix match, RFC 4632, section 5.1).
 #[derive(Drop)]
 pub struct PrefixTable {
-    nodes: Nodes,
-    // In the order of their prefixes, which all have one length. None in a small table.
-    starts: Vec<Reached>,
+    v4: FamilyTable<u32>,
+    v6: FamilyTable<u128>,
 }
 
 impl Model for PrefixTable {
-    ghost use Rattle.pol_prefix_table.specs.Table.{PrefixMap, table_code};
+    ghost use Rattle.pol_addr.specs.declared.family.Family.TheVariants.{Ipv4, Ipv6};
+    ghost use Rattle.pol_prefix_table.specs.Table.{IsOf, PrefixMap, joined, table_code};
 
     ghost Value = { PrefixMap };
 
     ghost coded = { table_code };
 
-    ghost use Rattle.pol_prefix_table.specs.Trie.{map_of, IsTrie};
-    ghost use Rattle.pol_prefix_table.specs.Sizes.{IsTight};
-    ghost use Rattle.pol_prefix_table.specs.Starts.{AreStarts};
+    ghost view = { λ t. joined t.v4 t.v6 };
 
-    ghost view = { λ t. map_of t.nodes };
-
-    ghost invariant = { λ t. IsTrie t.nodes × AreStarts t.nodes t.starts.items × IsTight t.nodes };
+    ghost invariant = { λ t. IsOf Ipv4 t.v4 × IsOf Ipv6 t.v6 };
 }
 
 impl PrefixTable {
@@ -46,8 +35,8 @@ impl PrefixTable {
         ensures { result ≡ map.empty }
     {
         PrefixTable {
-            nodes: Nodes::new(alloc),
-            starts: Vec::new(alloc),
+            v4: FamilyTable::new(alloc),
+            v6: FamilyTable::new(alloc),
         }
     }
 
@@ -57,14 +46,10 @@ impl PrefixTable {
         ensures ok { OnOk result (self.new ≡ map.insert self.old prefix number) }
         ensures err { OnErr result (self.new ≡ self.old) }
     {
-        self.nodes.reserve(3)?;
-        if self.nodes.capacity() > MOST_NODES {
-            return Err(Memory);
+        match prefix.network().family() {
+            Family::Ipv4 => self.v4.insert(prefix, number),
+            Family::Ipv6 => self.v6.insert(prefix, number),
         }
-        grow(&self.nodes, &mut self.starts)?;
-        let over = put(&mut self.nodes, prefix, number);
-        renew(&self.nodes, &mut self.starts, &over);
-        Ok(())
     }
 
     /// Takes the prefix out and gives its number: None exactly where it is not there. It takes no memory.
@@ -72,9 +57,10 @@ impl PrefixTable {
         ensures value { result ≡ map.get self.old prefix }
         ensures rest { self.new ≡ map.remove self.old prefix }
     {
-        let (number, over) = take(&mut self.nodes, &prefix)?;
-        renew(&self.nodes, &mut self.starts, &over);
-        Some(number)
+        match prefix.network().family() {
+            Family::Ipv4 => self.v4.remove(prefix),
+            Family::Ipv6 => self.v6.remove(prefix),
+        }
     }
 
     /// The number of the longest prefix that contains the address: None exactly where none does. It takes no memory.
@@ -83,16 +69,19 @@ impl PrefixTable {
         ensures found { IfSome result (IsLongestMatch self.now addr) }
         ensures none { IsNone result ↔ NoneMatches self.now addr }
     {
-        longest_over(&self.nodes, self.starts.as_slice(), addr)
+        match addr {
+            Addr::V4(bits) => self.v4.find(bits),
+            Addr::V6(bits) => self.v6.find(bits),
+        }
     }
 
-    /// How many nodes it takes: each prefix has one, and there are at most twice as many and one more. So what `remove` leaves
-    /// empty is free again, and a copy takes no more.
+    /// How many nodes it takes: each prefix has one, and there are at most twice as many and one more for each family. So what
+    /// `remove` leaves empty is free again, and a copy takes no more.
     pub fn nodes(&self) -> usize
         ensures least { map.len self.now ≤ result }
-        ensures most { result ≤ 2 * map.len self.now + 1 }
+        ensures most { result ≤ 2 * map.len self.now + 2 }
     {
-        self.nodes.len()
+        self.v4.nodes() + self.v6.nodes()
     }
 
     /// The same table once more. The one error is want of memory.
@@ -100,8 +89,8 @@ impl PrefixTable {
         ensures { IfOk result (λ copy. copy ≡ self.now) }
     {
         Ok(PrefixTable {
-            nodes: self.nodes.copy(alloc)?,
-            starts: copied(alloc, self.starts.as_slice())?,
+            v4: self.v4.copy(alloc)?,
+            v6: self.v6.copy(alloc)?,
         })
     }
 }

@@ -1,10 +1,12 @@
 //! Walks from the root down to a prefix.
 ghost use Rattle.std.specs.Prelude.{◌≡◌, ◌+◌, ◌<◌, ◌≤◌, IfSome, IfNone, Some};
 ghost use Rattle.slab.specs.Slab.{get};
+ghost use Rattle.pol_addr.specs.Address.{family_of, width_of};
 ghost use Rattle.pol_addr.specs.Cidr.{IsPrefix};
 ghost use Rattle.pol_prefix_table.specs.Trie.{IsTrie, HasRoot, child_toward, StandsOver, IsDeepest, NoneBetween, IsSpot, len_at};
 ghost use Rattle.pol_prefix_table.specs.Starts.{HasReached};
 
+use crate::bits::Bits;
 use crate::node::PrefixNode;
 use crate::nodes::Nodes;
 use pol_addr::Prefix;
@@ -22,8 +24,13 @@ fn toward(node: &PrefixNode, target: &Prefix) -> Option<usize>
 }
 
 /// The next node on the way to the target that covers it and is shorter than the limit.
-pub(crate) fn step(nodes: &Nodes, at: usize, target: &Prefix, limit: u8) -> Option<usize>
-    requires trie { IsTrie nodes.now }
+pub(crate) fn step<B: Bits>(
+    nodes: &Nodes<B>,
+    at: usize,
+    target: &Prefix,
+    limit: u8,
+) -> Option<usize>
+    requires trie { IsTrie B.family nodes.now }
     requires stands { StandsOver nodes.now target.now limit at }
     ensures stands { IfSome result (StandsOver nodes.now target.now limit) }
     ensures deeper { IfSome result (λ next. len_at nodes.now at < len_at nodes.now next) }
@@ -40,9 +47,10 @@ pub(crate) fn step(nodes: &Nodes, at: usize, target: &Prefix, limit: u8) -> Opti
 }
 
 /// The key of the longest node that covers the target and is shorter.
-pub(crate) fn parent_of(nodes: &Nodes, target: &Prefix) -> usize
-    requires trie { IsTrie nodes.now }
-    requires rooted { HasRoot (get nodes.now) }
+pub(crate) fn parent_of<B: Bits>(nodes: &Nodes<B>, target: &Prefix) -> usize
+    requires trie { IsTrie B.family nodes.now }
+    requires rooted { HasRoot B.family (get nodes.now) }
+    requires family { family_of target.now.addr ≡ B.family }
     requires longer { 0 < target.now.len }
     ensures { IsDeepest nodes.now target.now target.now.len result }
 {
@@ -55,9 +63,10 @@ pub(crate) fn parent_of(nodes: &Nodes, target: &Prefix) -> usize
 }
 
 /// Where the prefix belongs: the key of the longest node that covers it and is shorter, and the side.
-pub(crate) fn spot_of(nodes: &Nodes, prefix: &Prefix) -> (usize, bool)
-    requires trie { IsTrie nodes.now }
-    requires rooted { HasRoot (get nodes.now) }
+pub(crate) fn spot_of<B: Bits>(nodes: &Nodes<B>, prefix: &Prefix) -> (usize, bool)
+    requires trie { IsTrie B.family nodes.now }
+    requires rooted { HasRoot B.family (get nodes.now) }
+    requires family { family_of prefix.now.addr ≡ B.family }
     requires longer { 0 < prefix.now.len }
     ensures spot { IsSpot nodes.now prefix.now result.0 result.1 }
     ensures valid { IsPrefix prefix.now }
@@ -78,9 +87,10 @@ pub(crate) struct Reached {
 }
 
 /// At the root.
-pub(crate) fn at_root(nodes: &Nodes, to: Prefix) -> Reached
-    requires trie { IsTrie nodes.now }
-    requires rooted { HasRoot (get nodes.now) }
+pub(crate) fn at_root<B: Bits>(nodes: &Nodes<B>, to: Prefix) -> Reached
+    requires trie { IsTrie B.family nodes.now }
+    requires rooted { HasRoot B.family (get nodes.now) }
+    requires family { family_of to.addr ≡ B.family }
     ensures to { result.to ≡ to }
     ensures reached { HasReached nodes.now result }
 {
@@ -93,14 +103,15 @@ pub(crate) fn at_root(nodes: &Nodes, to: Prefix) -> Reached
     }
 }
 
-/// On to the longest node that covers the prefix. The walk comes by at most one node of each length from 0 to 32.
-pub(crate) fn to_end(nodes: &Nodes, from: Reached) -> Reached
-    requires trie { IsTrie nodes.now }
+/// On to the longest node that covers the prefix. The walk comes by at most one node of each length: 33 of them, or 129 in the
+/// trie of IPv6.
+pub(crate) fn to_end<B: Bits>(nodes: &Nodes<B>, from: Reached) -> Reached
+    requires trie { IsTrie B.family nodes.now }
     requires reached { HasReached nodes.now from }
     ensures to { result.to ≡ from.to }
     ensures reached { HasReached nodes.now result }
     ensures deepest { IsDeepest nodes.now from.to (from.to.len + 1) result.at }
-    ensures visits { result.visits ≤ 33 }
+    ensures visits { result.visits ≤ width_of from.to.addr + 1 }
 {
     let to = from.to;
     let limit = to.len() + 1;

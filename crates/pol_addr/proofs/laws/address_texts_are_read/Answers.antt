@@ -1,4 +1,4 @@
-use Rattle.pol_addr.proofs.Texts.{read_addr_complete, read_addr_sound}
+use Rattle.pol_addr.proofs.HexTexts.{read_addr_complete, read_addr_sound}
 use Rattle.pol_addr.proofs.laws.address_texts_are_read.Goals as goal
 
 pub returns : goal.returns

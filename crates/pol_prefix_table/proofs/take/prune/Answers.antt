@@ -8,32 +8,32 @@ use Rattle.pol_prefix_table.proofs.Tight.{tight_all, loosened_if, alone_stays, n
 use Rattle.pol_prefix_table.proofs.take.prune.Goals as goal
 
 pub returns-then-is_needed-clause-tight : goal.returns-then-is_needed-clause-tight
-returns-then-is_needed-clause-tight c = tight_all (get c.args.nodes.now) c.args.at c.at-node.result c.requires.tight c.at-node.ensures (c.is_needed.ensures.0 c.if-is_needed.true)
+returns-then-is_needed-clause-tight g c = tight_all (get c.args.nodes.now) c.args.at c.at-node.result c.requires.tight c.at-node.ensures.node (c.is_needed.ensures.0 c.if-is_needed.true)
 
 pub returns-then-is_needed-clause-rooted : goal.returns-then-is_needed-clause-rooted
-returns-then-is_needed-clause-rooted c = c.requires.trie.rooted c.args.at c.at-node.result c.at-node.ensures
+returns-then-is_needed-clause-rooted g c = c.requires.trie.rooted c.args.at c.at-node.result c.at-node.ensures.node
 
 pub splice-requires-clause-only : goal.splice-requires-clause-only
-splice-requires-clause-only c =
+splice-requires-clause-only g c =
     let n = c.at-node.result in
     let free : 2 ≤ weight n → ⊥ = λ enough. both_ways _ c.if-is_needed.false (c.is_needed.ensures.1 enough) in
-    has_only c.args.nodes.now c.requires.trie.tree c.args.spot.0 c.args.at c.args.spot.1 n c.only-only.result (c.requires.spot n c.at-node.ensures) c.at-node.ensures c.only-only.ensures.key (not_both_below n free)
+    has_only c.args.nodes.now c.requires.trie.tree c.args.spot.0 c.args.at c.args.spot.1 n c.only-only.result (c.requires.spot n c.at-node.ensures.node) c.at-node.ensures.node c.only-only.ensures.key (not_both_below n free)
 
 pub splice-requires-clause-number : goal.splice-requires-clause-number
-splice-requires-clause-number c = λ m is.
+splice-requires-clause-number g c = λ m is.
     let n = c.at-node.result in
     let free : 2 ≤ weight n → ⊥ = λ enough. both_ways _ c.if-is_needed.false (c.is_needed.ensures.1 enough) in
-    ap (λ x. x.number) (same_Some m n (sym is ∙ c.at-node.ensures)) ∙ no_number n free
+    ap (λ x. x.number) (same_Some m n (sym is ∙ c.at-node.ensures.node)) ∙ no_number n free
 
 pub returns-clause-tight : goal.returns-clause-tight
-returns-clause-tight c = loosened_if (get c.splice.new.nodes) c.only-only.result c.is_none.result c.args.spot.0 c.is_none.ensures c.splice.ensures.tight
+returns-clause-tight g c = loosened_if (get c.splice.new.nodes) c.only-only.result c.is_none.result c.args.spot.0 c.is_none.ensures c.splice.ensures.tight
 
 pub returns-clause-left : goal.returns-clause-left
-returns-clause-left c = λ _ n is root. c.splice.ensures.left n root is
+returns-clause-left g c = λ _ n is root. c.splice.ensures.left n root is
 
 pub returns-clause-stays : goal.returns-clause-stays
-returns-clause-stays c = λ m is some.
+returns-clause-stays g c = λ m is some.
     let n = c.at-node.result in
     let free : 2 ≤ weight n → ⊥ = λ enough. both_ways _ c.if-is_needed.false (c.is_needed.ensures.1 enough) in
-    let some' = subst (λ x. 1 ≤ weight x) (same_Some m n (sym is ∙ c.at-node.ensures)) some in
+    let some' = subst (λ x. 1 ≤ weight x) (same_Some m n (sym is ∙ c.at-node.ensures.node)) some in
     alone_stays n c.only-only.result c.is_none.result c.only-only.ensures.key c.is_none.ensures (no_number n free) some'

@@ -6,31 +6,31 @@ use Rattle.pol_prefix_table.proofs.walk.step.Goals as goal
 use Rattle.pol_prefix_table.proofs.walk.step.Goals.{else-len-limit-via-then-len-limit+else-covers, else-len-limit-via-else-len-limit}
 
 pub returns-in_err-next-clause-deepest : goal.returns-in_err-next-clause-deepest
-returns-in_err-next-clause-deepest c =
-    let h = at_node c.args.nodes.now c.args.target.now c.args.limit c.args.at c.at.result c.requires.stands c.at.ensures in
+returns-in_err-next-clause-deepest g c =
+    let h = at_node c.args.nodes.now c.args.target.now c.args.limit c.args.at c.at.result c.requires.stands c.at.ensures.node in
     rw c.from_residual.ensures (deepest_at_end c.args.nodes.now c.requires.trie.tree c.args.target.now c.toward.ensures.valid c.args.limit c.args.at c.at.result h (sym c.in_err-next.ensures.next))
 
 pub at-node-requires : goal.at-node-requires
-at-node-requires c =
-    let (_, is_c, _, _) = child_there c.args.nodes.now c.requires.trie.tree c.args.target.now c.toward.ensures.valid c.args.at c.at.result c.in_ok-next.next c.at.ensures (sym c.in_ok-next.ensures.next) in
+at-node-requires g c =
+    let (_, is_c, _, _) = child_there c.args.nodes.now c.requires.trie.tree c.args.target.now c.toward.ensures.valid c.args.at c.at.result c.in_ok-next.next c.at.ensures.node (sym c.in_ok-next.ensures.next) in
     ap is_some is_c
 
 pub returns-then-covers-clause-deeper : goal.returns-then-covers-clause-deeper
-returns-then-covers-clause-deeper c =
-    let (n, is_c, _, longer) = child_there c.args.nodes.now c.requires.trie.tree c.args.target.now c.toward.ensures.valid c.args.at c.at.result c.in_ok-next.next c.at.ensures (sym c.in_ok-next.ensures.next) in
-    omega (arith, longer, len_at-node c.args.nodes.now c.args.at c.at.result c.at.ensures, len_at-node c.args.nodes.now c.in_ok-next.next n is_c)
+returns-then-covers-clause-deeper g c =
+    let (n, is_c, _, longer) = child_there c.args.nodes.now c.requires.trie.tree c.args.target.now c.toward.ensures.valid c.args.at c.at.result c.in_ok-next.next c.at.ensures.node (sym c.in_ok-next.ensures.next) in
+    omega (arith, longer, len_at-node c.args.nodes.now c.args.at c.at.result c.at.ensures.node, len_at-node c.args.nodes.now c.in_ok-next.next n is_c)
 
 pub returns-then-covers-clause-between : goal.returns-then-covers-clause-between
-returns-then-covers-clause-between c =
-    let h = at_node c.args.nodes.now c.args.target.now c.args.limit c.args.at c.at.result c.requires.stands c.at.ensures in
-    none_between c.args.nodes.now c.requires.trie.tree c.args.target.now c.toward.ensures.valid c.args.at c.at.result c.in_ok-next.next c.at-node.result c.at.ensures h.over (sym c.in_ok-next.ensures.next) c.at-node.ensures
+returns-then-covers-clause-between g c =
+    let h = at_node c.args.nodes.now c.args.target.now c.args.limit c.args.at c.at.result c.requires.stands c.at.ensures.node in
+    none_between c.args.nodes.now c.requires.trie.tree c.args.target.now c.toward.ensures.valid c.args.at c.at.result c.in_ok-next.next c.at-node.result c.at.ensures.node h.over (sym c.in_ok-next.ensures.next) c.at-node.ensures.node
 
 pub returns-else-len-limit-clause-deepest : goal.returns-else-len-limit-clause-deepest
-returns-else-len-limit-clause-deepest c =
-    let h = at_node c.args.nodes.now c.args.target.now c.args.limit c.args.at c.at.result c.requires.stands c.at.ensures in
+returns-else-len-limit-clause-deepest g c =
+    let h = at_node c.args.nodes.now c.args.target.now c.args.limit c.args.at c.at.result c.requires.stands c.at.ensures.node in
     let far : covers c.at-node.result.prefix c.args.target.now ≡ true → c.at-node.result.prefix.len < c.args.limit → ⊥ =
     elim c.else-len-limit.branch [
       | else-len-limit-via-then-len-limit+else-covers w ↦ λ over _. both_ways _ w.if-covers.false (w.covers.ensures.value ∙ over)
       | else-len-limit-via-else-len-limit w ↦ λ _ short. omega (arith, short, c.len.ensures.value, w.if-len-limit.false)
     ] in
-    deepest_before c.args.nodes.now c.requires.trie.tree c.args.target.now c.toward.ensures.valid c.args.limit c.args.at c.at.result h c.in_ok-next.next c.at-node.result (sym c.in_ok-next.ensures.next) c.at-node.ensures far
+    deepest_before c.args.nodes.now c.requires.trie.tree c.args.target.now c.toward.ensures.valid c.args.limit c.args.at c.at.result h c.in_ok-next.next c.at-node.result (sym c.in_ok-next.ensures.next) c.at-node.ensures.node far

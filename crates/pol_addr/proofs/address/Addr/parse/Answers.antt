@@ -1,16 +1,21 @@
-use Rattle.std.proofs.Common.{sym, ◌∙◌, ap, Some}
-use Rattle.pol_addr.proofs.Texts.{parsed_addr, none_writes, some_writes, addr_of_list}
+use Rattle.std.proofs.Common.{sym, ◌∙◌, ap}
+use Rattle.pol_addr.specs.Address.{or_else, read_addr, read_v6}
+use Rattle.pol_addr.proofs.HexTexts.{none_writes, some_writes}
 use Rattle.pol_addr.proofs.address.Addr.parse.Goals as goal
 
-pub returns-in_err-ok-clause-reads : goal.returns-in_err-ok-clause-reads
-returns-in_err-ok-clause-reads c = c.from_residual.ensures ∙ sym (parsed_addr c.args.text.now _ _ c.parse.ensures.value c.in_err-ok.ensures.value)
+pub returns-in-Some-clause-reads : goal.returns-in-Some-clause-reads
+unfolding read_addr
+returns-in-Some-clause-reads c = ap (λ o. or_else o (read_v6 c.args.text.now)) (sym c.in-Some.is ∙ c.parse_v4.ensures)
 
-pub returns-in_err-ok-clause-none : goal.returns-in_err-ok-clause-none
-returns-in_err-ok-clause-none c = none_writes c.args.text.now _ (returns-in_err-ok-clause-reads c)
+pub returns-in-Some-clause-written : goal.returns-in-Some-clause-written
+returns-in-Some-clause-written c = some_writes c.args.text.now _ (returns-in-Some-clause-reads c)
 
-pub returns-clause-reads : goal.returns-clause-reads
-returns-clause-reads c =
-    ap Some (c.from_octets.ensures ∙ ap addr_of_list c.octets.ensures) ∙ sym (parsed_addr c.args.text.now _ _ c.parse.ensures.value c.in_ok-ok.ensures.value)
+pub returns-in-None-clause-reads : goal.returns-in-None-clause-reads
+unfolding read_addr
+returns-in-None-clause-reads c = c.parse_v6.ensures ∙ ap (λ o. or_else o (read_v6 c.args.text.now)) (sym c.in-None.is ∙ c.parse_v4.ensures)
 
-pub returns-clause-written : goal.returns-clause-written
-returns-clause-written c = some_writes c.args.text.now _ (returns-clause-reads c)
+pub returns-in-None-clause-written : goal.returns-in-None-clause-written
+returns-in-None-clause-written c = some_writes c.args.text.now _ (returns-in-None-clause-reads c)
+
+pub returns-in-None-clause-none : goal.returns-in-None-clause-none
+returns-in-None-clause-none c = none_writes c.args.text.now _ (returns-in-None-clause-reads c)

@@ -1,46 +1,34 @@
-use Rattle.std.proofs.Common.{Some, ap, ◌∙◌}
+use Rattle.std.proofs.Common.{◌≡◌, sym, ap, ◌∙◌}
 use Rattle.std.specs.FinMap as map
-use Rattle.pol_prefix_table.proofs.Maps.{IsTrie-room, tight_room, numbers_room, numbers_after, map_of-insert}
-use Rattle.pol_prefix_table.proofs.StartLists.{starts_room, starts_outside, all_outside}
+use Rattle.pol_addr.specs.Address.{family_of}
+use Rattle.pol_addr.specs.declared.family.Family.TheVariants.{Ipv4, Ipv6}
+use Rattle.pol_prefix_table.specs.Table.{joined}
+use Rattle.pol_prefix_table.proofs.Joined.{IsOf-inserted, insert4, insert6, on_ok}
 use Rattle.pol_prefix_table.proofs.table.PrefixTable.insert.Goals as goal
 
 pub invariant_of-self : goal.invariant_of-self
 invariant_of-self c =
-    let trie = IsTrie-room c.self.inside.nodes c.reserve.new.self c.reserve.ensures.rest_kept c.self.invariant.0 in
-    (trie, starts_room c.self.inside.nodes c.reserve.new.self c.reserve.ensures.rest_kept c.self.invariant.0 trie c.self.inside.starts.items c.self.invariant.1, tight_room c.self.inside.nodes c.reserve.new.self c.reserve.ensures.rest_kept c.self.invariant.2)
+    let own = ap family_of (sym c.network.ensures.value) ∙ sym c.family.ensures.value ∙ c.in-Ipv4.is in
+    (IsOf-inserted Ipv4 c.self.inside.v4 c.insert.new.self c.args.prefix c.args.number c.insert.result c.insert.ensures.ok c.insert.ensures.err c.self.invariant.0 own, c.self.invariant.1)
 
-pub invariant_of-self-then-capacity-gt-MOST_NODES : goal.invariant_of-self-then-capacity-gt-MOST_NODES
-invariant_of-self-then-capacity-gt-MOST_NODES c =
-    let trie = IsTrie-room c.self.inside.nodes c.reserve.new.self c.reserve.ensures.rest_kept c.self.invariant.0 in
-    (trie, starts_room c.self.inside.nodes c.reserve.new.self c.reserve.ensures.rest_kept c.self.invariant.0 trie c.self.inside.starts.items c.self.invariant.1, tight_room c.self.inside.nodes c.reserve.new.self c.reserve.ensures.rest_kept c.self.invariant.2)
+pub invariant_of-self-in-Ipv6 : goal.invariant_of-self-in-Ipv6
+invariant_of-self-in-Ipv6 c =
+    let own = ap family_of (sym c.network.ensures.value) ∙ sym c.family.ensures.value ∙ c.in-Ipv6.is in
+    (c.self.invariant.0, IsOf-inserted Ipv6 c.self.inside.v6 c.insert-in-Ipv6.new.self c.args.prefix c.args.number c.insert-in-Ipv6.result c.insert-in-Ipv6.ensures.ok c.insert-in-Ipv6.ensures.err c.self.invariant.1 own)
 
-pub grow-requires-clause-trie : goal.grow-requires-clause-trie
-grow-requires-clause-trie c = IsTrie-room c.self.inside.nodes c.reserve.new.self c.reserve.ensures.rest_kept c.self.invariant.0
+pub returns-in-Ipv4-clause-ok : goal.returns-in-Ipv4-clause-ok
+returns-in-Ipv4-clause-ok c =
+    let v4 = c.self.inside.v4 in
+    let v6 = c.self.inside.v6 in
+    on_ok c.insert.result (c.insert.new.self ≡ map.insert v4 c.args.prefix c.args.number) (joined c.insert.new.self v6 ≡ map.insert c.args.self.now c.args.prefix c.args.number)
+    (λ is. ap (λ m. joined m v6) is ∙ insert4 v4 v6 c.self.invariant.0 c.self.invariant.1 c.args.prefix c.args.number ∙ ap (λ m. map.insert m c.args.prefix c.args.number) c.self.view_is)
+    c.insert.ensures.ok
 
-pub grow-requires-clause-starts : goal.grow-requires-clause-starts
-grow-requires-clause-starts c =
-    let trie = IsTrie-room c.self.inside.nodes c.reserve.new.self c.reserve.ensures.rest_kept c.self.invariant.0 in
-    starts_room c.self.inside.nodes c.reserve.new.self c.reserve.ensures.rest_kept c.self.invariant.0 trie c.self.inside.starts.items c.self.invariant.1
-
-pub invariant_of-self-in_err-grow : goal.invariant_of-self-in_err-grow
-invariant_of-self-in_err-grow c = (IsTrie-room c.self.inside.nodes c.reserve.new.self c.reserve.ensures.rest_kept c.self.invariant.0, c.grow.ensures, tight_room c.self.inside.nodes c.reserve.new.self c.reserve.ensures.rest_kept c.self.invariant.2)
-
-pub put-over-requires-clause-trie : goal.put-over-requires-clause-trie
-put-over-requires-clause-trie c = IsTrie-room c.self.inside.nodes c.reserve.new.self c.reserve.ensures.rest_kept c.self.invariant.0
-
-pub put-over-requires-clause-tight : goal.put-over-requires-clause-tight
-put-over-requires-clause-tight c = tight_room c.self.inside.nodes c.reserve.new.self c.reserve.ensures.rest_kept c.self.invariant.2
-
-pub renew-requires-clause-outside : goal.renew-requires-clause-outside
-renew-requires-clause-outside c =
-    let room = c.reserve.new.self in
-    let new = c.put-over.new.nodes in
-    let over = c.put-over.result in
-    let trie = IsTrie-room c.self.inside.nodes room c.reserve.ensures.rest_kept c.self.invariant.0 in
-    let trie' = c.put-over.ensures.trie in
-    starts_outside room new trie.tree trie'.tree over c.args.prefix (Some c.args.number) c.put-over.ensures.over (all_outside room new over c.put-over.ensures.kept) c.put-over.ensures.numbers c.grow.new.starts.items c.grow.ensures
-
-pub returns-clause-ok : goal.returns-clause-ok
-returns-clause-ok c =
-    let numbers = numbers_after c.self.inside.nodes c.reserve.new.self c.put-over.new.nodes c.args.prefix (Some c.args.number) (numbers_room c.self.inside.nodes c.reserve.new.self c.reserve.ensures.rest_kept) c.put-over.ensures.numbers in
-    map_of-insert c.self.inside.nodes c.put-over.new.nodes c.args.prefix c.args.number numbers ∙ ap (λ m. map.insert m c.args.prefix c.args.number) c.self.view_is
+pub returns-in-Ipv6-clause-ok : goal.returns-in-Ipv6-clause-ok
+returns-in-Ipv6-clause-ok c =
+    let v4 = c.self.inside.v4 in
+    let v6 = c.self.inside.v6 in
+    let own = ap family_of (sym c.network.ensures.value) ∙ sym c.family.ensures.value ∙ c.in-Ipv6.is in
+    on_ok c.insert-in-Ipv6.result (c.insert-in-Ipv6.new.self ≡ map.insert v6 c.args.prefix c.args.number) (joined v4 c.insert-in-Ipv6.new.self ≡ map.insert c.args.self.now c.args.prefix c.args.number)
+    (λ is. ap (joined v4) is ∙ insert6 v4 v6 c.self.invariant.0 c.self.invariant.1 c.args.prefix c.args.number own ∙ ap (λ m. map.insert m c.args.prefix c.args.number) c.self.view_is)
+    c.insert-in-Ipv6.ensures.ok

@@ -1,10 +1,14 @@
 use Rattle.std.proofs.Common.{ap, arith}
 use Rattle.std.specs.FinMap as map
-use Rattle.pol_prefix_table.proofs.Bound.{nodes_least, nodes_most}
+use Rattle.pol_prefix_table.proofs.Joined.{len-joined}
 use Rattle.pol_prefix_table.proofs.table.PrefixTable.nodes.Goals as goal
 
 pub returns-clause-least : goal.returns-clause-least
-returns-clause-least c = omega (arith, nodes_least c.self.inside.nodes c.self.invariant.0, ap map.len c.self.view_is, c.len.ensures)
+returns-clause-least c =
+    let both = len-joined c.self.inside.v4 c.self.inside.v6 c.self.invariant.0 c.self.invariant.1 in
+    omega (arith, both, ap map.len c.self.view_is, c.nodes.ensures.least, c.nodes-2.ensures.least)
 
 pub returns-clause-most : goal.returns-clause-most
-returns-clause-most c = omega (arith, nodes_most c.self.inside.nodes c.self.invariant.0 c.self.invariant.2, ap map.len c.self.view_is, c.len.ensures)
+returns-clause-most c =
+    let both = len-joined c.self.inside.v4 c.self.inside.v6 c.self.invariant.0 c.self.invariant.1 in
+    omega (arith, both, ap map.len c.self.view_is, c.nodes.ensures.most, c.nodes-2.ensures.most)

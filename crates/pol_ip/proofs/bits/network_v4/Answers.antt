@@ -1,7 +1,0 @@
-use Rattle.std.proofs.Common.{ap, ◌∙◌}
-use Rattle.std.specs.Prelude.{bit_and}
-use Rattle.pol_ip.proofs.Blocks.{and-mask}
-use Rattle.pol_ip.proofs.bits.network_v4.Goals as goal
-
-pub returns : goal.returns
-returns c = ap (bit_and c.args.bits) c.mask_v4.ensures ∙ and-mask 32 c.args.len c.args.bits c.ranges.bits.fits

@@ -1,9 +1,0 @@
-use Rattle.pol_ip.proofs.Containment.{contains-family}
-use Rattle.pol_ip.proofs.World.{contains-world}
-use Rattle.pol_ip.proofs.laws.families_are_apart.Goals as goal
-
-pub returns-clause-own : goal.returns-clause-own
-returns-clause-own c = contains-family
-
-pub returns-clause-world : goal.returns-clause-world
-returns-clause-world c = contains-world

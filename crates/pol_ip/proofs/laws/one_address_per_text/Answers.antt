@@ -1,5 +1,0 @@
-use Rattle.pol_ip.proofs.HexTexts.{writes_one_addr}
-use Rattle.pol_ip.proofs.laws.one_address_per_text.Goals as goal
-
-pub returns : goal.returns
-returns c = writes_one_addr

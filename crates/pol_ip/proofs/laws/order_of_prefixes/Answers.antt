@@ -1,5 +1,0 @@
-use Rattle.pol_ip.proofs.Order.{cmp-prefix_cmp}
-use Rattle.pol_ip.proofs.laws.order_of_prefixes.Goals as goal
-
-pub returns : goal.returns
-returns c = cmp-prefix_cmp

@@ -1,4 +1,0 @@
-pub mod Between
-pub mod Kept
-pub mod Ranked
-pub mod Walk

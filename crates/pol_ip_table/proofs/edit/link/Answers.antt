@@ -1,8 +1,0 @@
-use Rattle.std.proofs.Common.{ap, ◌∙◌}
-use Rattle.pol_ip.specs.Address.{family_of}
-use Rattle.pol_ip_table.proofs.Edits.{with_child-prefix}
-use Rattle.pol_ip_table.proofs.edit.link.Goals as goal
-
-pub set-requires-clause-family : goal.set-requires-clause-family
-set-requires-clause-family g c =
-    ap (λ n. family_of n.prefix.addr) c.with_child-node.ensures ∙ ap (λ p. family_of p.addr) (with_child-prefix c.at.result c.args.high c.args.key) ∙ c.at.ensures.family

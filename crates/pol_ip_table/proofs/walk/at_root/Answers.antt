@@ -1,5 +1,0 @@
-use Rattle.pol_ip_table.proofs.Reached.{reached_root}
-use Rattle.pol_ip_table.proofs.walk.at_root.Goals as goal
-
-pub returns-clause-reached : goal.returns-clause-reached
-returns-clause-reached g c = reached_root c.args.nodes.now c.requires.trie.tree c.args.to c.at.result c.requires.rooted c.len.ensures.valid c.requires.family c.at.ensures.node

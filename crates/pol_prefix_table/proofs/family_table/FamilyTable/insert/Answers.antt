@@ -1,0 +1,46 @@
+use Rattle.std.proofs.Common.{Some, ap, ◌∙◌}
+use Rattle.std.specs.FinMap as map
+use Rattle.pol_prefix_table.proofs.Maps.{IsTrie-room, tight_room, numbers_room, numbers_after, map_of-insert}
+use Rattle.pol_prefix_table.proofs.StartLists.{starts_room, starts_outside, all_outside}
+use Rattle.pol_prefix_table.proofs.family_table.FamilyTable.insert.Goals as goal
+
+pub invariant_of-self : goal.invariant_of-self
+invariant_of-self g c =
+    let trie = IsTrie-room c.self.inside.nodes c.reserve.new.self c.reserve.ensures.rest_kept c.self.invariant.0 in
+    (trie, starts_room c.self.inside.nodes c.reserve.new.self c.reserve.ensures.rest_kept c.self.invariant.0 trie c.self.inside.starts.items c.self.invariant.1, tight_room c.self.inside.nodes c.reserve.new.self c.reserve.ensures.rest_kept c.self.invariant.2)
+
+pub invariant_of-self-then-capacity-gt-MOST_NODES : goal.invariant_of-self-then-capacity-gt-MOST_NODES
+invariant_of-self-then-capacity-gt-MOST_NODES g c =
+    let trie = IsTrie-room c.self.inside.nodes c.reserve.new.self c.reserve.ensures.rest_kept c.self.invariant.0 in
+    (trie, starts_room c.self.inside.nodes c.reserve.new.self c.reserve.ensures.rest_kept c.self.invariant.0 trie c.self.inside.starts.items c.self.invariant.1, tight_room c.self.inside.nodes c.reserve.new.self c.reserve.ensures.rest_kept c.self.invariant.2)
+
+pub grow-requires-clause-trie : goal.grow-requires-clause-trie
+grow-requires-clause-trie g c = IsTrie-room c.self.inside.nodes c.reserve.new.self c.reserve.ensures.rest_kept c.self.invariant.0
+
+pub grow-requires-clause-starts : goal.grow-requires-clause-starts
+grow-requires-clause-starts g c =
+    let trie = IsTrie-room c.self.inside.nodes c.reserve.new.self c.reserve.ensures.rest_kept c.self.invariant.0 in
+    starts_room c.self.inside.nodes c.reserve.new.self c.reserve.ensures.rest_kept c.self.invariant.0 trie c.self.inside.starts.items c.self.invariant.1
+
+pub invariant_of-self-in_err-grow : goal.invariant_of-self-in_err-grow
+invariant_of-self-in_err-grow g c = (IsTrie-room c.self.inside.nodes c.reserve.new.self c.reserve.ensures.rest_kept c.self.invariant.0, c.grow.ensures, tight_room c.self.inside.nodes c.reserve.new.self c.reserve.ensures.rest_kept c.self.invariant.2)
+
+pub put-over-requires-clause-trie : goal.put-over-requires-clause-trie
+put-over-requires-clause-trie g c = IsTrie-room c.self.inside.nodes c.reserve.new.self c.reserve.ensures.rest_kept c.self.invariant.0
+
+pub put-over-requires-clause-tight : goal.put-over-requires-clause-tight
+put-over-requires-clause-tight g c = tight_room c.self.inside.nodes c.reserve.new.self c.reserve.ensures.rest_kept c.self.invariant.2
+
+pub renew-requires-clause-outside : goal.renew-requires-clause-outside
+renew-requires-clause-outside g c =
+    let room = c.reserve.new.self in
+    let new = c.put-over.new.nodes in
+    let over = c.put-over.result in
+    let trie = IsTrie-room c.self.inside.nodes room c.reserve.ensures.rest_kept c.self.invariant.0 in
+    let trie' = c.put-over.ensures.trie in
+    starts_outside room new trie.tree trie'.tree over c.args.prefix (Some c.args.number) c.put-over.ensures.over (all_outside room new over c.put-over.ensures.kept) c.put-over.ensures.numbers c.grow.new.starts.items c.grow.ensures
+
+pub returns-clause-ok : goal.returns-clause-ok
+returns-clause-ok g c =
+    let numbers = numbers_after c.self.inside.nodes c.reserve.new.self c.put-over.new.nodes c.args.prefix (Some c.args.number) (numbers_room c.self.inside.nodes c.reserve.new.self c.reserve.ensures.rest_kept) c.put-over.ensures.numbers in
+    map_of-insert c.self.inside.nodes c.put-over.new.nodes c.args.prefix c.args.number numbers ∙ ap (λ m. map.insert m c.args.prefix c.args.number) c.self.view_is

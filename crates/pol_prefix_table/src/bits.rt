@@ -1,0 +1,107 @@
+//! The bits of an address of one family, as a table of that family keeps them.
+ghost use Rattle.std.specs.Prelude.{refl};
+ghost use Rattle.pol_addr.specs.declared.family.Family.TheVariants.{Ipv4, Ipv6};
+ghost use Rattle.pol_addr.specs.declared.address.Addr.TheVariants.{V4, V6};
+
+use pol_addr::{Addr, Family};
+
+/// The bits of an address of one family. Contracts see the address (`seen`).
+pub(crate) trait Bits: Copy {
+    ghost use Rattle.std.specs.Prelude.{◌≡◌, ◌≤◌, ◌<◌};
+    ghost use Rattle.pol_addr.specs.declared.family.Family.{Family};
+    ghost use Rattle.pol_addr.specs.declared.address.Addr.{Addr};
+    ghost use Rattle.pol_addr.specs.Address.{family_of};
+
+    /// The address with these bits.
+    ghost seen: { Self → Addr };
+
+    /// The family that it is of.
+    ghost family: { Family };
+
+    /// That family.
+    fn family() -> Family
+        ensures { result ≡ family };
+
+    /// The bits of an address of the family.
+    fn of(addr: Addr) -> Self
+        requires { family_of addr ≡ family }
+        ensures { seen result ≡ addr };
+
+    /// The address with these bits.
+    fn addr(self) -> Addr
+        ensures addr { result ≡ seen self }
+        ensures family { family_of result ≡ family };
+
+    /// The first 32 bits. No clause speaks of them: they say where a look-up is sought among the starts.
+    fn high(self) -> u32;
+
+    /// An address that begins with the `len` last bits of `place`. No clause says that it does.
+    fn beginning(place: u32, len: u8) -> Addr
+        requires some { 0 < len }
+        requires few { len ≤ 32 }
+        ensures { family_of result ≡ family };
+
+    ghost of_family: { (x : Self) → family_of (seen x) ≡ family };
+}
+
+impl Bits for u32 {
+    ghost seen = { V4 };
+
+    ghost family = { Ipv4 };
+
+    fn family() -> Family {
+        Family::Ipv4
+    }
+
+    fn of(addr: Addr) -> u32 {
+        match addr {
+            Addr::V4(bits) => bits,
+            Addr::V6(_) => unreachable!(),
+        }
+    }
+
+    fn addr(self) -> Addr {
+        Addr::V4(self)
+    }
+
+    fn high(self) -> u32 {
+        self
+    }
+
+    fn beginning(place: u32, len: u8) -> Addr {
+        Addr::V4(place << (32 - len))
+    }
+
+    ghost of_family = { λ x. refl };
+}
+
+impl Bits for u128 {
+    ghost seen = { V6 };
+
+    ghost family = { Ipv6 };
+
+    fn family() -> Family {
+        Family::Ipv6
+    }
+
+    fn of(addr: Addr) -> u128 {
+        match addr {
+            Addr::V4(_) => unreachable!(),
+            Addr::V6(bits) => bits,
+        }
+    }
+
+    fn addr(self) -> Addr {
+        Addr::V6(self)
+    }
+
+    fn high(self) -> u32 {
+        (self >> 96) as u32
+    }
+
+    fn beginning(place: u32, len: u8) -> Addr {
+        Addr::V6(u128::from(place) << (128 - len))
+    }
+
+    ghost of_family = { λ x. refl };
+}
