@@ -118,7 +118,9 @@ named_under labels name named =
 
 entity_under : (e : Entity) (row : IdentityRow) → entity_selects (known_row row) e ≡ true → stands_under (heading_of_entity e) row ≡ true
 entity_under entity.All row selected = refl
-entity_under entity.World row selected = named_under row.labels (codes "world") selected
+entity_under entity.World row selected = refl
+entity_under entity.WorldIpv4 row selected = named_under row.labels (codes "world-ipv4") selected
+entity_under entity.WorldIpv6 row selected = named_under row.labels (codes "world-ipv6") selected
 entity_under entity.Host row selected = named_under row.labels (codes "host") selected
 entity_under entity.RemoteNode row selected = named_under row.labels (codes "remote-node") selected
 entity_under entity.KubeApiserver row selected = named_under row.labels (codes "kube-apiserver") selected
@@ -145,6 +147,8 @@ labels_whole (Some requirement) = value_whole requirement.key (slice_get require
 entity_whole : (e : Entity) → is_whole (heading_of_entity e) ≡ true
 entity_whole entity.All = refl
 entity_whole entity.World = refl
+entity_whole entity.WorldIpv4 = refl
+entity_whole entity.WorldIpv6 = refl
 entity_whole entity.Host = refl
 entity_whole entity.RemoteNode = refl
 entity_whole entity.KubeApiserver = refl

@@ -52,10 +52,12 @@ whole_octets prefix = prefix_of (network_of prefix) (prefix.len / 8 * 8)
 abbrev pub reserved_heading : List ℕ → Heading
 reserved_heading name = label_heading (reserved_label name)
 
--- an entity that a reserved label names stands under that label
+-- an entity that one reserved label names stands under that label; `world` has three, and stands with those of any label
 abbrev pub heading_of_entity : Entity → Heading
 heading_of_entity entity.All = heading.Any
-heading_of_entity entity.World = reserved_heading (codes "world")
+heading_of_entity entity.World = heading.Any
+heading_of_entity entity.WorldIpv4 = reserved_heading (codes "world-ipv4")
+heading_of_entity entity.WorldIpv6 = reserved_heading (codes "world-ipv6")
 heading_of_entity entity.Host = reserved_heading (codes "host")
 heading_of_entity entity.RemoteNode = reserved_heading (codes "remote-node")
 heading_of_entity entity.KubeApiserver = reserved_heading (codes "kube-apiserver")

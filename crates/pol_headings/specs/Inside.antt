@@ -2,7 +2,7 @@
 use Rattle.std.specs.Prelude.{ℕ, ◌+◌, ◌/◌, ◌%◌, ◌==◌, ◌&&◌, nat_lt, Bool, false, List, map, Option}
 use Rattle.std.specs.Option.{option_map_or}
 use Rattle.std.specs.BTreeSet.{BTreeSet}
-use Rattle.pol_addr.specs.Cidr.{network}
+use Rattle.pol_addr.specs.Prefix.{covers}
 use Rattle.pol_addr.specs.declared.network.Prefix.{Prefix}
 use Rattle.pol_headings.specs.declared.heading.Heading.{Heading}
 use Rattle.pol_headings.specs.declared.heading.Heading.TheVariants as heading
@@ -17,7 +17,7 @@ drawers_of entries = map (λ e. (e.0, e.1.keys)) entries
 -- the heading is one of the prefixes of fewer whole octets than `count` around the prefix
 abbrev pub is_octets : Prefix → ℕ → Heading → Bool
 is_octets prefix count (heading.Label key value) = false
-is_octets prefix count (heading.Prefix within) = (within.len % 8 == 0) && nat_lt (within.len / 8) count && (network within.len prefix.bits == within.bits)
+is_octets prefix count (heading.Prefix within) = (within.len % 8 == 0) && nat_lt (within.len / 8) count && covers within prefix
 is_octets prefix count heading.Any = false
 
 -- the same of each, where there is a prefix

@@ -68,8 +68,9 @@ fn of_entity<'a>(entity: Entity) -> HeadingRef<'a>
     ensures { heading_by result ≡ heading_of_entity entity }
 {
     match entity {
-        Entity::All | Entity::Cluster => HeadingRef::Any,
-        Entity::World => reserved("world"),
+        Entity::All | Entity::Cluster | Entity::World => HeadingRef::Any,
+        Entity::WorldIpv4 => reserved("world-ipv4"),
+        Entity::WorldIpv6 => reserved("world-ipv6"),
         Entity::Host => reserved("host"),
         Entity::RemoteNode => reserved("remote-node"),
         Entity::KubeApiserver => reserved("kube-apiserver"),
@@ -82,7 +83,7 @@ fn of_entity<'a>(entity: Entity) -> HeadingRef<'a>
 
 impl<'a> HeadingRef<'a> {
     /// The heading of a peer's selector ('profile'). A label selector stands under the first of its requirements that lists
-    /// one value alone, a prefix under its first whole octets, and an entity that a reserved label names under that label.
+    /// one value alone, a prefix under its first whole octets, and an entity that one reserved label names under that label.
     pub fn of(peer: &'a Peer) -> HeadingRef<'a>
         ensures { heading_by result ≡ heading_of peer.now }
     {

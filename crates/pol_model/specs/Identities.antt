@@ -32,6 +32,8 @@ reserved_identities =
     ∷ reserved_row 6 (codes "remote-node")
     ∷ reserved_row 7 (codes "kube-apiserver")
     ∷ reserved_row 8 (codes "ingress")
+    ∷ reserved_row 9 (codes "world-ipv4")
+    ∷ reserved_row 10 (codes "world-ipv6")
     ∷ []
 
 -- the row, or the row with this count where its number is this one and isn't reserved

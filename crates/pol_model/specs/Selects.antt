@@ -10,9 +10,9 @@ use Rattle.pol_rule.specs.declared.policy.Entity.{Entity}
 use Rattle.pol_rule.specs.declared.policy.Entity.TheVariants as entity
 use Rattle.pol_rule.specs.declared.policy.Peer.{Peer}
 use Rattle.pol_rule.specs.declared.policy.Peer.TheVariants as peer
-use Rattle.pol_model.specs.declared.limits.TheConstants.{RESERVED_LAST, WORLD_IDENTITY}
+use Rattle.pol_model.specs.declared.limits.TheConstants.{RESERVED_LAST}
 use Rattle.pol_model.specs.declared.row.IdentityRow.{IdentityRow}
-use Rattle.pol_model.specs.Worlds.{reserved_label}
+use Rattle.pol_model.specs.Worlds.{is_outside, outside, reserved_label}
 
 -- What is known of the other side of a connection: its labels; which prefixes it lies in; and whether it is
 -- one of the cluster's own reserved identities.
@@ -31,7 +31,9 @@ cluster_label = record { source = codes "k8s"; key = codes "io.cilium.k8s.policy
 
 abbrev pub entity_selects : Known → Entity → Bool
 entity_selects known entity.All = true
-entity_selects known entity.World = is_named known (codes "world")
+entity_selects known entity.World = list_any (λ w. is_named known w.1) outside
+entity_selects known entity.WorldIpv4 = is_named known (codes "world-ipv4")
+entity_selects known entity.WorldIpv6 = is_named known (codes "world-ipv6")
 entity_selects known entity.Host = is_named known (codes "host")
 entity_selects known entity.RemoteNode = is_named known (codes "remote-node")
 entity_selects known entity.KubeApiserver = is_named known (codes "kube-apiserver")
@@ -47,9 +49,9 @@ selects known (peer.Labels selector) = matches selector known.labels
 selects known (peer.Cidr prefix except) = known.lies_in prefix && not (list_any known.lies_in except)
 selects known (peer.Entity entity) = entity_selects known entity
 
--- the reserved numbers but the world's, the members of `cluster` by number ('profile')
+-- the reserved numbers but those outside the cluster, the members of `cluster` by number ('profile')
 abbrev pub is_core_number : ℕ → Bool
-is_core_number number = nat_le 1 number && nat_le number RESERVED_LAST && not (number == WORLD_IDENTITY)
+is_core_number number = nat_le 1 number && nat_le number RESERVED_LAST && not (is_outside number)
 
 -- what is known of an identity of this number, these labels and this prefix
 abbrev pub known_as : ℕ → List Label → Option Prefix → Known

@@ -1,34 +1,38 @@
--- The world: what lies outside the cluster (Cilium, Terminology, "Special Identities"). All that is said of it by
--- number, name or prefix stands in this table.
-use Rattle.std.specs.Prelude.{ℕ, ◌==◌, List, [], ◌∷◌, codes, find, Option, option_map}
+-- The worlds: what lies outside the cluster, by the family of its address (Cilium, Terminology, "Special Identities"). All that
+-- is said of them by number, name or prefix stands in these two tables.
+use Rattle.std.specs.Prelude.{ℕ, ◌==◌, Bool, List, [], ◌∷◌, codes, find, Option, option_map}
+use Rattle.std.specs.List.{list_any}
 use Rattle.pol_addr.specs.declared.address.Addr.{Addr}
 use Rattle.pol_addr.specs.declared.network.Prefix.{Prefix}
+use Rattle.pol_addr.specs.Address.{family_of}
+use Rattle.pol_addr.specs.Families.{Family, Ipv4, Ipv6}
 use Rattle.pol_addr.specs.Prefix.{world}
 use Rattle.pol_labels.specs.declared.label.Label.{Label}
-use Rattle.pol_model.specs.declared.limits.TheConstants.{WORLD_IDENTITY}
+use Rattle.pol_model.specs.declared.limits.TheConstants.{WORLD_IDENTITY, WORLD_IPV4_IDENTITY, WORLD_IPV6_IDENTITY}
 
 pub record World : Type 0 where
   -- the identity of an address that no endpoint and no held prefix has
   pub identity : ℕ
-  -- the label `reserved:NAME`, of that identity and of each prefix
+  -- the label `reserved:NAME`, of that identity and of each prefix of the family
   pub name : List ℕ
-  -- the prefix in which each address lies
+  -- the prefix in which each address of the family lies
   pub prefix : Prefix
 
--- the world of IPv4 addresses
-abbrev pub ipv4 : World
-ipv4 = record { identity = WORLD_IDENTITY; name = codes "world"; prefix = world }
+-- the world of a family
+abbrev pub world_in : Family → World
+world_in Ipv4 = record { identity = WORLD_IPV4_IDENTITY; name = codes "world-ipv4"; prefix = world Ipv4 }
+world_in Ipv6 = record { identity = WORLD_IPV6_IDENTITY; name = codes "world-ipv6"; prefix = world Ipv6 }
 
 abbrev pub worlds : List World
-worlds = ipv4 ∷ []
+worlds = world_in Ipv4 ∷ world_in Ipv6 ∷ []
 
 -- the world that an address lies in
 abbrev pub world_of : Addr → World
-world_of address = ipv4
+world_of address = world_in (family_of address)
 
 -- the world that a prefix lies in
 abbrev pub world_around : Prefix → World
-world_around prefix = ipv4
+world_around prefix = world_of prefix.addr
 
 -- the label `reserved:NAME`
 abbrev pub reserved_label : List ℕ → Label
@@ -41,3 +45,11 @@ world_labels w = reserved_label w.name ∷ []
 -- the prefix of a reserved number: only a world's identity has one
 abbrev pub prefix_of_reserved : ℕ → Option Prefix
 prefix_of_reserved number = option_map (λ w. w.prefix) (find (λ w. w.identity == number) worlds)
+
+-- the reserved identities of what lies outside the cluster, with their names: of either family, and of each
+abbrev pub outside : List (ℕ × List ℕ)
+outside = (WORLD_IDENTITY, codes "world") ∷ (WORLD_IPV4_IDENTITY, codes "world-ipv4") ∷ (WORLD_IPV6_IDENTITY, codes "world-ipv6") ∷ []
+
+-- whether the number is one of theirs
+abbrev pub is_outside : ℕ → Bool
+is_outside number = list_any (λ w. w.0 == number) outside

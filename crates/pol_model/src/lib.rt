@@ -19,12 +19,14 @@ mod row;
 mod row_copy;
 mod sections;
 mod size;
+mod worlds;
 
 pub use answer::{CommitError, Committed, Fault, FullList, FullSlot, Places, Refused, Trace};
 pub use full_rows::in_row_order;
 pub use limits::{
     CLUSTER_FIRST, CLUSTER_IDENTITIES, CLUSTER_LAST, ENDPOINTS_MAX, EVERY_IDENTITY, HOST_IDENTITY,
     INIT_IDENTITY, LOCAL_FIRST, LOCAL_IDENTITIES, LOCAL_LAST, RESERVED_LAST, WORLD_IDENTITY,
+    WORLD_IPV4_IDENTITY, WORLD_IPV6_IDENTITY,
 };
 pub use options::{Mode, Options};
 pub use peers::{selects, selects_every_number};
@@ -32,3 +34,4 @@ pub use request::{Query, Remote, Request};
 pub use reserved::{has_reserved, is_init, reserved_rows};
 pub use row::{Endpoint, IdentityRow, NamedIdentity, Stamped};
 pub use sections::{allow_section, deny_section, rule_says};
+pub use worlds::{world_identity, world_identity_of};

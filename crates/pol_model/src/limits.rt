@@ -22,13 +22,20 @@ pub const LOCAL_LAST: u32 = 16_842_751;
 pub const LOCAL_IDENTITIES: u32 = 65_535;
 
 /// The last reserved number: 1 to this are allocated from the start and for ever.
-pub const RESERVED_LAST: u32 = 8;
+pub const RESERVED_LAST: u32 = 10;
 
 /// The identity of the local host (Cilium, Terminology, "Special Identities").
 pub const HOST_IDENTITY: u32 = 1;
 
-/// The identity of everything outside the cluster (Cilium, Terminology, "Special Identities").
+/// The identity `world`, of what lies outside the cluster whatever its family; no address has it (Cilium, Terminology, "Special
+/// Identities"; that no address has it is 'profile').
 pub const WORLD_IDENTITY: u32 = 2;
+
+/// The identity of IPv4 addresses outside the cluster (Cilium, Terminology, "Special Identities").
+pub const WORLD_IPV4_IDENTITY: u32 = 9;
+
+/// The identity of IPv6 addresses outside the cluster (Cilium, Terminology, "Special Identities").
+pub const WORLD_IPV6_IDENTITY: u32 = 10;
 
 /// The identity of endpoints that have no labels yet (Cilium, Terminology, "Special Identities").
 pub const INIT_IDENTITY: u32 = 5;

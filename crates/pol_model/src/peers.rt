@@ -2,10 +2,11 @@
 ghost use Rattle.std.specs.Prelude.{◌≡◌, None, []};
 ghost use Rattle.std.specs.List.{list_any};
 ghost use Rattle.pol_labels.specs.Match.{carries};
+ghost use Rattle.pol_rule.specs.declared.policy.Entity.TheVariants as entity;
 ghost use Rattle.pol_model.specs.Selects.{entity_selects, is_all, is_core_number, known_as, selects, selects_row};
-ghost use Rattle.pol_model.specs.Worlds.{reserved_label};
+ghost use Rattle.pol_model.specs.Worlds.{is_outside, reserved_label};
 
-use crate::limits::{RESERVED_LAST, WORLD_IDENTITY};
+use crate::limits::{RESERVED_LAST, WORLD_IDENTITY, WORLD_IPV4_IDENTITY, WORLD_IPV6_IDENTITY};
 use crate::row::IdentityRow;
 use pol_addr::Prefix;
 use pol_labels::LabelSet;
@@ -18,10 +19,26 @@ fn is_reserved_as(labels: &LabelSet, name: &str) -> bool
     labels.carries_parts("reserved", name, "")
 }
 
+/// Whether the number is that of what lies outside the cluster, of either family or of one.
+fn is_outside(number: u32) -> bool
+    ensures { result ≡ is_outside number }
+{
+    matches!(number, WORLD_IDENTITY | WORLD_IPV4_IDENTITY | WORLD_IPV6_IDENTITY)
+}
+
 fn is_core(number: u32) -> bool
     ensures { result ≡ is_core_number number }
 {
-    1 <= number && number <= RESERVED_LAST && number != WORLD_IDENTITY
+    1 <= number && number <= RESERVED_LAST && !is_outside(number)
+}
+
+/// Whether some label is that of what lies outside the cluster, of either family or of one.
+fn is_named_outside(labels: &LabelSet) -> bool
+    ensures { result ≡ entity_selects (known_as 0 labels.now None) entity.World }
+{
+    is_reserved_as(labels, "world")
+        || is_reserved_as(labels, "world-ipv4")
+        || is_reserved_as(labels, "world-ipv6")
 }
 
 fn entity_selects(entity: Entity, number: u32, labels: &LabelSet) -> bool
@@ -29,7 +46,9 @@ fn entity_selects(entity: Entity, number: u32, labels: &LabelSet) -> bool
 {
     match entity {
         Entity::All => true,
-        Entity::World => is_reserved_as(labels, "world"),
+        Entity::World => is_named_outside(labels),
+        Entity::WorldIpv4 => is_reserved_as(labels, "world-ipv4"),
+        Entity::WorldIpv6 => is_reserved_as(labels, "world-ipv6"),
         Entity::Host => is_reserved_as(labels, "host"),
         Entity::RemoteNode => is_reserved_as(labels, "remote-node"),
         Entity::KubeApiserver => is_reserved_as(labels, "kube-apiserver"),

@@ -6,9 +6,10 @@ ghost use Rattle.pol_model.specs.Identities.{reserved_identities, reserved_row};
 ghost use Rattle.pol_model.specs.Prefixes.{prefix_row};
 ghost use Rattle.pol_model.specs.Worlds.{prefix_of_reserved, reserved_label};
 
-use crate::limits::WORLD_IDENTITY;
+use crate::limits::{WORLD_IPV4_IDENTITY, WORLD_IPV6_IDENTITY};
 use crate::row::IdentityRow;
-use pol_addr::Prefix;
+use crate::worlds::world_name;
+use pol_addr::{Family, Prefix};
 use pol_data::{Memory, Text};
 use pol_labels::{Label, LabelSet};
 use std::alloc::{AllocError, Global};
@@ -57,14 +58,14 @@ fn reserved_labels(alloc: Global, name: &str) -> Result<LabelSet, Memory>
     }
 }
 
-/// The prefix of a reserved number: only the world has one.
+/// The prefix of a reserved number: only the worlds have one.
 fn prefix_of_reserved(number: u32) -> Option<Prefix>
     ensures { result ≡ prefix_of_reserved number }
 {
-    if number == WORLD_IDENTITY {
-        Some(Prefix::world())
-    } else {
-        None
+    match number {
+        WORLD_IPV4_IDENTITY => Some(Prefix::world(Family::Ipv4)),
+        WORLD_IPV6_IDENTITY => Some(Prefix::world(Family::Ipv6)),
+        _ => None,
     }
 }
 
@@ -93,6 +94,8 @@ pub fn reserved_rows(alloc: Global) -> Result<Vec<IdentityRow>, Memory>
         reserved_row(alloc, 6, "remote-node")?,
         reserved_row(alloc, 7, "kube-apiserver")?,
         reserved_row(alloc, 8, "ingress")?,
+        reserved_row(alloc, 9, "world-ipv4")?,
+        reserved_row(alloc, 10, "world-ipv6")?,
     ]?)
 }
 
@@ -103,7 +106,7 @@ impl IdentityRow {
     {
         Ok(IdentityRow {
             number,
-            labels: reserved_labels(alloc, "world")?,
+            labels: reserved_labels(alloc, world_name(prefix.network().family()))?,
             prefix: Some(prefix),
             holders: 1,
         })

@@ -15,8 +15,12 @@ use std::alloc::Global;
 pub enum Entity {
     /// Every remote, allocated or not.
     All,
-    /// Everything outside the cluster.
+    /// Everything outside the cluster, of either family of addresses.
     World,
+    /// What lies outside the cluster and has an IPv4 address.
+    WorldIpv4,
+    /// What lies outside the cluster and has an IPv6 address.
+    WorldIpv6,
     /// The host that the endpoint runs on.
     Host,
     /// Any other host of the cluster.

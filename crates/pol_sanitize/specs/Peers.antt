@@ -50,6 +50,8 @@ abbrev pub entity_of : List ℕ → Option Entity
 entity_of text =
     if bytes_eq text (codes "all") then Some entity.All
     else if bytes_eq text (codes "world") then Some entity.World
+    else if bytes_eq text (codes "world-ipv4") then Some entity.WorldIpv4
+    else if bytes_eq text (codes "world-ipv6") then Some entity.WorldIpv6
     else if bytes_eq text (codes "host") then Some entity.Host
     else if bytes_eq text (codes "remote-node") then Some entity.RemoteNode
     else if bytes_eq text (codes "kube-apiserver") then Some entity.KubeApiserver

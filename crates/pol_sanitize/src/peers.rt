@@ -109,6 +109,8 @@ fn entity_of(text: &str) -> Option<Entity>
     match text {
         "all" => Some(Entity::All),
         "world" => Some(Entity::World),
+        "world-ipv4" => Some(Entity::WorldIpv4),
+        "world-ipv6" => Some(Entity::WorldIpv6),
         "host" => Some(Entity::Host),
         "remote-node" => Some(Entity::RemoteNode),
         "kube-apiserver" => Some(Entity::KubeApiserver),
