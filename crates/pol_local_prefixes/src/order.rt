@@ -7,8 +7,8 @@ ghost use Rattle.pol_addr.specs.declared.network.Prefix.{Prefix};
 ghost use Rattle.pol_addr.specs.Order.{prefix_cmp};
 ghost use Rattle.pol_local_prefixes.specs.Tied.{entries_within, number_from};
 
-use pol_data::Memory;
 use pol_addr::Prefix;
+use pol_data::Memory;
 use std::collections::BTreeMap;
 
 /// Puts the numbers, from `first` on, of the places of the prefixes that lie in `within` behind these, in the order of the

@@ -6,9 +6,9 @@ ghost use Rattle.pol_interner.specs.Slots.{HasNone, HasPlace, changed, filled, f
 ghost use Rattle.pol_local_prefixes.specs.Tied.{last_held};
 
 use crate::order::{push_within, sort_from};
+use pol_addr::Prefix;
 use pol_data::Memory;
 use pol_interner::Interner;
-use pol_addr::Prefix;
 use std::alloc::Global;
 use std::collections::BTreeMap;
 use std::marker::Model;
