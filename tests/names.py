@@ -12,13 +12,8 @@ import program
 
 TYPE = re.compile(r"(?m)^(pub )?(?:pub\(\w+\) )?(?:enum|struct|trait|union|type) (\w+)")
 TWICE = {
-    # Those of both families take the place of those of IPv4, under their names.
-    "Addr": "pol_addr pol_ip",
     "Entries": "pol_audit pol_rule",
     "Kept": "pol_kept pol_kept_filters",
-    "LocalPrefixes": "pol_ip_prefixes pol_local_prefixes",
-    "Prefix": "pol_addr pol_ip",
-    "PrefixTable": "pol_ip_table pol_prefix_table",
     "Status": "pol_status policyd",
     "Stopped": "pol_play_kept pol_sessions",
 }
