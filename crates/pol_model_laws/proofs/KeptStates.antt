@@ -35,7 +35,8 @@ use Rattle.pol_model.proofs.AscendingStates.{changed_ascend}
 use Rattle.pol_model_laws.proofs.Distinct.{differ_filtered, differ_inserted, differ_pushed}
 use Rattle.pol_model_laws.proofs.HeldRow.{held_number, held_row, init_reserved}
 use Rattle.pol_model_laws.proofs.Keyed.{In-placed}
-use Rattle.pol_model_laws.proofs.PolicyHolders.{applied_differ, same_addr-Decides, same_key-Decides}
+use Rattle.pol_addr.proofs.ByFamily.{same_addr-Decides}
+use Rattle.pol_model_laws.proofs.PolicyHolders.{applied_differ, same_key-Decides}
 use Rattle.pol_model_laws.proofs.NoFault.{add_endpoint, add_identity}
 use Rattle.pol_model_laws.proofs.PartStates.{row_before}
 use Rattle.pol_model_laws.proofs.PrefixHolders.{least_free-within}

@@ -4,7 +4,9 @@ use Rattle.std.proofs.Common.{◌≡◌, ℕ, ◌+◌, ◌==◌, ◌<◌, Bool, 
 use Rattle.std.specs.List.{list_any}
 use Rattle.std.proofs.lemmas.Bool.{eqb-true, cases_Bool, lt-leb, lt-ltb, and_parts, and_right, both_ways, false≢true, cases_lt}
 use Rattle.pol_addr.specs.declared.network.Prefix.{Prefix}
+use Rattle.pol_addr.specs.Address.{same_addr}
 use Rattle.pol_addr.specs.Prefix.{same_prefix}
+use Rattle.pol_addr.proofs.ByFamily.{same_addr-is}
 use Rattle.pol_data.proofs.Members.{In}
 use Rattle.pol_model.specs.declared.limits.TheConstants.{RESERVED_LAST}
 use Rattle.pol_model.specs.declared.row.IdentityRow.{IdentityRow}
@@ -52,10 +54,10 @@ pub record Ledger (by_number : ℕ → ℕ) (by_prefix : Option Prefix → ℕ) 
 
 pub same_prefix-is : (one other : Prefix) → same_prefix one other ≡ true → one ≡ other
 same_prefix-is one other same =
-    let parts = and_parts (one.bits == other.bits) (one.len == other.len) same in
-    let bits = eqb-true one.bits other.bits parts.0 in
+    let parts = and_parts (same_addr one.addr other.addr) (one.len == other.len) same in
+    let addr = same_addr-is one.addr other.addr parts.0 in
     let len = eqb-true one.len other.len parts.1 in
-    λ i. record { bits = bits i; len = len i }
+    λ i. record { addr = addr i; len = len i }
 
 -- the prefix of a row that has it
 pub has_prefix-is : (prefix : Prefix) (own : Option Prefix) → has_prefix prefix own ≡ true → own ≡ Some prefix

@@ -7,8 +7,6 @@ use Rattle.std.specs.List.{IsDistinct, flat_map, list_any, sum_by}
 use Rattle.std.specs.Str.{bytes_eq}
 use Rattle.std.proofs.lemmas.Bool.{and_from, and_parts, both_ways, cases_Bool, eqb-true, eq-eqb, false_from_ne_true, not-true, or_parts}
 use Rattle.std.proofs.lemmas.List.Sums.{sum_by-cons}
-use Rattle.pol_addr.specs.Address.{same_addr}
-use Rattle.pol_addr.specs.declared.address.Addr.{Addr}
 use Rattle.pol_addr.specs.declared.network.Prefix.{Prefix}
 use Rattle.pol_addr.specs.Prefix.{same_prefix}
 use Rattle.pol_rule.specs.declared.policy.Policy.{Policy}
@@ -28,9 +26,6 @@ use Rattle.pol_model_laws.proofs.PrefixHolders.{times, same_prefix-itself, same_
 -- the tests decide equality
 pub same_prefix-Decides : (a b : Prefix) → Decides (same_prefix a b) (a ≡ b)
 same_prefix-Decides a b = (same_prefix-is a b, λ same. subst (λ c. same_prefix a c ≡ true) same (same_prefix-itself a))
-
-pub same_addr-Decides : (a b : Addr) → Decides (same_addr a b) (a ≡ b)
-same_addr-Decides a b = (λ same. let bits = eqb-true a.bits b.bits same in λ i. record { bits = bits i }, λ same. eq-eqb a.bits b.bits (ap (λ x. x.bits) same))
 
 pub same_key-Decides : (a b : PolicyKey) → Decides (same_key a b) (a ≡ b)
 same_key-Decides a b = (to, λ same. subst (λ c. same_key a c ≡ true) same itself)

@@ -75,4 +75,4 @@ pub rows_positive : (options : Options) (requests : List Request) → All (λ (r
 rows_positive options requests =
     after_all_positive (start options) requests
     (All-from_recursion IsPositive reserved_identities
-    (omega arith, (omega arith, (omega arith, (omega arith, (omega arith, (omega arith, (omega arith, (omega arith, tt)))))))))
+    (omega arith, (omega arith, (omega arith, (omega arith, (omega arith, (omega arith, (omega arith, (omega arith, (omega arith, (omega arith, tt)))))))))))

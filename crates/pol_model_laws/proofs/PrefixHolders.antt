@@ -6,6 +6,7 @@ use Rattle.std.proofs.lemmas.Bool.Decides.{nat_tests}
 use Rattle.std.proofs.lemmas.List.Sums.{sum_by-cons, sum_by-insert, sum_by-le-sum_by}
 use Rattle.pol_addr.specs.Cidr.{IsPrefix}
 use Rattle.pol_addr.specs.declared.network.Prefix.{Prefix}
+use Rattle.pol_addr.proofs.ByFamily.{same_addr-self}
 use Rattle.pol_addr.specs.Prefix.{same_prefix}
 use Rattle.pol_data.proofs.Members.{In}
 use Rattle.pol_model.specs.declared.limits.TheConstants.{LOCAL_FIRST, LOCAL_LAST, LOCAL_IDENTITIES}
@@ -27,7 +28,7 @@ abbrev pub one_prefix : Prefix → Option Prefix → ℕ
 one_prefix prefix own = cond (has_prefix prefix own) 1 0
 
 pub same_prefix-itself : (prefix : Prefix) → same_prefix prefix prefix ≡ true
-same_prefix-itself prefix = and_from _ _ (eq-eqb prefix.bits prefix.bits refl) (eq-eqb prefix.len prefix.len refl)
+same_prefix-itself prefix = and_from _ _ (same_addr-self prefix.addr) (eq-eqb prefix.len prefix.len refl)
 
 pub has_prefix-at : (prefix : Prefix) (own : Option Prefix) → own ≡ Some prefix → has_prefix prefix own ≡ true
 has_prefix-at prefix own is = rw is (same_prefix-itself prefix)

@@ -17,8 +17,8 @@ use Rattle.pol_model_laws.proofs.Membership.{In-append, In-right}
 use Rattle.pol_model_laws.proofs.StartRows.{start_row}
 
 -- the rows behind the reserved ones have greater numbers
-above_eight : (others : List IdentityRow) → RowsAscend (reserved_identities ++ others) → (row : IdentityRow) → In row others → RESERVED_LAST < row.number
-above_eight others ascend row there = above-In (λ r. r.number) RESERVED_LAST row others ascend.1.1.1.1.1.1.1.0 there
+above_last : (others : List IdentityRow) → RowsAscend (reserved_identities ++ others) → (row : IdentityRow) → In row others → RESERVED_LAST < row.number
+above_last others ascend row there = above-In (λ r. r.number) RESERVED_LAST row others ascend.1.1.1.1.1.1.1.1.1.0 there
 
 pub not_above : (row : IdentityRow) → IsReservedRow row → row.number ≤ RESERVED_LAST
 not_above row reserved = leb-true row.number RESERVED_LAST (and_parts (nat_le 1 row.number) (nat_le row.number RESERVED_LAST) reserved.is).1
@@ -29,7 +29,7 @@ module _ {by_number : ℕ → ℕ} {by_prefix : Option Prefix → ℕ} {rows : L
   behind_taken row there =
       let begins = ledger.begins in
       let is : In row begins.0 = subst (λ list. In row (drop RESERVED_LAST list)) begins.1 there in
-      let above = above_eight begins.0 (subst RowsAscend begins.1 ledger.ascend) row is in
+      let above = above_last begins.0 (subst RowsAscend begins.1 ledger.ascend) row is in
       elim (ledger.each row (subst (In row) (sym begins.1) (In-right row reserved_identities begins.0 is))) [
         | inl reserved ↦ absurd (omega (arith, above, not_above row reserved))
         | inr taken ↦ taken

@@ -91,7 +91,7 @@ recounted_front number count (row ∷ xs) ys all =
     λ i. here i ∷ others i
 
 reserved_all : AllByRecursion (λ row. is_reserved row.number ≡ true) reserved_identities
-reserved_all = (refl, (refl, (refl, (refl, (refl, (refl, (refl, (refl, tt))))))))
+reserved_all = (refl, (refl, (refl, (refl, (refl, (refl, (refl, (refl, (refl, (refl, tt))))))))))
 
 pub recounted-begins : (number : ℕ) (count : ℕ → ℕ) (rows : List IdentityRow) → BeginsReserved rows → BeginsReserved (map (recounted number count) rows)
 recounted-begins number count rows begins =
@@ -101,7 +101,7 @@ pub held-begins : (rows : List IdentityRow) → BeginsReserved rows → BeginsRe
 held-begins rows begins = (filter (λ row. nat_lt 0 row.holders) begins.0, ap (filter (λ row. nat_lt 0 row.holders)) begins.1)
 
 reserved_below : (number : ℕ) → RESERVED_LAST < number → AllByRecursion (λ row. row.number < number) reserved_identities
-reserved_below number above = (omega arith, (omega arith, (omega arith, (omega arith, (omega arith, (omega arith, (omega arith, (omega arith, tt))))))))
+reserved_below number above = (omega arith, (omega arith, (omega arith, (omega arith, (omega arith, (omega arith, (omega arith, (omega arith, (omega arith, (omega arith, tt))))))))))
 
 pub placed-begins : (new : IdentityRow) (rows : List IdentityRow) → RESERVED_LAST < new.number → BeginsReserved rows → BeginsReserved (placed_by (λ row. row.number) new rows)
 placed-begins new rows above begins = (

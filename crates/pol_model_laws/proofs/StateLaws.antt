@@ -39,7 +39,8 @@ use Rattle.pol_model_laws.proofs.Keyed.{few_below, found_by_number, one_of_numbe
 use Rattle.pol_model_laws.proofs.Ledger.{has_prefix-is}
 use Rattle.pol_model_laws.proofs.Membership.{find-In, list_any-In}
 use Rattle.pol_model_laws.proofs.PartStates.{row_before}
-use Rattle.pol_model_laws.proofs.PolicyHolders.{same_addr-Decides, same_key-Decides}
+use Rattle.pol_addr.proofs.ByFamily.{same_addr-Decides}
+use Rattle.pol_model_laws.proofs.PolicyHolders.{same_key-Decides}
 use Rattle.pol_model_laws.proofs.RowLedger.{begins, row_cases}
 use Rattle.pol_model_laws.proofs.StartRows.{start_row}
 use Rattle.pol_model_laws.proofs.PrefixHolders.{is_held-number}

@@ -59,7 +59,7 @@ unfolding contains network
 longest_number = refl
 
 pub world_map : map_after (codes "web") net_of_denied_world
-    ≡ Some ((every_key Ingress 1, Allow) ∷ (every_key Ingress 2, Deny) ∷ (every_key Ingress 16777217, Deny) ∷ (every_key Egress 0, Allow) ∷ [])
+    ≡ Some ((every_key Ingress 1, Allow) ∷ (every_key Ingress 2, Deny) ∷ (every_key Ingress 9, Deny) ∷ (every_key Ingress 10, Deny) ∷ (every_key Ingress 16777217, Deny) ∷ (every_key Egress 0, Allow) ∷ [])
 unfolding has_rule covers network
 world_map = refl
 
@@ -92,6 +92,6 @@ pub inside_number : number_after net_without_part (addr_of_octets 10 0 0 1) ≡ 
 unfolding contains network
 inside_number = refl
 
-pub outside_number : number_after net_without_part (addr_of_octets 11 0 0 1) ≡ 2
+pub outside_number : number_after net_without_part (addr_of_octets 11 0 0 1) ≡ 9
 unfolding contains network
 outside_number = refl

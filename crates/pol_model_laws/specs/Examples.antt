@@ -1,6 +1,7 @@
 -- Small requests, for laws that compute what definitions give (`examples`).
 use Rattle.std.specs.Prelude.{ℕ, ◌+◌, ◌^◌, ◌*◌, false, List, [], ◌∷◌, codes, drop, map, replicate}
 use Rattle.pol_addr.specs.declared.address.Addr.{Addr}
+use Rattle.pol_addr.specs.declared.address.Addr.TheVariants.{V4}
 use Rattle.pol_addr.specs.declared.network.Prefix.{Prefix}
 use Rattle.pol_labels.specs.declared.label.Label.{Label}
 use Rattle.pol_mapkey.specs.declared.Word.{Word}
@@ -34,14 +35,14 @@ reserved name = reserved_label name ∷ []
 
 -- 10.N.0.0/16, and 10.0.0.0/8
 abbrev pub net : ℕ → Prefix
-net n = record { bits = 10 * 2 ^ 24 + n * 2 ^ 16; len = 16 }
+net n = record { addr = V4 (10 * 2 ^ 24 + n * 2 ^ 16); len = 16 }
 
 abbrev pub wide : Prefix
-wide = record { bits = 10 * 2 ^ 24; len = 8 }
+wide = record { addr = V4 (10 * 2 ^ 24); len = 8 }
 
 -- 10.N.0.7
 abbrev pub host_in : ℕ → Addr
-host_in n = record { bits = 10 * 2 ^ 24 + n * 2 ^ 16 + 7 }
+host_in n = V4 (10 * 2 ^ 24 + n * 2 ^ 16 + 7)
 
 -- an endpoint that has the name as label too, at 10.N.0.7
 abbrev pub adds : List ℕ → ℕ → Request

@@ -1,5 +1,6 @@
 //! Laws that compute: what the definitions give of small requests, written out.
 ghost use Rattle.std.specs.Prelude.{◌≡◌, ◌++◌, ◌∷◌, [], None, Some, codes, map};
+ghost use Rattle.pol_addr.specs.declared.family.Family.TheVariants.{Ipv4, Ipv6};
 ghost use Rattle.pol_addr.specs.Prefix.{world};
 ghost use Rattle.pol_rule.specs.declared.policy.Entity.TheVariants as entity;
 ghost use Rattle.pol_rule.specs.declared.policy.Peer.TheVariants.{Entity as ByEntity};
@@ -18,10 +19,12 @@ ghost use Rattle.pol_model.specs.Selects.{cluster_label, set_at};
 
 /// The members of each entity among the reserved identities, and of `cluster` and `world` among others.
 pub fn entities_have_members()
-    ensures all { set_at reserved_identities (ByEntity entity.All) ≡ 1 ∷ 2 ∷ 3 ∷ 4 ∷ 5 ∷ 6 ∷ 7 ∷ 8 ∷ [] }
+    ensures all { set_at reserved_identities (ByEntity entity.All) ≡ 1 ∷ 2 ∷ 3 ∷ 4 ∷ 5 ∷ 6 ∷ 7 ∷ 8 ∷ 9 ∷ 10 ∷ [] }
     ensures cluster { set_at reserved_identities (ByEntity entity.Cluster) ≡ 1 ∷ 3 ∷ 4 ∷ 5 ∷ 6 ∷ 7 ∷ 8 ∷ [] }
     ensures host { set_at reserved_identities (ByEntity entity.Host) ≡ 1 ∷ [] }
-    ensures world { set_at reserved_identities (ByEntity entity.World) ≡ 2 ∷ [] }
+    ensures world { set_at reserved_identities (ByEntity entity.World) ≡ 2 ∷ 9 ∷ 10 ∷ [] }
+    ensures world_ipv4 { set_at reserved_identities (ByEntity entity.WorldIpv4) ≡ 9 ∷ [] }
+    ensures world_ipv6 { set_at reserved_identities (ByEntity entity.WorldIpv6) ≡ 10 ∷ [] }
     ensures unmanaged { set_at reserved_identities (ByEntity entity.Unmanaged) ≡ 3 ∷ [] }
     ensures health { set_at reserved_identities (ByEntity entity.Health) ≡ 4 ∷ [] }
     ensures init { set_at reserved_identities (ByEntity entity.Init) ≡ 5 ∷ [] }
@@ -29,7 +32,7 @@ pub fn entities_have_members()
     ensures kube_apiserver { set_at reserved_identities (ByEntity entity.KubeApiserver) ≡ 7 ∷ [] }
     ensures ingress { set_at reserved_identities (ByEntity entity.Ingress) ≡ 8 ∷ [] }
     ensures labelled { set_at (labels_held (cluster_label ∷ []) (labels_held (app (codes "a")) reserved_identities)) (ByEntity entity.Cluster) ≡ 1 ∷ 3 ∷ 4 ∷ 5 ∷ 6 ∷ 7 ∷ 8 ∷ 257 ∷ [] }
-    ensures outside { set_at (prefix_held wide (labels_held (app (codes "a")) reserved_identities)) (ByEntity entity.World) ≡ 2 ∷ 16777217 ∷ [] }
+    ensures outside { set_at (prefix_held wide (labels_held (app (codes "a")) reserved_identities)) (ByEntity entity.World) ≡ 2 ∷ 9 ∷ 10 ∷ 16777217 ∷ [] }
 {}
 
 /// A new label set takes the least number that is free, equal ones share it, and a number without a holder is free.
@@ -60,7 +63,7 @@ pub fn prefixes_are_shared()
     ensures replaced { (options : AllOptions) → (state_of options (Apply (lets_in (codes "p") (net 1 ∷ net 2 ∷ [])) ∷ Apply (lets_in (codes "p") (net 3 ∷ net 2 ∷ [])) ∷ [])).identities
         ≡ reserved_identities ++ prefix_row (net 2) 16777218 ∷ prefix_row (net 3) 16777219 ∷ [] }
     ensures removed { (options : AllOptions) → numbers_held (state_of options (Apply (lets_in (codes "p") (net 1 ∷ net 2 ∷ [])) ∷ Apply (lets_in (codes "q") (net 2 ∷ [])) ∷ Remove (key_of (codes "p")) ∷ [])).identities ≡ (16777218, 1) ∷ [] }
-    ensures everywhere { (options : AllOptions) → (state_of options (Apply (lets_in (codes "p") (world ∷ [])) ∷ [])).identities ≡ reserved_identities }
+    ensures everywhere { (options : AllOptions) → (state_of options (Apply (lets_in (codes "p") (world Ipv4 ∷ world Ipv6 ∷ [])) ∷ [])).identities ≡ reserved_identities }
 {}
 
 /// Each fault of a request, and which comes first where two hold.
@@ -87,7 +90,7 @@ pub fn addresses_have_numbers()
     ensures endpoint { (options : AllOptions) → address_number (state_of options (adds (codes "a") 1 ∷ Apply (lets_in (codes "p") (wide ∷ net 1 ∷ [])) ∷ [])) 1 ≡ 256 }
     ensures longest { (options : AllOptions) → address_number (state_of options (Apply (lets_in (codes "p") (wide ∷ net 1 ∷ [])) ∷ [])) 1 ≡ 16777218 }
     ensures around { (options : AllOptions) → address_number (state_of options (Apply (lets_in (codes "p") (wide ∷ net 1 ∷ [])) ∷ [])) 2 ≡ 16777217 }
-    ensures outside { (options : AllOptions) → address_number (state_of options (Apply (lets_in (codes "p") (net 1 ∷ [])) ∷ [])) 2 ≡ 2 }
+    ensures outside { (options : AllOptions) → address_number (state_of options (Apply (lets_in (codes "p") (net 1 ∷ [])) ∷ [])) 2 ≡ 9 }
 {}
 
 /// A deny beats an allow; what no entry covers is denied by default where the direction is enforced, and allowed where
@@ -95,8 +98,8 @@ pub fn addresses_have_numbers()
 pub fn denies_win()
     ensures allowed { (options : AllOptions) → word_at options (SetMode DefaultMode ∷ Apply (guards (codes "p") (wide ∷ []) (net 1 ∷ [])) ∷ []) Ingress 16777217 ≡ Allowed }
     ensures denied { (options : AllOptions) → word_at options (SetMode DefaultMode ∷ Apply (guards (codes "p") (wide ∷ []) (net 1 ∷ [])) ∷ []) Ingress 16777218 ≡ DeniedByRule }
-    ensures by_default { (options : AllOptions) → word_at options (SetMode DefaultMode ∷ Apply (guards (codes "p") (wide ∷ []) (net 1 ∷ [])) ∷ []) Ingress 2 ≡ DeniedByDefault }
-    ensures not_enforced { (options : AllOptions) → word_at options (SetMode DefaultMode ∷ Apply (guards (codes "p") (wide ∷ []) (net 1 ∷ [])) ∷ []) Egress 2 ≡ Allowed }
-    ensures always { (options : AllOptions) → word_at options (SetMode AlwaysMode ∷ []) Egress 2 ≡ DeniedByDefault }
+    ensures by_default { (options : AllOptions) → word_at options (SetMode DefaultMode ∷ Apply (guards (codes "p") (wide ∷ []) (net 1 ∷ [])) ∷ []) Ingress 9 ≡ DeniedByDefault }
+    ensures not_enforced { (options : AllOptions) → word_at options (SetMode DefaultMode ∷ Apply (guards (codes "p") (wide ∷ []) (net 1 ∷ [])) ∷ []) Egress 9 ≡ Allowed }
+    ensures always { (options : AllOptions) → word_at options (SetMode AlwaysMode ∷ []) Egress 9 ≡ DeniedByDefault }
     ensures never { (options : AllOptions) → word_at options (Apply (guards (codes "p") (wide ∷ []) (net 1 ∷ [])) ∷ SetMode NeverMode ∷ []) Ingress 16777218 ≡ Allowed }
 {}

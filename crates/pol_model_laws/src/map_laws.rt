@@ -80,7 +80,7 @@ pub fn maps_written_out()
     ensures all { map_after (codes "web") all_let_in
         ≡ Some ((port_key Ingress 0 Tcp (prefix_at 80 16), Allow) ∷ (every_key Ingress 1, Allow) ∷ (every_key Egress 0, Allow) ∷ []) }
     ensures world { map_after (codes "web") net_of_denied_world
-        ≡ Some ((every_key Ingress 1, Allow) ∷ (every_key Ingress 2, Deny) ∷ (every_key Ingress 16777217, Deny) ∷ (every_key Egress 0, Allow) ∷ []) }
+        ≡ Some ((every_key Ingress 1, Allow) ∷ (every_key Ingress 2, Deny) ∷ (every_key Ingress 9, Deny) ∷ (every_key Ingress 10, Deny) ∷ (every_key Ingress 16777217, Deny) ∷ (every_key Egress 0, Allow) ∷ []) }
     ensures net { map_after (codes "web") net_without_part
         ≡ Some ((every_key Ingress 0, Allow) ∷ (every_key Ingress 1, Allow) ∷ (every_key Egress 16777217, Allow) ∷ []) }
 {}
@@ -110,15 +110,17 @@ pub fn numbers_of_addresses()
     ensures endpoint { number_after net_without_part (addr_of_octets 192 168 0 1) ≡ 256 }
     ensures inside { number_after net_without_part (addr_of_octets 10 0 0 1) ≡ 16777217 }
     ensures longest { number_after net_without_part (addr_of_octets 10 1 0 1) ≡ 16777218 }
-    ensures outside { number_after net_without_part (addr_of_octets 11 0 0 1) ≡ 2 }
+    ensures outside { number_after net_without_part (addr_of_octets 11 0 0 1) ≡ 9 }
 {}
 
 /// The members of entities among the reserved identities, 256 and 257, of which the latter alone has the
 /// label of the cluster (Cilium, Network Policy, "Entities based").
 pub fn members_of_entities()
-    ensures all { members_of entity.All ≡ 1 ∷ 2 ∷ 3 ∷ 4 ∷ 5 ∷ 6 ∷ 7 ∷ 8 ∷ 256 ∷ 257 ∷ [] }
+    ensures all { members_of entity.All ≡ 1 ∷ 2 ∷ 3 ∷ 4 ∷ 5 ∷ 6 ∷ 7 ∷ 8 ∷ 9 ∷ 10 ∷ 256 ∷ 257 ∷ [] }
     ensures host { members_of entity.Host ≡ 1 ∷ [] }
-    ensures world { members_of entity.World ≡ 2 ∷ [] }
+    ensures world { members_of entity.World ≡ 2 ∷ 9 ∷ 10 ∷ [] }
+    ensures world_ipv4 { members_of entity.WorldIpv4 ≡ 9 ∷ [] }
+    ensures world_ipv6 { members_of entity.WorldIpv6 ≡ 10 ∷ [] }
     ensures unmanaged { members_of entity.Unmanaged ≡ 3 ∷ [] }
     ensures health { members_of entity.Health ≡ 4 ∷ [] }
     ensures init { members_of entity.Init ≡ 5 ∷ [] }
