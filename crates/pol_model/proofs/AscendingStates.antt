@@ -98,15 +98,17 @@ after_all_ascend s (request ∷ requests) both =
     let next = changed_ascend s request both in
     after_all_ascend (after s request) requests (record { rows = next.rows; slots = next.slots })
 
-pub reserved_ascend : Ascends (1 ∷ 2 ∷ 3 ∷ 4 ∷ 5 ∷ 6 ∷ 7 ∷ 8 ∷ [])
+pub reserved_ascend : Ascends (1 ∷ 2 ∷ 3 ∷ 4 ∷ 5 ∷ 6 ∷ 7 ∷ 8 ∷ 9 ∷ 10 ∷ [])
 reserved_ascend =
-    let from_7 = one_before 7 8 [] (omega arith) (tt, tt) in
-    let from_6 = one_before 6 7 (8 ∷ []) (omega arith) from_7 in
-    let from_5 = one_before 5 6 (7 ∷ 8 ∷ []) (omega arith) from_6 in
-    let from_4 = one_before 4 5 (6 ∷ 7 ∷ 8 ∷ []) (omega arith) from_5 in
-    let from_3 = one_before 3 4 (5 ∷ 6 ∷ 7 ∷ 8 ∷ []) (omega arith) from_4 in
-    let from_2 = one_before 2 3 (4 ∷ 5 ∷ 6 ∷ 7 ∷ 8 ∷ []) (omega arith) from_3 in
-    one_before 1 2 (3 ∷ 4 ∷ 5 ∷ 6 ∷ 7 ∷ 8 ∷ []) (omega arith) from_2
+    let from_9 = one_before 9 10 [] (omega arith) (tt, tt) in
+    let from_8 = one_before 8 9 (10 ∷ []) (omega arith) from_9 in
+    let from_7 = one_before 7 8 (9 ∷ 10 ∷ []) (omega arith) from_8 in
+    let from_6 = one_before 6 7 (8 ∷ 9 ∷ 10 ∷ []) (omega arith) from_7 in
+    let from_5 = one_before 5 6 (7 ∷ 8 ∷ 9 ∷ 10 ∷ []) (omega arith) from_6 in
+    let from_4 = one_before 4 5 (6 ∷ 7 ∷ 8 ∷ 9 ∷ 10 ∷ []) (omega arith) from_5 in
+    let from_3 = one_before 3 4 (5 ∷ 6 ∷ 7 ∷ 8 ∷ 9 ∷ 10 ∷ []) (omega arith) from_4 in
+    let from_2 = one_before 2 3 (4 ∷ 5 ∷ 6 ∷ 7 ∷ 8 ∷ 9 ∷ 10 ∷ []) (omega arith) from_3 in
+    one_before 1 2 (3 ∷ 4 ∷ 5 ∷ 6 ∷ 7 ∷ 8 ∷ 9 ∷ 10 ∷ []) (omega arith) from_2
 
 start_ascend : (options : Options) → BothAscend (start options)
 start_ascend options = record { rows = reserved_ascend; slots = tt }

@@ -5,7 +5,8 @@ use Rattle.std.specs.List.{list_any}
 use Rattle.pol_addr.specs.declared.address.Addr.{Addr}
 use Rattle.pol_addr.specs.declared.network.Prefix.{Prefix}
 use Rattle.pol_addr.specs.Address.{family_of}
-use Rattle.pol_addr.specs.Families.{Family, Ipv4, Ipv6}
+use Rattle.pol_addr.specs.declared.family.Family.{Family}
+use Rattle.pol_addr.specs.declared.family.Family.TheVariants.{Ipv4, Ipv6}
 use Rattle.pol_addr.specs.Prefix.{world}
 use Rattle.pol_labels.specs.declared.label.Label.{Label}
 use Rattle.pol_model.specs.declared.limits.TheConstants.{WORLD_IDENTITY, WORLD_IPV4_IDENTITY, WORLD_IPV6_IDENTITY}

@@ -29,7 +29,7 @@ pub use limits::{
     WORLD_IPV4_IDENTITY, WORLD_IPV6_IDENTITY,
 };
 pub use options::{Mode, Options};
-pub use peers::{selects, selects_every_number};
+pub use peers::{is_core, selects, selects_every_number};
 pub use request::{Query, Remote, Request};
 pub use reserved::{has_reserved, is_init, reserved_rows};
 pub use row::{Endpoint, IdentityRow, NamedIdentity, Stamped};

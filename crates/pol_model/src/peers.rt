@@ -26,7 +26,8 @@ fn is_outside(number: u32) -> bool
     matches!(number, WORLD_IDENTITY | WORLD_IPV4_IDENTITY | WORLD_IPV6_IDENTITY)
 }
 
-fn is_core(number: u32) -> bool
+/// Whether the number is a reserved one that is a member of the entity `cluster` (Cilium, Network Policy, "Entities based").
+pub fn is_core(number: u32) -> bool
     ensures { result ≡ is_core_number number }
 {
     1 <= number && number <= RESERVED_LAST && !is_outside(number)
