@@ -1,12 +1,15 @@
 -- Distinct prefixes, gone through from the front.
 use Rattle.std.proofs.Common.{◌≡◌, ℕ, ◌+◌, ◌<◌, ◌==◌, Bool, true, false, not, ◌&&◌, ◌||◌, cond, List, [], ◌∷◌, ◌++◌, filter, length, get_or, drop, append_assoc, refl, sym, ap, ◌∙◌}
+use Rattle.std.specs.Bool.{Decides}
 use Rattle.std.specs.List.{list_any}
 use Rattle.std.proofs.lemmas.Bool.{and_parts, eq-eqb, eqb-true}
 use Rattle.std.proofs.lemmas.List.{at_drop_more}
 use Rattle.std.proofs.lemmas.List.Folds.{list_any-append}
 use Rattle.indexmap.specs.IndexSet.{insert_key}
 use Rattle.pol_addr.specs.declared.network.Prefix.{Prefix}
+use Rattle.pol_addr.specs.Address.{same_addr}
 use Rattle.pol_addr.specs.Prefix.{same_prefix}
+use Rattle.pol_addr.proofs.ByFamily.{same_addr-is, same_addr_from}
 use Rattle.pol_rule.specs.Prefixes.{distinct}
 
 -- the prefix is among these
@@ -20,10 +23,10 @@ with_rest kept xs = kept ++ filter (λ p. not (is_kept kept p)) (distinct xs)
 -- same prefixes are equal
 same_is_equal : (p q : Prefix) → same_prefix p q ≡ true → p ≡ q
 same_is_equal p q same =
-    let parts = and_parts (p.bits == q.bits) (p.len == q.len) same in
-    let bits = eqb-true p.bits q.bits parts.0 in
+    let parts = and_parts (same_addr p.addr q.addr) (p.len == q.len) same in
+    let addr = same_addr-is p.addr q.addr parts.0 in
     let len = eqb-true p.len q.len parts.1 in
-    ap (λ n. record { bits = n; len = p.len }) bits ∙ ap (λ n. record { bits = q.bits; len = n }) len
+    λ i. record { addr = addr i; len = len i }
 
 passed : {X : Type 0} (t c : Bool) (x : X) (xs ys : List X) → c ≡ (t && true) → xs ≡ ys → cond t (x ∷ xs) xs ≡ cond c (x ∷ ys) ys
 passed true c x xs ys is same = cc
@@ -74,28 +77,29 @@ pub kept_none : (kept : List Prefix) (xs : List Prefix) → kept ≡ [] → with
 kept_none kept xs none = ap (λ ks. with_rest ks xs) none ∙ filter_none (distinct xs)
 
 -- one prefix more, which is kept where it isn't among the kept ones
-swapped : (p q : Prefix) → same_prefix p q ≡ same_prefix q p
-swapped p q = λ i. eqb-swap p.bits q.bits i && eqb-swap p.len q.len i
-  where
-    eqb-swap : (m n : ℕ) → (m == n) ≡ (n == m)
-    eqb-swap m n = same_truth (m == n) (n == m) (λ is. eq-eqb n m (sym (eqb-true m n is))) (λ is. eq-eqb m n (sym (eqb-true n m is)))
-      where
-        same_truth : (a b : Bool) → (a ≡ true → b ≡ true) → (b ≡ true → a ≡ true) → a ≡ b
-        same_truth true b to back = sym (to refl)
-        same_truth false true to back = back refl
-        same_truth false false to back = refl
+module _ (same : Prefix → Prefix → Bool) (decides : (p q : Prefix) → Decides (same p q) (p ≡ q)) where
+  turned : (p q : Prefix) → same p q ≡ same_prefix q p
+  turned p q = same_truth (same p q) (same_prefix q p) (λ is. is_same q p (sym ((decides p q).0 is))) (λ is. (decides p q).1 (sym (same_is_equal q p is)))
+    where
+      is_same : (p q : Prefix) → p ≡ q → same_prefix p q ≡ true
+      is_same p q is = λ i. same_addr_from p.addr q.addr (ap (λ r. r.addr) is) i && eq-eqb p.len q.len (ap (λ r. r.len) is) i
 
-found : (p : Prefix) (kept : List Prefix) → list_any (same_prefix p) kept ≡ is_kept kept p
-found p [] = refl
-found p (k ∷ kept) = λ i. swapped p k i || found p kept i
+      same_truth : (a b : Bool) → (a ≡ true → b ≡ true) → (b ≡ true → a ≡ true) → a ≡ b
+      same_truth true b to back = sym (to refl)
+      same_truth false true to back = back refl
+      same_truth false false to back = refl
 
-pub kept_next : (kept new xs : List Prefix) (i : ℕ) (p : Prefix) → i < length xs → p ≡ get_or xs i p → new ≡ insert_key same_prefix kept p
-    → with_rest kept (drop i xs) ≡ distinct xs → with_rest new (drop (i + 1) xs) ≡ distinct xs
-kept_next kept new xs i p within is next held =
-    ap (λ ks. with_rest ks (drop (i + 1) xs)) (next ∙ ap (λ b. cond b kept (kept ++ p ∷ [])) (found p kept))
-    ∙ by (is_kept kept p) refl
-    ∙ ap (λ q. with_rest kept (q ∷ drop (i + 1) xs)) is ∙ sym (at_drop_more (with_rest kept) xs i p within) ∙ held
-  where
-    by : (b : Bool) → is_kept kept p ≡ b → with_rest (cond b kept (kept ++ p ∷ [])) (drop (i + 1) xs) ≡ with_rest kept (p ∷ drop (i + 1) xs)
-    by true old = sym (rest_old kept p (drop (i + 1) xs) old)
-    by false new = sym (rest_new kept p (drop (i + 1) xs) new)
+  found : (p : Prefix) (kept : List Prefix) → list_any (same p) kept ≡ is_kept kept p
+  found p [] = refl
+  found p (k ∷ kept) = λ i. turned p k i || found p kept i
+
+  pub kept_next : (kept new xs : List Prefix) (i : ℕ) (p : Prefix) → i < length xs → p ≡ get_or xs i p → new ≡ insert_key same kept p
+      → with_rest kept (drop i xs) ≡ distinct xs → with_rest new (drop (i + 1) xs) ≡ distinct xs
+  kept_next kept new xs i p within is next held =
+      ap (λ ks. with_rest ks (drop (i + 1) xs)) (next ∙ ap (λ b. cond b kept (kept ++ p ∷ [])) (found p kept))
+      ∙ by (is_kept kept p) refl
+      ∙ ap (λ q. with_rest kept (q ∷ drop (i + 1) xs)) is ∙ sym (at_drop_more (with_rest kept) xs i p within) ∙ held
+    where
+      by : (b : Bool) → is_kept kept p ≡ b → with_rest (cond b kept (kept ++ p ∷ [])) (drop (i + 1) xs) ≡ with_rest kept (p ∷ drop (i + 1) xs)
+      by true old = sym (rest_old kept p (drop (i + 1) xs) old)
+      by false new = sym (rest_new kept p (drop (i + 1) xs) new)

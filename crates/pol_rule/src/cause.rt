@@ -11,7 +11,7 @@ pub enum RuleCause {
     Combining,
     /// 17: a selector of the subject or of the entry is bad.
     BadSelector,
-    /// 18: a CIDR text of the entry isn't one of an IPv4 prefix.
+    /// 18: a CIDR text of the entry isn't one of a prefix.
     BadCidr,
     /// 19: an exception isn't inside its `cidr`.
     ExceptOutside,

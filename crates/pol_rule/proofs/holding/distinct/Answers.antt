@@ -1,4 +1,5 @@
 use Rattle.std.proofs.Common.{◌<◌, length, arith}
+use Rattle.pol_addr.proofs.Equality.{prefix_eq-Decides}
 use Rattle.pol_rule.proofs.Distinct.{kept_next, kept_none}
 use Rattle.pol_rule.proofs.holding.distinct.Goals as goal
 
@@ -9,4 +10,4 @@ pub loop-prefix-preserved : goal.loop-prefix-preserved
 loop-prefix-preserved c =
     let i = c.loop-prefix.prefix-index in
     let within : i < length c.args.prefixes.now = omega arith in
-    kept_next c.loop-prefix.kept.keys _ c.args.prefixes.now i c.prefix-item.result within c.prefix-item.is c.in_ok-insert.ensures.keys c.loop-prefix.invariant
+    kept_next _ prefix_eq-Decides c.loop-prefix.kept.keys _ c.args.prefixes.now i c.prefix-item.result within c.prefix-item.is c.in_ok-insert.ensures.keys c.loop-prefix.invariant
