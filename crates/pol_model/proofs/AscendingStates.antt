@@ -1,5 +1,6 @@
 -- The rows of each state ascend by number, and its endpoints by slot.
-use Rattle.std.proofs.Common.{◌≡◌, ℕ, ◌==◌, ◌&&◌, not, Bool, true, false, cond, List, [], ◌∷◌, map, Option, None, Some, nat_lt, refl, arith}
+use Rattle.std.proofs.Common.{zero, suc, ◌≡◌, ℕ, ◌+◌, ◌<◌, ◌==◌, ◌&&◌, not, Bool, true, false, cond, List, [], ◌∷◌, map, Option, None, Some, nat_lt, refl, arith}
+use Rattle.std.specs.List.{AllByRecursion}
 use Rattle.pol_addr.specs.declared.network.Prefix.{Prefix}
 use Rattle.pol_labels.specs.declared.label.Label.{Label}
 use Rattle.pol_model.specs.declared.options.Options.{Options}
@@ -8,13 +9,13 @@ use Rattle.pol_model.specs.declared.request.Request.TheVariants.{AddEndpoint, Re
 use Rattle.pol_model.specs.declared.row.IdentityRow.{IdentityRow}
 use Rattle.pol_model.specs.State.{State}
 use Rattle.pol_model.specs.Ascending.{Ascends}
-use Rattle.pol_model.specs.Identities.{held_or_new, is_reserved, free_number, number_of_labels, labels_held, number_released, recounted}
+use Rattle.pol_model.specs.Identities.{held_or_new, is_reserved, reserved_identities, free_number, number_of_labels, labels_held, number_released, recounted}
 use Rattle.pol_model.specs.declared.limits.TheConstants.{CLUSTER_FIRST, LOCAL_FIRST}
 use Rattle.pol_rule.specs.Prefixes.{policy_prefixes}
 use Rattle.pol_model.specs.Prefixes.{number_of_prefix, prefix_held, prefixes_held, prefixes_released}
 use Rattle.pol_model.specs.Policies.{policy_at, prefixes_of}
 use Rattle.pol_model.specs.After.{start, after, after_all, changed, state_of}
-use Rattle.pol_model.proofs.Ascents.{one_before, filter_ascends, placed_ascends}
+use Rattle.pol_model.proofs.Ascents.{filter_ascends, placed_ascends}
 use Rattle.pol_model.proofs.LeastFree.{least_free-free}
 
 -- the rows ascend by number
@@ -98,17 +99,21 @@ after_all_ascend s (request ∷ requests) both =
     let next = changed_ascend s request both in
     after_all_ascend (after s request) requests (record { rows = next.rows; slots = next.slots })
 
-pub reserved_ascend : Ascends (1 ∷ 2 ∷ 3 ∷ 4 ∷ 5 ∷ 6 ∷ 7 ∷ 8 ∷ 9 ∷ 10 ∷ [])
-reserved_ascend =
-    let from_9 = one_before 9 10 [] (omega arith) (tt, tt) in
-    let from_8 = one_before 8 9 (10 ∷ []) (omega arith) from_9 in
-    let from_7 = one_before 7 8 (9 ∷ 10 ∷ []) (omega arith) from_8 in
-    let from_6 = one_before 6 7 (8 ∷ 9 ∷ 10 ∷ []) (omega arith) from_7 in
-    let from_5 = one_before 5 6 (7 ∷ 8 ∷ 9 ∷ 10 ∷ []) (omega arith) from_6 in
-    let from_4 = one_before 4 5 (6 ∷ 7 ∷ 8 ∷ 9 ∷ 10 ∷ []) (omega arith) from_5 in
-    let from_3 = one_before 3 4 (5 ∷ 6 ∷ 7 ∷ 8 ∷ 9 ∷ 10 ∷ []) (omega arith) from_4 in
-    let from_2 = one_before 2 3 (4 ∷ 5 ∷ 6 ∷ 7 ∷ 8 ∷ 9 ∷ 10 ∷ []) (omega arith) from_3 in
-    one_before 1 2 (3 ∷ 4 ∷ 5 ∷ 6 ∷ 7 ∷ 8 ∷ 9 ∷ 10 ∷ []) (omega arith) from_2
+-- so many numbers from the first on
+abbrev numbers_from : ℕ → ℕ → List ℕ
+numbers_from first zero = []
+numbers_from first (suc count) = first ∷ numbers_from (first + 1) count
+
+numbers_above : (m first count : ℕ) → m < first → AllByRecursion (λ n. m < n) (numbers_from first count)
+numbers_above m first zero less = tt
+numbers_above m first (suc count) less = (less, numbers_above m (first + 1) count (omega arith))
+
+numbers_ascend : (first count : ℕ) → Ascends (numbers_from first count)
+numbers_ascend first zero = tt
+numbers_ascend first (suc count) = (numbers_above first (first + 1) count (omega arith), numbers_ascend (first + 1) count)
+
+pub reserved_ascend : RowsAscend reserved_identities
+reserved_ascend = numbers_ascend 1 10
 
 start_ascend : (options : Options) → BothAscend (start options)
 start_ascend options = record { rows = reserved_ascend; slots = tt }

@@ -34,7 +34,7 @@ numbered_prefixes rows = filter_map (λ row. option_map (λ prefix. (prefix, row
 abbrev pub longest_at : Addr → List IdentityRow → Option (Prefix × ℕ)
 longest_at address rows = longest_of address (numbered_prefixes rows)
 
--- An address is that of the endpoint that has it, else of the longest prefix that contains it, else of the world.
+-- An address is that of the endpoint that has it, else of the longest prefix that contains it, else of its world.
 abbrev pub number_at : Addr → List Endpoint → List IdentityRow → ℕ
 number_at address endpoints rows =
     option_map_or (λ endpoint. endpoint.identity) (endpoint_at address endpoints)

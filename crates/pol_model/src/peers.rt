@@ -23,10 +23,14 @@ fn is_reserved_as(labels: &LabelSet, name: &str) -> bool
 fn is_outside(number: u32) -> bool
     ensures { result ≡ is_outside number }
 {
-    matches!(number, WORLD_IDENTITY | WORLD_IPV4_IDENTITY | WORLD_IPV6_IDENTITY)
+    matches!(
+        number,
+        WORLD_IDENTITY | WORLD_IPV4_IDENTITY | WORLD_IPV6_IDENTITY
+    )
 }
 
-/// Whether the number is a reserved one that is a member of the entity `cluster` (Cilium, Network Policy, "Entities based").
+/// Whether the number is one of the cluster's own reserved identities, 1 and 3 to 8: the members of `cluster` by number
+/// ('profile').
 pub fn is_core(number: u32) -> bool
     ensures { result ≡ is_core_number number }
 {

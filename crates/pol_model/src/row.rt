@@ -8,11 +8,11 @@ use pol_rule::Policy;
 /// An allocated security identity (Cilium, Terminology, "Identity").
 #[derive(Debug, Drop)]
 pub struct IdentityRow {
-    /// Its number: 1 to 8 reserved, 256 to 65535 of the cluster, from 16777217 on of a prefix.
+    /// Its number: 1 to 10 reserved, 256 to 65535 of the cluster, from 16777217 on of a prefix.
     pub number: u32,
     /// Its labels.
     pub labels: LabelSet,
-    /// Its prefix: only identities of prefixes and identity 2 have one.
+    /// Its prefix: only identities of prefixes and identities 9 and 10 have one.
     pub prefix: Option<Prefix>,
     /// How many hold it. A row with none goes.
     pub holders: u64,
