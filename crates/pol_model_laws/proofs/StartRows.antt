@@ -25,15 +25,31 @@ start_one row is holders labels own_labels own_prefix = record { reserved = reco
 pub start_row : (row : IdentityRow) → In row reserved_identities → StartRow row
 start_row = every-in StartRow reserved_identities (
   start_one _ refl refl refl refl (inl refl),
-  (start_one _ refl refl refl refl (inl refl),
-  (start_one _ refl refl refl refl (inl refl),
-  (start_one _ refl refl refl refl (inl refl),
-  (start_one _ refl refl refl refl (inl refl),
-  (start_one _ refl refl refl refl (inl refl),
-  (start_one _ refl refl refl refl (inl refl),
-  (start_one _ refl refl refl refl (inl refl),
-  (start_one _ refl refl refl refl (inr (world Ipv4, refl, refl)),
-  (start_one _ refl refl refl refl (inr (world Ipv6, refl, refl)), tt))))))))),
+  (
+    start_one _ refl refl refl refl (inl refl),
+    (
+      start_one _ refl refl refl refl (inl refl),
+      (
+        start_one _ refl refl refl refl (inl refl),
+        (
+          start_one _ refl refl refl refl (inl refl),
+          (
+            start_one _ refl refl refl refl (inl refl),
+            (
+              start_one _ refl refl refl refl (inl refl),
+              (
+                start_one _ refl refl refl refl (inl refl),
+                (
+                  start_one _ refl refl refl refl (inr (world Ipv4, refl, refl)),
+                  (start_one _ refl refl refl refl (inr (world Ipv6, refl, refl)), tt),
+                ),
+              ),
+            ),
+          ),
+        ),
+      ),
+    ),
+  ),
 )
 
 start_labels : AreApart SameLabels reserved_identities
