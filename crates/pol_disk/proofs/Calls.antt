@@ -4,7 +4,7 @@ use Rattle.std.proofs.lemmas.List.{take_all, take_at, take-append-le, drop_at, l
 use Rattle.std.proofs.lemmas.Bool.{cases_lt}
 use Rattle.pol_disk.specs.declared.call.DiskCall.{DiskCall}
 use Rattle.pol_disk.specs.declared.call.DiskCall.TheVariants.{Write, Cut, Sync, Crash}
-use Rattle.pol_disk.specs.Images.{CutShort, Elapses, Follows, Only, Torn, overwritten}
+use Rattle.pol_disk.specs.Images.{CutShort, Elapses, Follows, Torn, overwritten}
 use Rattle.pol_disk.specs.Record.{Held, IsImage, IsSettled, LeftSince, held, held_after, held_from, kept_bytes, settled}
 
 held_from-more : (h : Held) (past : List DiskCall) (call : DiskCall) → held_from h (past ++ call ∷ []) ≡ held_after (held_from h past) call

@@ -1,3 +1,4 @@
 pub mod Calls
 mod Keeping
 pub mod Moments
+pub mod Plans

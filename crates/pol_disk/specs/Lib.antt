@@ -1,4 +1,5 @@
 pub mod Images
+pub mod Calls
 pub mod Record
 pub mod MemDisk
 pub mod Kept

@@ -1,6 +1,6 @@
 -- The laws of the trait, for the disk in memory.
-use Rattle.std.specs.Prelude.{◌≡◌, ◌≤◌, ℕ, List, length, take}
-use Rattle.std.proofs.Common.{inl, refl, subst, sym, arith, ap}
+use Rattle.std.specs.Prelude.{◌≤◌, ℕ, List, length}
+use Rattle.std.proofs.Common.{subst, sym, arith}
 use Rattle.std.proofs.lemmas.List.{take_all}
 use Rattle.pol_disk.specs.declared.call.DiskCall.{DiskCall}
 use Rattle.pol_disk.specs.Record.{IsImage, LeftSince, held}

@@ -1,6 +1,7 @@
 //! The trait.
-ghost use Rattle.std.specs.Prelude.{◌≡◌, ◌+◌, ◌^◌, ◌<◌, ◌≤◌, ℕ, List, drop, length, take, IsErr, OnOk};
+ghost use Rattle.std.specs.Prelude.{◌≡◌, ◌+◌, ◌^◌, ◌<◌, ◌≤◌, ℕ, List, drop, length, take, IsErr, OnErr, OnOk};
 ghost use Rattle.pol_streams.specs.Faults.{Rose, next_count};
+ghost use Rattle.pol_disk.specs.Calls.{Asked, Reads, Writes, Cuts, Syncs};
 ghost use Rattle.pol_disk.specs.Images.{CutShort, Elapses, Follows, Only, Torn, overwritten};
 
 use pol_streams::Failed;
@@ -25,6 +26,12 @@ pub trait Disk {
     /// How many faults it has had. It never falls, and stands still at the end of a `u64`.
     ghost faults: { Self → ℕ };
 
+    /// The call leads from the one state to the other, and does what it should.
+    ghost does: { Self → Asked → Self → Type 0 };
+
+    /// The call leads from the one state to the other, and fails.
+    ghost fails: { Self → Asked → Self → Type 0 };
+
     /// How many bytes there are.
     fn len(&self) -> u64
         ensures { result ≡ length (seen self.now) };
@@ -34,6 +41,8 @@ pub trait Disk {
         requires { at + length into.old ≤ length (seen self.old) }
         ensures read { OnOk result (into.new ≡ take (length into.old) (drop at (seen self.old))) }
         ensures same { OnOk result (seen self.new ≡ seen self.old) }
+        ensures does { OnOk result (does self.old (Reads at (length into.old)) self.new) }
+        ensures fails { OnErr result (fails self.old (Reads at (length into.old)) self.new) }
 
         // What a crash may leave, since when, and the counts.
         ensures crash { (c : List ℕ) → may_leave self.new c → may_leave self.old c }
@@ -49,6 +58,8 @@ pub trait Disk {
         requires some { 0 < length bytes.now }
         ensures written { OnOk result (seen self.new ≡ overwritten (seen self.old) at bytes.now) }
         ensures too_far { 2 ^ 63 < at + length bytes.now → IsErr result }
+        ensures does { OnOk result (does self.old (Writes at bytes.now) self.new) }
+        ensures fails { OnErr result (fails self.old (Writes at bytes.now) self.new) }
 
         // What a crash may leave, since when, and the counts.
         ensures crash { Follows (Torn at (length bytes.now)) (may_leave self.old) (may_leave self.new) }
@@ -61,6 +72,8 @@ pub trait Disk {
     fn cut(&mut self, len: u64) -> Result<(), Failed>
         requires { len ≤ length (seen self.old) }
         ensures cut { OnOk result (seen self.new ≡ take len (seen self.old)) }
+        ensures does { OnOk result (does self.old (Cuts len) self.new) }
+        ensures fails { OnErr result (fails self.old (Cuts len) self.new) }
 
         // What a crash may leave, since when, and the counts.
         ensures crash { Follows (CutShort len) (may_leave self.old) (may_leave self.new) }
@@ -73,6 +86,8 @@ pub trait Disk {
     fn sync(&mut self) -> Result<(), Failed>
         ensures same { OnOk result (seen self.new ≡ seen self.old) }
         ensures durable { OnOk result (Only (seen self.new) (may_leave self.new)) }
+        ensures does { OnOk result (does self.old Syncs self.new) }
+        ensures fails { OnErr result (fails self.old Syncs self.new) }
 
         // What a crash may leave, since when, and the counts.
         ensures crash { (c : List ℕ) → may_leave self.new c → may_leave self.old c }

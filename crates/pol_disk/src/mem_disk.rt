@@ -3,7 +3,7 @@ ghost use Rattle.std.specs.Prelude.{◌≡◌, ◌↔◌, ◌+◌, ◌^◌, ◌<
 ghost use Rattle.pol_streams.specs.Faults.{Rose, next_count};
 ghost use Rattle.pol_disk.specs.declared.call.DiskCall.TheVariants as called;
 ghost use Rattle.pol_disk.specs.Images.{CutShort, Elapses, Follows, Only, Torn, overwritten};
-ghost use Rattle.pol_disk.specs.MemDisk.{bytes_in, counted, did, failed, fails_at, is_stopped, is_too_far};
+ghost use Rattle.pol_disk.specs.MemDisk.{Does, Fails, bytes_in, counted, did, failed, fails_at, is_stopped, is_too_far};
 ghost use Rattle.pol_disk.specs.Past.{left_now, none_later};
 ghost use Rattle.pol_disk.specs.Record.{IsImage, IsSettled, LeftSince, held, kept_bytes};
 ghost use Rattle.std.proofs.Common.{inl, refl};
@@ -199,6 +199,10 @@ impl Disk for MemDisk {
     ghost clock = { λ d. d.calls };
 
     ghost faults = { λ d. d.faults };
+
+    ghost does = { Does };
+
+    ghost fails = { Fails };
 
     ghost seen_may_stay = { λ d. inl refl };
 

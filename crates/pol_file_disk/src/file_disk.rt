@@ -5,6 +5,7 @@ ghost use Rattle.pol_disk.specs.Images.{CutShort, Elapses, Follows, Only, Torn, 
 ghost use Rattle.pol_disk.specs.MemDisk.{bytes_in};
 ghost use Rattle.pol_disk.specs.Past.{left_now, none_later};
 ghost use Rattle.pol_disk.specs.Record.{IsImage, LeftSince, held};
+ghost use Rattle.pol_file_disk.specs.FileDisk.{Does, Fails};
 ghost use Rattle.std.proofs.Common.{inl, refl};
 
 use pol_disk::{Disk, MemDisk};
@@ -81,6 +82,10 @@ impl Disk for FileDisk {
     ghost clock = { λ d. d.calls };
 
     ghost faults = { λ d. d.faults };
+
+    ghost does = { Does };
+
+    ghost fails = { Fails };
 
     ghost seen_may_stay = { λ d. inl refl };
 

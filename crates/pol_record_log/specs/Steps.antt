@@ -1,5 +1,6 @@
 -- What the steps of a log leave.
 use Rattle.std.specs.Prelude.{◌≡◌, ◌⊎◌, ℕ, ◌+◌, ◌-◌, ◌^◌, min, List, [], ◌∷◌, ◌++◌, length, take}
+use Rattle.pol_disk.specs.Calls.{Asked, Writes, Syncs}
 use Rattle.pol_disk.specs.Images.{Only}
 
 -- so many calls later, as far as a u64 goes
@@ -22,3 +23,12 @@ EndsClosed bytes = bytes ≡ before_gate bytes ++ 0 ∷ []
 -- the first of the bytes, and then a closed gate or any gate with this behind it
 abbrev pub IsAppended : List ℕ → List ℕ → List ℕ → Type 0
 IsAppended front behind c = ((rest : List ℕ) × (c ≡ front ++ 0 ∷ rest)) ⊎ ((gate : ℕ) × (c ≡ front ++ gate ∷ behind))
+
+-- the calls that make an empty log: a closed gate is written, and synced
+abbrev pub calls_of_start : List Asked
+calls_of_start = Writes 0 (0 ∷ []) ∷ Syncs ∷ []
+
+-- The calls that put a record behind the closed gate at this end: the record with the gate behind it is written and synced, and
+-- then the gate before it is opened and synced.
+abbrev pub calls_of_append : ℕ → List ℕ → List Asked
+calls_of_append end behind = Writes end behind ∷ Syncs ∷ Writes (end - 1) (1 ∷ []) ∷ Syncs ∷ []

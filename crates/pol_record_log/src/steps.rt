@@ -1,8 +1,9 @@
 //! The steps of a log.
 ghost use Rattle.std.specs.Prelude.{◌≡◌, ◌+◌, ◌<◌, ◌≤◌, ℕ, List, [], ◌∷◌, ◌++◌, length, take, IsErr, OnOk};
 ghost use Rattle.pol_streams.specs.Faults.{Rose};
+ghost use Rattle.pol_disk.specs.Calls.{Makes};
 ghost use Rattle.pol_disk.specs.Images.{LeavesOnly, Only};
-ghost use Rattle.pol_record_log.specs.Steps.{EndsClosed, IsAppended, IsOnDisk, before_gate, calls_later};
+ghost use Rattle.pol_record_log.specs.Steps.{EndsClosed, IsAppended, IsOnDisk, before_gate, calls_later, calls_of_append, calls_of_start};
 
 use crate::write_synced;
 use pol_disk::Disk;
@@ -20,7 +21,8 @@ pub fn start<D: Disk>(disk: &mut D) -> Result<(), Failed>
     ensures ok { OnOk result (IsOnDisk D.seen D.may_leave disk.new (0 ∷ [])) }
     ensures any_moment { LeavesOnly D.moment D.left_since disk.old disk.new (λ c. length c ≤ 1) }
 
-    // The counts.
+    // The calls, and the counts.
+    ensures calls { Makes D.does D.fails calls_of_start disk.old result disk.new }
     ensures clock { OnOk result (D.clock disk.new ≡ calls_later 2 (D.clock disk.old)) }
     ensures failed { IsErr result → Rose (D.faults disk.old) (D.faults disk.new) }
     ensures never_falls { D.faults disk.old ≤ D.faults disk.new }
@@ -40,7 +42,8 @@ pub fn append<D: Disk>(disk: &mut D, behind: &[u8]) -> Result<(), Failed>
     // A crash at any moment leaves what was there before the gate, and then a closed gate or the whole record.
     ensures any_moment { LeavesOnly D.moment D.left_since disk.old disk.new (IsAppended (before_gate (D.seen disk.old)) behind.now) }
 
-    // The counts.
+    // The calls, and the counts.
+    ensures calls { Makes D.does D.fails (calls_of_append (length (D.seen disk.old)) behind.now) disk.old result disk.new }
     ensures clock { OnOk result (D.clock disk.new ≡ calls_later 4 (D.clock disk.old)) }
     ensures failed { IsErr result → Rose (D.faults disk.old) (D.faults disk.new) }
     ensures never_falls { D.faults disk.old ≤ D.faults disk.new }

@@ -1,7 +1,9 @@
 use Rattle.std.proofs.Common.{◌-◌, ℕ, List, [], ◌∷◌, length, sym, ◌∙◌, ap, subst, arith, rules}
 use Rattle.pol_disk.specs.Images.{Torn, overwritten}
+use Rattle.pol_disk.specs.Calls.{StopsIn, Writes, Syncs}
 use Rattle.pol_disk.proofs.Moments.{joined, widened}
-use Rattle.pol_record_log.specs.Steps.{IsAppended, before_gate}
+use Rattle.pol_disk.proofs.Plans.{stops_later}
+use Rattle.pol_record_log.specs.Steps.{IsAppended, before_gate, calls_of_append}
 use Rattle.pol_record_log.proofs.Gates.{gate_size, length-staged, torn_behind, torn_gate, written_behind, written_gate}
 use Rattle.pol_record_log.proofs.steps.append.Goals as goal
 
@@ -75,3 +77,13 @@ returns-clause-ok g c =
       read = c.in_ok-write_synced-2.ensures.ok.read ∙ open_is;
       only = λ f now. c.in_ok-write_synced-2.ensures.ok.only f now ∙ open_is;
     }
+
+pub returns-in_err-write_synced-2-clause-calls : goal.returns-in_err-write_synced-2-clause-calls
+returns-in_err-write_synced-2-clause-calls g c =
+    let d = g.D.Disk in
+    let end = c.len-end.result in
+    let behind = c.args.behind.now in
+    let stops : StopsIn d.does d.fails c.args.disk.now (calls_of_append end behind) c.write_synced-2.new.disk =
+    stops_later d.does d.fails (Writes end behind ∷ Syncs ∷ []) (Writes (end - 1) (1 ∷ []) ∷ Syncs ∷ []) c.args.disk.now c.write_synced.new.disk c.write_synced-2.new.disk
+    c.in_ok-write_synced.ensures.calls c.in_err-write_synced-2.ensures.calls in
+    rw (← c.len-end.ensures) (search (stops, rules))

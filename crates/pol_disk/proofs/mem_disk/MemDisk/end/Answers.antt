@@ -1,8 +1,4 @@
-use Rattle.std.proofs.Common.{◌≡◌, ◌≤◌, ℕ, List, [], ◌∷◌, ◌++◌, length, true, refl, sym, ◌∙◌, ap, subst, arith, rules, vec_capacity}
-use Rattle.pol_disk.specs.declared.call.DiskCall.{DiskCall}
-use Rattle.pol_disk.specs.declared.call.DiskCall.TheVariants.{Crash}
-use Rattle.pol_disk.specs.MemDisk.{DiskState, bytes_in}
-use Rattle.pol_disk.specs.Record.{IsImage, IsSettled, held, kept_bytes}
+use Rattle.std.proofs.Common.{◌≡◌, ◌≤◌, ℕ, List, length, ◌∙◌, subst, rules, vec_capacity}
 use Rattle.pol_disk.proofs.Calls.{crash_settles, kept_is_image}
 use Rattle.pol_disk.proofs.Keeping.{keeps_crash, kept_items}
 use Rattle.pol_disk.proofs.mem_disk.MemDisk.end.Goals as goal

@@ -1,4 +1,4 @@
-use Rattle.std.proofs.Common.{◌≡◌, ◌≤◌, ℕ, List, [], ◌∷◌, ◌++◌, length, true, refl, sym, ◌∙◌, ap, subst, arith, rules, length-take}
+use Rattle.std.proofs.Common.{◌≤◌, ℕ, List, [], ◌∷◌, ◌++◌, length, sym, ◌∙◌, ap, subst, arith, length-take}
 use Rattle.pol_disk.specs.declared.call.DiskCall.{DiskCall}
 use Rattle.pol_disk.specs.declared.call.DiskCall.TheVariants.{Cut}
 use Rattle.pol_disk.specs.MemDisk.{bytes_in}

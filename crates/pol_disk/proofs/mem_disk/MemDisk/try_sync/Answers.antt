@@ -1,4 +1,4 @@
-use Rattle.std.proofs.Common.{◌≡◌, ◌≤◌, ℕ, List, [], ◌∷◌, ◌++◌, length, true, refl, sym, ◌∙◌, ap, subst, arith, rules, vec_capacity}
+use Rattle.std.proofs.Common.{◌≡◌, ◌≤◌, ℕ, List, [], ◌∷◌, ◌++◌, length, ◌∙◌, ap, subst, rules, vec_capacity}
 use Rattle.pol_disk.specs.declared.call.DiskCall.{DiskCall}
 use Rattle.pol_disk.specs.declared.call.DiskCall.TheVariants.{Sync}
 use Rattle.pol_disk.proofs.Keeping.{keeps_sync}

@@ -1,5 +1,4 @@
-use Rattle.std.proofs.Common.{◌≡◌, ◌≤◌, ℕ, List, [], ◌∷◌, ◌++◌, length, true, refl, sym, ◌∙◌, ap, subst, arith, rules, length-take}
-use Rattle.pol_disk.specs.declared.call.DiskCall.TheVariants.{Write}
+use Rattle.std.proofs.Common.{◌≤◌, ℕ, List, [], ◌∷◌, ◌++◌, length, sym, ◌∙◌, ap, subst, arith}
 use Rattle.pol_disk.specs.Images.{overwritten}
 use Rattle.pol_disk.specs.MemDisk.{bytes_in}
 use Rattle.pol_disk.proofs.Calls.{length-overwritten}

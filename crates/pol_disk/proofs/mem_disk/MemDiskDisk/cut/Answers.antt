@@ -1,4 +1,4 @@
-use Rattle.std.proofs.Common.{◌≡◌, ◌≤◌, ℕ, List, [], ◌∷◌, ◌++◌, length, true, refl, sym, ◌∙◌, ap, subst, arith, rules, length-take}
+use Rattle.std.proofs.Common.{◌≡◌, ap, rules}
 use Rattle.pol_disk.specs.declared.call.DiskCall.TheVariants.{Cut}
 use Rattle.pol_disk.specs.MemDisk.{did}
 use Rattle.pol_disk.specs.Record.{Held}
