@@ -1,5 +1,6 @@
 -- Small policies, and what they say, for laws that compute what definitions give (`policies`).
 use Rattle.std.specs.Prelude.{ℕ, Bool, ◌+◌, ◌*◌, ◌^◌, List, [], ◌∷◌, codes, drop, map, Option, Some, option_map}
+use Rattle.pol_addr.specs.declared.address.Addr.TheVariants.{V4}
 use Rattle.pol_addr.specs.declared.network.Prefix.{Prefix}
 use Rattle.pol_mapkey.specs.declared.Word.{Word}
 use Rattle.pol_ports.specs.declared.Direction.{Direction}
@@ -54,9 +55,9 @@ sections ingress ingress_deny egress egress_deny =
     policy_of (codes "p") (in_sections (section_for ingress) (section_for ingress_deny) (section_for egress) (section_for egress_deny) ∷ [])
 
 -- under that policy alone and in that mode, the verdicts in a direction on the first two prefixes that hold a number, and
--- on the world
+-- on the world of IPv4
 abbrev pub words_in : Mode → Options → Direction → Policy → List Word
-words_in mode options dir policy = map (word_at options (SetMode mode ∷ Apply policy ∷ []) dir) (16777217 ∷ 16777218 ∷ 2 ∷ [])
+words_in mode options dir policy = map (word_at options (SetMode mode ∷ Apply policy ∷ []) dir) (16777217 ∷ 16777218 ∷ 9 ∷ [])
 
 abbrev pub words_under : Options → Direction → Policy → List Word
 words_under = words_in Default
@@ -95,7 +96,7 @@ word_for name options requests dir number =
 
 -- 10.N.M.0/24
 abbrev pub part : ℕ → ℕ → Prefix
-part n m = record { bits = 10 * 2 ^ 24 + n * 2 ^ 16 + m * 2 ^ 8; len = 24 }
+part n m = record { addr = V4 (10 * 2 ^ 24 + n * 2 ^ 16 + m * 2 ^ 8); len = 24 }
 
 -- the prefixes that hold numbers once a policy is applied, by ascending number
 abbrev pub numbers_told : Options → Policy → List (Prefix × ℕ)

@@ -1,5 +1,6 @@
 //! Which fault is told where two hold, and where numbers run out.
 ghost use Rattle.std.specs.Prelude.{◌≡◌, ◌≤◌, ◌∷◌, ◌++◌, [], ℕ, List, None, Some, codes, map, true, false};
+ghost use Rattle.pol_addr.specs.declared.family.Family.TheVariants.{Ipv4, Ipv6};
 ghost use Rattle.pol_addr.specs.Prefix.{world};
 ghost use Rattle.pol_labels.specs.declared.label.Label.{Label};
 ghost use Rattle.pol_model.specs.declared.answer.Fault.TheVariants as fault;
@@ -43,7 +44,7 @@ pub fn cluster_numbers_run_out()
 {}
 
 /// New prefixes find no numbers exactly where more than 65,535 would be held. A prefix counts once, and not where it has
-/// a number, as 0.0.0.0/0 has.
+/// a number, as 0.0.0.0/0 and ::/0 have.
 pub fn local_numbers_run_out()
     ensures none_left { (options : AllOptions) (rows : List OneRow) → locals_held rows ≡ 65535 → number_of_prefix (net 1) rows ≡ None
         → fault_of (with_identities rows (start options)) (applies (net 1 ∷ [])) ≡ Some fault.LocalExhausted }
@@ -56,5 +57,5 @@ pub fn local_numbers_run_out()
     ensures held { (options : AllOptions) (rows : List OneRow) (number : ℕ) → locals_held rows ≡ 65535 → number_of_prefix (net 1) rows ≡ Some number
         → fault_of (with_identities rows (start options)) (applies (net 1 ∷ [])) ≡ None }
     ensures everywhere { (options : AllOptions) (rows : List OneRow) → locals_held rows ≡ 65535
-        → fault_of (with_identities (reserved_identities ++ rows) (start options)) (applies (world ∷ [])) ≡ None }
+        → fault_of (with_identities (reserved_identities ++ rows) (start options)) (applies (world Ipv4 ∷ world Ipv6 ∷ [])) ≡ None }
 {}

@@ -4,5 +4,6 @@
 //! Nothing stands on this crate. Each law is the contract of a function that does nothing.
 #![tactic(auto)]
 
+pub mod families;
 pub mod faults;
 pub mod policies;

@@ -73,19 +73,19 @@ pub fn one_rule_that_says_so_is_enough()
     ensures always { (options : AllOptions) (dir : AnyDirection) → words_in AlwaysMode options dir (policy_of (codes "p") (saying (says dir false) dir first_net [] ∷ [])) ≡ Allowed ∷ DeniedByDefault ∷ DeniedByDefault ∷ [] }
     ensures never { (options : AllOptions) (dir : AnyDirection) → words_in NeverMode options dir (policy_of (codes "p") (saying (says dir true) dir [] first_net ∷ [])) ≡ Allowed ∷ Allowed ∷ Allowed ∷ [] }
     ensures init { (options : AllOptions) (dir : AnyDirection) → word_for (codes "a") options
-        (SetMode DefaultMode ∷ AddEndpoint (codes "a") (reserved (codes "init")) (host_in 1) ∷ Apply (policy_of (codes "p") (saying (says dir false) dir [] [] ∷ [])) ∷ []) dir 2 ≡ Some DeniedByDefault }
+        (SetMode DefaultMode ∷ AddEndpoint (codes "a") (reserved (codes "init")) (host_in 1) ∷ Apply (policy_of (codes "p") (saying (says dir false) dir [] [] ∷ [])) ∷ []) dir 9 ≡ Some DeniedByDefault }
 {}
 
 /// An endpoint of identity 5 is enforced in both directions by mode `default`, without any policy. Another one isn't.
 /// The local host may come in where the options say so, and nothing of it may be reached.
 pub fn init_is_enforced()
-    ensures init_in { (options : AllOptions) → word_for (codes "a") options (SetMode DefaultMode ∷ AddEndpoint (codes "a") (reserved (codes "init")) (host_in 1) ∷ []) Ingress 2 ≡ Some DeniedByDefault }
-    ensures init_out { (options : AllOptions) → word_for (codes "a") options (SetMode DefaultMode ∷ AddEndpoint (codes "a") (reserved (codes "init")) (host_in 1) ∷ []) Egress 2 ≡ Some DeniedByDefault }
-    ensures init_never { (options : AllOptions) → word_for (codes "a") options (SetMode NeverMode ∷ AddEndpoint (codes "a") (reserved (codes "init")) (host_in 1) ∷ []) Ingress 2 ≡ Some Allowed }
-    ensures other_in { (options : AllOptions) → word_for (codes "a") options (SetMode DefaultMode ∷ adds (codes "a") 1 ∷ []) Ingress 2 ≡ Some Allowed }
-    ensures other_out { (options : AllOptions) → word_for (codes "a") options (SetMode DefaultMode ∷ adds (codes "a") 1 ∷ []) Egress 2 ≡ Some Allowed }
-    ensures always_in { (options : AllOptions) → word_for (codes "a") options (SetMode AlwaysMode ∷ adds (codes "a") 1 ∷ []) Ingress 2 ≡ Some DeniedByDefault }
-    ensures always_out { (options : AllOptions) → word_for (codes "a") options (SetMode AlwaysMode ∷ adds (codes "a") 1 ∷ []) Egress 2 ≡ Some DeniedByDefault }
+    ensures init_in { (options : AllOptions) → word_for (codes "a") options (SetMode DefaultMode ∷ AddEndpoint (codes "a") (reserved (codes "init")) (host_in 1) ∷ []) Ingress 9 ≡ Some DeniedByDefault }
+    ensures init_out { (options : AllOptions) → word_for (codes "a") options (SetMode DefaultMode ∷ AddEndpoint (codes "a") (reserved (codes "init")) (host_in 1) ∷ []) Egress 9 ≡ Some DeniedByDefault }
+    ensures init_never { (options : AllOptions) → word_for (codes "a") options (SetMode NeverMode ∷ AddEndpoint (codes "a") (reserved (codes "init")) (host_in 1) ∷ []) Ingress 9 ≡ Some Allowed }
+    ensures other_in { (options : AllOptions) → word_for (codes "a") options (SetMode DefaultMode ∷ adds (codes "a") 1 ∷ []) Ingress 9 ≡ Some Allowed }
+    ensures other_out { (options : AllOptions) → word_for (codes "a") options (SetMode DefaultMode ∷ adds (codes "a") 1 ∷ []) Egress 9 ≡ Some Allowed }
+    ensures always_in { (options : AllOptions) → word_for (codes "a") options (SetMode AlwaysMode ∷ adds (codes "a") 1 ∷ []) Ingress 9 ≡ Some DeniedByDefault }
+    ensures always_out { (options : AllOptions) → word_for (codes "a") options (SetMode AlwaysMode ∷ adds (codes "a") 1 ∷ []) Egress 9 ≡ Some DeniedByDefault }
     ensures host_in { word_for (codes "a") (record { mode = AlwaysMode; localhost = true; map_max = None }) (adds (codes "a") 1 ∷ []) Ingress 1 ≡ Some Allowed }
     ensures host_out { word_for (codes "a") (record { mode = AlwaysMode; localhost = true; map_max = None }) (adds (codes "a") 1 ∷ []) Egress 1 ≡ Some DeniedByDefault }
     ensures host_by_policy { word_for (codes "a") (record { mode = AlwaysMode; localhost = false; map_max = None }) (adds (codes "a") 1 ∷ []) Ingress 1 ≡ Some DeniedByDefault }
