@@ -85,7 +85,7 @@ pub fn requests_are_refused()
     ensures place_before_address { (options : AllOptions) → fault_of (with_endpoints 256 (start options)) (adds (codes "b") 1) ≡ Some fault.EndpointsFull }
 {}
 
-/// An address is that of its endpoint, else of the longest prefix around it, else of the world.
+/// An address is that of its endpoint, else of the longest prefix around it, else of the world of its family.
 pub fn addresses_have_numbers()
     ensures endpoint { (options : AllOptions) → address_number (state_of options (adds (codes "a") 1 ∷ Apply (lets_in (codes "p") (wide ∷ net 1 ∷ [])) ∷ [])) 1 ≡ 256 }
     ensures longest { (options : AllOptions) → address_number (state_of options (Apply (lets_in (codes "p") (wide ∷ net 1 ∷ [])) ∷ [])) 1 ≡ 16777218 }

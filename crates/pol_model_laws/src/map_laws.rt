@@ -105,7 +105,7 @@ pub fn words_of_addresses()
     ensures cluster_outside { word_after (codes "web") cluster_let_in Ingress (addr_of_octets 11 0 0 1) ≡ Some DeniedByDefault }
 {}
 
-/// An address has the number of its endpoint, else of the longest held prefix around it, else of the world.
+/// An address has the number of its endpoint, else of the longest held prefix around it, else of the world of its family.
 pub fn numbers_of_addresses()
     ensures endpoint { number_after net_without_part (addr_of_octets 192 168 0 1) ≡ 256 }
     ensures inside { number_after net_without_part (addr_of_octets 10 0 0 1) ≡ 16777217 }
