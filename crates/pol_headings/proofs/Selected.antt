@@ -6,10 +6,10 @@ use Rattle.std.specs.Cmp.Lexicographic.{bytes_decides}
 use Rattle.std.specs.Str.{bytes_eq}
 use Rattle.std.proofs.lemmas.Bool.{and_from, and_parts, eq-eqb, eqb-true, or_cases, or_left, or_right}
 use Rattle.std.proofs.lemmas.Option.{same_Some}
-use Rattle.pol_addr.specs.Cidr.{network}
+use Rattle.pol_addr.specs.Cidr.{cleared}
 use Rattle.pol_addr.specs.Prefix.{covers}
 use Rattle.pol_addr.specs.declared.network.Prefix.{Prefix}
-use Rattle.pol_addr.proofs.Blocks.{network-network}
+use Rattle.pol_addr.proofs.ByFamily.{cleared-cleared}
 use Rattle.pol_addr.proofs.Containment.{covers-parts, covers_from}
 use Rattle.pol_headings.specs.Heading.{heading_of, heading_of_entity, heading_of_labels, label_heading, names_one, reserved_heading, same_heading, under_first, whole_octets}
 use Rattle.pol_headings.specs.Stands.{is_whole, stands_under, stands_with}
@@ -100,10 +100,10 @@ labels_under selector labels own matched = by (find names_one selector) refl
 -- ---- what lies in a prefix lies in its first whole octets
 pub covers_octets : (p q : Prefix) → covers p q ≡ true → covers (whole_octets p) q ≡ true
 covers_octets p q over =
-    let (short, bits) = covers-parts p q over in
+    let (short, addr) = covers-parts p q over in
     let shorter : p.len / 8 * 8 ≤ p.len = omega arith in
     covers_from (whole_octets p) q (omega (arith, short, shorter))
-    (sym (network-network (p.len / 8 * 8) p.len q.bits shorter) ∙ ap (network (p.len / 8 * 8)) bits)
+    (sym (cleared-cleared (p.len / 8 * 8) p.len q.addr shorter) ∙ ap (cleared (p.len / 8 * 8)) addr)
 
 prefix_under : (p : Prefix) (own : Option Prefix) → option_map_or (covers p) own false ≡ true → option_map_or (covers (whole_octets p)) own false ≡ true
 prefix_under p None selected = absurd (let wrong : ⊥ = cc in wrong)

@@ -91,7 +91,7 @@ impl Headings {
         }
     }
 
-    /// The prefixes of whole octets in which this one lies, five at most.
+    /// The prefixes of whole octets in which this one lies.
     fn add_octets(&mut self, prefix: &Prefix) -> Result<(), Memory>
         ensures { OnOk result ((other : OneHeading) → is_among self.new other ≡ (is_among self.old other || is_octets prefix.now (prefix.now.len / 8 + 1) other)) }
     {

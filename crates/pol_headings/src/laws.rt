@@ -56,7 +56,7 @@ pub fn prefixes_stand_under_whole_octets()
     ensures longest { (p : OnePrefix) → p.len < (whole_octets p).len + 8 }
 {}
 
-/// All entities but two stand under a label.
+/// All entities but three stand under a label.
 pub fn entities_stand_under_labels()
-    ensures { (e : OneEntity) → heading_of (peer.Entity e) ≡ heading.Any → (e ≡ entity.All) ⊎ (e ≡ entity.Cluster) }
+    ensures { (e : OneEntity) → heading_of (peer.Entity e) ≡ heading.Any → (e ≡ entity.All) ⊎ (e ≡ entity.World) ⊎ (e ≡ entity.Cluster) }
 {}
