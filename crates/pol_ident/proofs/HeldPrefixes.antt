@@ -1,36 +1,39 @@
 -- A prefix and the rows: what its number is, and what the rows are once it is held.
-use Rattle.std.proofs.Common.{◌≡◌, ◌≢◌, ℕ, ◌+◌, ◌-◌, ◌<◌, ◌≤◌, Bool, true, false, cond, List, [], ◌∷◌, ◌++◌, count_by, is_some, length, Option, None, Some, inl, inr, refl, sym, ap, subst, ◌∙◌, arith}
-use Rattle.std.specs.Prelude.{codes}
-use Rattle.std.proofs.lemmas.Bool.{both_ways, le-leb, lt-leb}
+use Rattle.std.proofs.Common.{◌≡◌, ◌≢◌, ℕ, ◌+◌, ◌-◌, ◌<◌, ◌≤◌, Bool, true, false, cond, List, [], ◌∷◌, ◌++◌, count_by, nat_le, is_some, length, Option, None, Some, inl, inr, refl, sym, ap, subst, ◌∙◌, arith}
+use Rattle.std.proofs.lemmas.Bool.{and_parts, both_ways, le-leb, leb-true, lt-leb}
+use Rattle.std.proofs.lemmas.Option.{same_Some}
 use Rattle.std.proofs.lemmas.List.Sums.{sum_by-cons}
 use Rattle.pol_addr.specs.Cidr.{IsPrefix}
 use Rattle.pol_addr.specs.Prefix.{world}
+use Rattle.pol_addr.specs.declared.family.Family.{Family}
 use Rattle.pol_addr.specs.contracts.network.PrefixPartialEq.TheImpl as prefixes
 use Rattle.pol_addr.specs.declared.network.Prefix.{Prefix}
 use Rattle.pol_addr.proofs.Equality.{prefix_eq-Decides}
 use Rattle.pol_labels.specs.declared.label.Label.{Label}
-use Rattle.pol_data.proofs.Members.{In, Contains-from_In, every-in}
-use Rattle.pol_model.specs.declared.limits.TheConstants.{CLUSTER_FIRST, CLUSTER_IDENTITIES, LOCAL_FIRST, LOCAL_IDENTITIES, WORLD_IDENTITY}
+use Rattle.pol_data.proofs.Members.{In, Contains-from_In, In-from_Contains, every-in}
+use Rattle.pol_model.specs.declared.limits.TheConstants.{CLUSTER_FIRST, CLUSTER_IDENTITIES, LOCAL_FIRST, LOCAL_IDENTITIES, RESERVED_LAST}
 use Rattle.pol_model.specs.declared.row.IdentityRow.{IdentityRow}
 use Rattle.pol_model.specs.Fault.{locals_held}
-use Rattle.pol_model.specs.Identities.{free_number, held_or_new, is_local, or_free, released, reserved_identities, reserved_row, with_holder}
+use Rattle.pol_model.specs.Identities.{free_number, held_or_new, is_local, or_free, released, reserved_identities, with_holder}
 use Rattle.pol_model.specs.Numbers.{placed_by}
 use Rattle.pol_model.specs.Prefixes.{has_prefix, number_of_prefix, prefix_held, prefix_row}
-use Rattle.pol_model.specs.Worlds.{world_around, world_labels}
+use Rattle.pol_model.specs.Worlds.{world_around, world_in, world_labels}
 use Rattle.pol_model_laws.specs.Keeps.{KeepsRows}
-use Rattle.pol_model_laws.proofs.FoundRows.{found-prefix, found_with, locals-few, reserved-there}
+use Rattle.pol_model_laws.proofs.FoundRows.{found-prefix, found_with, locals-few, reserved-there, row-kinds}
 use Rattle.pol_model_laws.proofs.Keyed.{placed_behind}
 use Rattle.pol_model_laws.proofs.Ledger.{has_prefix-is}
 use Rattle.pol_model_laws.proofs.Membership.{In-append, In-right}
 use Rattle.pol_model_laws.proofs.PrefixHolders.{least_free-within}
 use Rattle.pol_model_laws.proofs.RowLaws.{keep_prefix}
+use Rattle.pol_model_laws.proofs.StartRows.{start_row}
 use Rattle.pol_ident.specs.Look.{number_for_prefix}
-use Rattle.pol_ident.specs.Rows.{IsIdentities, cluster_rows, local_rows, row_with, rows_of, rows_then}
-use Rattle.pol_interner.specs.Slots.{HasNone, HasPlace, Slot, changed, filled, free_place, one_less, one_more}
+use Rattle.pol_ident.specs.Rows.{ArePrefixes, IsIdentities, cluster_rows, local_rows, row_with, rows_of, rows_then}
+use Rattle.pol_interner.specs.Slots.{HasNone, HasPlace, Slot, changed, filled, free_place, one_less, one_more, slot_at}
 use Rattle.pol_ident.proofs.HeldLabels.{plain, unreserved, without}
 use Rattle.pol_ident.proofs.RowLists.{AreHeld, recounted-reserved}
 use Rattle.pol_interner.proofs.SlotLengths.{length-changed, length-filled}
 use Rattle.pol_ident.proofs.RowsOf.{AllBelow, In-here, In-past, In-slots, held-behind, held-past, less-front, more-front, reserved-below}
+use Rattle.pol_ident.proofs.WorldRows.{world-prefix, world-reserved, world-there, world_row}
 use Rattle.pol_ident.proofs.SlotRows.{free-here, free-past, less-here, less-past, more-here, more-past, placed-here, placed-past}
 
 abbrev pub worlds : Prefix → List Label
@@ -139,7 +142,7 @@ pub record IsHeld (prefix : Prefix) (reserved rows : List IdentityRow) (n : ℕ)
 reserved_prefix : (row : IdentityRow) → In row reserved_identities → (prefix : Prefix) → row.prefix ≡ Some prefix → prefix.len ≡ 0
 reserved_prefix = every-in (λ row. (prefix : Prefix) → row.prefix ≡ Some prefix → prefix.len ≡ 0) reserved_identities (
   (λ p e. cc),
-  ((λ p e. cc), ((λ p e. cc), ((λ p e. cc), ((λ p e. cc), ((λ p e. cc), ((λ p e. cc), ((λ p e. cc), tt))))))),
+  ((λ p e. cc), ((λ p e. cc), ((λ p e. cc), ((λ p e. cc), ((λ p e. cc), ((λ p e. cc), ((λ p e. cc), ((λ p e. cc), ((λ p e. cc), tt))))))))),
 )
 
 module _ (reserved : List IdentityRow) (cluster : List (Slot (List Label))) (local : List (Slot Prefix)) (known : IsIdentities reserved cluster local) (prefix : Prefix) where
@@ -158,11 +161,15 @@ module _ (reserved : List IdentityRow) (cluster : List (Slot (List Label))) (loc
       some_is_none : {n : ℕ} → Some n ≡ None → ⊥
       some_is_none e = cc
 
+  -- the row of a place
+  place-row : (place : ℕ) (own : Prefix × ℕ) → slot_at local place ≡ Some own → In (row_with worlds Some (LOCAL_FIRST + place) own) old
+  place-row place own at =
+      In-right _ reserved_identities _ (In-past plain without (row_with worlds Some (LOCAL_FIRST + place) own) CLUSTER_FIRST cluster (local_rows local) (In-here worlds Some (LOCAL_FIRST + place) LOCAL_FIRST place local [] own refl at))
+
   -- the prefix has a place
   pub place-found : (place : ℕ) → HasPlace prefixes.ghosts.eq prefix local place → number_of_prefix prefix old ≡ Some (LOCAL_FIRST + place)
   place-found place has =
-      let there = In-right _ reserved_identities _ (In-past plain without (row_with worlds Some (LOCAL_FIRST + place) has.0) CLUSTER_FIRST cluster (local_rows local) (In-here worlds Some (LOCAL_FIRST + place) LOCAL_FIRST place local [] has.0 refl has.1)) in
-      found-prefix old known.keeps (row_with worlds Some (LOCAL_FIRST + place) has.0) prefix (Contains-from_In old _ there) (sym (ap Some ((prefix_eq-Decides prefix has.0.0).0 has.2)))
+      found-prefix old known.keeps (row_with worlds Some (LOCAL_FIRST + place) has.0) prefix (Contains-from_In old _ (place-row place has.0 has.1)) (sym (ap Some ((prefix_eq-Decides prefix has.0.0).0 has.2)))
 
   pub hold-found : (place : ℕ) → HasPlace prefixes.ghosts.eq prefix local place → IsPrefix prefix → IsHeld prefix reserved old (LOCAL_FIRST + place) cluster (changed one_more place local)
   hold-found place has within =
@@ -235,17 +242,31 @@ module _ (reserved : List IdentityRow) (cluster : List (Slot (List Label))) (loc
       let within = least_free-within (λ row. row.number) LOCAL_FIRST old in
       (omega (arith, number, within, least, full, locals-few old known.keeps), none-found none long)
 
-  -- the world's
-  pub world-found : prefix ≡ world → number_of_prefix prefix old ≡ Some WORLD_IDENTITY
-  world-found same = found-prefix old known.keeps (reserved_row WORLD_IDENTITY (codes "world")) prefix (reserved-there old known.keeps _ (1, omega arith, refl)) (sym (ap Some same))
+  -- a world's
+  pub world-found : (f : Family) → prefix ≡ world f → number_of_prefix prefix old ≡ Some (world_in f).identity
+  world-found f same = found-prefix old known.keeps (world_row f) prefix (reserved-there old known.keeps _ (world-there f)) (world-prefix f ∙ sym (ap Some same))
 
-  pub hold-world : prefix ≡ world → IsHeld prefix reserved old WORLD_IDENTITY cluster local
-  hold-world same =
-      let found = world-found same in
-      let told = number-found WORLD_IDENTITY found in
+  pub hold-world : (f : Family) → prefix ≡ world f → IsHeld prefix reserved old (world_in f).identity cluster local
+  hold-world f same =
+      let found = world-found f same in
+      let told = number-found (world_in f).identity found in
       record {
         number = told.0;
-        is = sym (recounted-reserved WORLD_IDENTITY (λ count. count + 1) old refl) ∙ told.1;
-        room = some_room WORLD_IDENTITY found;
+        is = sym (recounted-reserved (world_in f).identity (λ count. count + 1) old (world-reserved f)) ∙ told.1;
+        room = some_room (world_in f).identity found;
         kept = known;
       }
+
+-- the prefix of each place is one
+pub are_prefixes : (reserved : List IdentityRow) (cluster : List (Slot (List Label))) (local : List (Slot Prefix)) → IsIdentities reserved cluster local → ArePrefixes local
+are_prefixes reserved cluster local known place own at =
+    let rows : List IdentityRow = rows_of cluster local in
+    let row : IdentityRow = row_with worlds Some (LOCAL_FIRST + place) own in
+    elim (row-kinds rows known.keeps row (Contains-from_In rows row (place-row reserved cluster local known own.0 place own at))) [
+      | inl first ↦
+          let is = (start_row row (In-from_Contains reserved_identities row first)).reserved.is in
+          let upto = leb-true (LOCAL_FIRST + place) RESERVED_LAST (and_parts (nat_le 1 (LOCAL_FIRST + place)) (nat_le (LOCAL_FIRST + place) RESERVED_LAST) is).1 in
+          absurd (omega (arith, upto))
+      | inr (inl one) ↦ absurd (let wrong : Some own.0 ≡ None = one.no_prefix in cc)
+      | inr (inr one) ↦ subst IsPrefix (sym (same_Some own.0 one.own one.prefix)) one.within
+    ]

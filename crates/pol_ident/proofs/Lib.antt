@@ -8,3 +8,4 @@ pub mod RowsOf
 pub mod Selected
 pub mod SlotRows
 pub mod StandUnder
+pub mod WorldRows

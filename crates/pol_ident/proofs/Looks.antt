@@ -35,7 +35,9 @@ module _ (cluster : List (Slot (List Label))) (local : List (Slot Prefix)) where
   reserved-at (suc (suc (suc (suc (suc zero))))) row less = refl
   reserved-at (suc (suc (suc (suc (suc (suc zero)))))) row less = refl
   reserved-at (suc (suc (suc (suc (suc (suc (suc zero))))))) row less = refl
-  reserved-at (suc (suc (suc (suc (suc (suc (suc (suc place)))))))) row less = absurd (omega (arith, less))
+  reserved-at (suc (suc (suc (suc (suc (suc (suc (suc zero)))))))) row less = refl
+  reserved-at (suc (suc (suc (suc (suc (suc (suc (suc (suc zero))))))))) row less = refl
+  reserved-at (suc (suc (suc (suc (suc (suc (suc (suc (suc (suc place)))))))))) row less = absurd (omega (arith, less))
 
   pub reserved-row : (number place : ℕ) (row : IdentityRow) → IsPlaceOf number (Reserved place) → row_of number all ≡ Some (get_or reserved_identities place row)
   reserved-row number place row is = ap (λ n. row_of n all) is.0 ∙ reserved-at place row is.1

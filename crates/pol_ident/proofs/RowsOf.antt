@@ -18,7 +18,7 @@ abbrev pub AllBelow : ℕ → List IdentityRow → Type 0
 AllBelow n rows = AllByRecursion (λ row. row.number < n) rows
 
 pub reserved-below : (n : ℕ) → RESERVED_LAST < n → AllBelow n reserved_identities
-reserved-below n past = (omega (arith, past), (omega (arith, past), (omega (arith, past), (omega (arith, past), (omega (arith, past), (omega (arith, past), (omega (arith, past), (omega (arith, past), tt))))))))
+reserved-below n past = (omega (arith, past), (omega (arith, past), (omega (arith, past), (omega (arith, past), (omega (arith, past), (omega (arith, past), (omega (arith, past), (omega (arith, past), (omega (arith, past), (omega (arith, past), tt))))))))))
 
 module _ (n : ℕ) where
   -- rows in front stay

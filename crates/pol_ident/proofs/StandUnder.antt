@@ -1,16 +1,31 @@
 -- The rows that stand under a heading, kind by kind.
-use Rattle.std.proofs.Common.{◌≡◌, ℕ, ◌+◌, Bool, true, false, cond, List, [], ◌∷◌, ◌++◌, filter, Option, None, Some, refl, sym, ap, ◌∙◌}
+use Rattle.std.proofs.Common.{suc, ◌≡◌, ℕ, ◌+◌, Bool, true, false, cond, codes, List, [], ◌∷◌, ◌++◌, filter, Option, None, Some, inl, inr, refl, sym, ap, ◌∙◌}
+use Rattle.std.specs.Cmp.Lexicographic.{bytes_decides}
+use Rattle.std.specs.Str.{bytes_eq}
+use Rattle.std.proofs.lemmas.Bool.{and_parts, or_cases}
 use Rattle.std.proofs.lemmas.List.{append-nil, append_assoc, map-append}
 use Rattle.std.proofs.lemmas.List.Elements.{filter-append}
+use Rattle.pol_addr.specs.Address.{family_of}
+use Rattle.pol_addr.specs.Cidr.{IsPrefix}
+use Rattle.pol_addr.specs.Prefix.{covers, world}
+use Rattle.pol_addr.specs.declared.family.Family.{Family}
+use Rattle.pol_addr.specs.declared.family.Family.TheVariants.{Ipv4, Ipv6}
 use Rattle.pol_addr.specs.declared.network.Prefix.{Prefix}
+use Rattle.pol_addr.proofs.ByFamily.{family_of-addr_in}
+use Rattle.pol_addr.proofs.Containment.{covers-family}
+use Rattle.pol_addr.proofs.World.{covers-world}
 use Rattle.pol_headings.specs.declared.heading.Heading.{Heading}
+use Rattle.pol_headings.specs.declared.heading.Heading.TheVariants.{Label as ByLabel}
+use Rattle.pol_headings.specs.Heading.{label_heading, same_heading}
 use Rattle.pol_headings.specs.Stands.{stands_under, stands_with}
+use Rattle.pol_label_sets.specs.Carried.{carries_heading}
 use Rattle.pol_labels.specs.declared.label.Label.{Label}
 use Rattle.pol_model.specs.declared.limits.TheConstants.{CLUSTER_FIRST, LOCAL_FIRST}
 use Rattle.pol_model.specs.declared.row.IdentityRow.{IdentityRow}
 use Rattle.pol_model.specs.Identities.{reserved_identities}
-use Rattle.pol_interner.specs.Slots.{Slot, numbers_from, numbers_where}
-use Rattle.pol_ident.specs.Rows.{cluster_rows, local_rows, row_with, rows_of, rows_then}
+use Rattle.pol_model.specs.Worlds.{reserved_label, world_in, world_labels}
+use Rattle.pol_interner.specs.Slots.{Slot, numbers_from, numbers_where, slot_at}
+use Rattle.pol_ident.specs.Rows.{ArePrefixes, cluster_rows, local_rows, row_with, rows_of, rows_then}
 use Rattle.pol_ident.proofs.HeldLabels.{plain, without}
 use Rattle.pol_ident.proofs.HeldPrefixes.{worlds}
 use Rattle.pol_ident.proofs.RowLists.{numbers}
@@ -26,11 +41,64 @@ none-where first [] = refl
 none-where first (None ∷ slots) = none-where (first + 1) slots
 none-where first (Some own ∷ slots) = none-where (first + 1) slots
 
-pub all_so-where : {K : Type 0} (first : ℕ) (slots : List (Slot K)) (b : Bool) → b ≡ true → numbers_where first (λ key. b) slots ≡ numbers_from first slots
-all_so-where first slots b so = ap (λ x. numbers_where first (λ key. x) slots) so ∙ all-where first slots
+-- a test that tells the same of each key
+pub same-where : {K : Type 0} (p q : K → Bool) (first : ℕ) (slots : List (Slot K)) → ((place : ℕ) (own : K × ℕ) → slot_at slots place ≡ Some own → p own.0 ≡ q own.0) → numbers_where first p slots ≡ numbers_where first q slots
+same-where p q first [] same = refl
+same-where p q first (None ∷ slots) same = same-where p q (first + 1) slots (λ place own at. same (suc place) own at)
+same-where p q first (Some own ∷ slots) same =
+    let rest = same-where p q (first + 1) slots (λ place other at. same (suc place) other at) in
+    let here = same 0 own refl in
+    λ i. cond (here i) (first ∷ rest i) (rest i)
 
-pub none_so-where : {K : Type 0} (first : ℕ) (slots : List (Slot K)) (b : Bool) → b ≡ false → numbers_where first (λ key. b) slots ≡ []
-none_so-where first slots b so = ap (λ x. numbers_where first (λ key. x) slots) so ∙ none-where first slots
+-- ---- the prefixes of a family, which have its world's label
+abbrev has_world : Family → List ℕ → List ℕ → Bool
+has_world f key value = carries_heading (ByLabel key value) (world_labels (world_in f))
+
+-- one label is of one family alone
+apart : (key value : List ℕ) → has_world Ipv4 key value ≡ true → has_world Ipv6 key value ≡ true → ⊥
+apart key value first second =
+    let one : codes "world-ipv4" ≡ key = named (codes "world-ipv4") first in
+    let other : codes "world-ipv6" ≡ key = named (codes "world-ipv6") second in
+    let wrong : bytes_eq (codes "world-ipv4") (codes "world-ipv6") ≡ true = (bytes_decides (codes "world-ipv4") (codes "world-ipv6")).1 (one ∙ sym other) in
+    cc
+  where
+    named : (name : List ℕ) → carries_heading (ByLabel key value) (reserved_label name ∷ []) ≡ true → name ≡ key
+    named name has =
+        elim (or_cases (same_heading (label_heading (reserved_label name)) (ByLabel key value)) false has) [
+          | inl same ↦ (bytes_decides name key).0 (and_parts (bytes_eq name key) _ same).0
+          | inr wrong ↦ absurd (let no : ⊥ = cc in no)
+        ]
+
+one_family : (f g : Family) (key value : List ℕ) → has_world f key value ≡ true → has_world g key value ≡ true → f ≡ g
+one_family Ipv4 Ipv4 key value first second = refl
+one_family Ipv4 Ipv6 key value first second = absurd (apart key value first second)
+one_family Ipv6 Ipv4 key value first second = absurd (apart key value second first)
+one_family Ipv6 Ipv6 key value first second = refl
+
+same_truth : (a b : Bool) → (a ≡ true → b ≡ true) → (b ≡ true → a ≡ true) → a ≡ b
+same_truth true b to from = sym (to refl)
+same_truth false true to from = from refl
+same_truth false false to from = refl
+
+labelled : (f : Family) (key value : List ℕ) → has_world f key value ≡ true → (prefix : Prefix) → IsPrefix prefix → covers (world f) prefix ≡ carries_heading (ByLabel key value) (worlds prefix)
+labelled f key value has prefix valid =
+    same_truth _ _
+    (λ over.
+    let same : family_of prefix.addr ≡ f = covers-family (world f) prefix over ∙ family_of-addr_in f 0 in
+    ap (λ g. has_world g key value) same ∙ has)
+    (λ own.
+    let same : f ≡ family_of prefix.addr = one_family f (family_of prefix.addr) key value has own in
+    ap (λ g. covers (world g) prefix) same ∙ covers-world prefix valid)
+
+pub family-where : (f : Family) (key value : List ℕ) → has_world f key value ≡ true → (first : ℕ) (slots : List (Slot Prefix)) → ArePrefixes slots
+    → numbers_where first (covers (world f)) slots ≡ numbers_where first (λ prefix. stands_with (worlds prefix) (Some prefix) (ByLabel key value)) slots
+family-where f key value has first slots valid =
+    same-where (covers (world f)) (λ prefix. carries_heading (ByLabel key value) (worlds prefix)) first slots (λ place own at. labelled f key value has own.0 (valid place own at))
+
+pub no_family-where : (key value : List ℕ) → ((f : Family) → has_world f key value ≡ false) → (first : ℕ) (slots : List (Slot Prefix))
+    → numbers_where first (λ prefix. stands_with (worlds prefix) (Some prefix) (ByLabel key value)) slots ≡ []
+no_family-where key value none first slots =
+    same-where (λ prefix. carries_heading (ByLabel key value) (worlds prefix)) (λ prefix. false) first slots (λ place own at. none (family_of own.0.addr)) ∙ none-where first slots
 
 -- ---- the rows
 module _ (heading : Heading) where

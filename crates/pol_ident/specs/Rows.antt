@@ -1,6 +1,7 @@
 -- The rows of identities that slots stand for: the reserved ones, then those of label sets, then those of prefixes.
 -- No public clause cites this module.
 use Rattle.std.specs.Prelude.{ℕ, ◌≡◌, ◌+◌, ◌≤◌, List, [], ◌∷◌, ◌++◌, length, Option, Some, None}
+use Rattle.pol_addr.specs.Cidr.{IsPrefix}
 use Rattle.pol_addr.specs.declared.network.Prefix.{Prefix}
 use Rattle.pol_labels.specs.declared.label.Label.{Label}
 use Rattle.pol_model.specs.declared.limits.TheConstants.{CLUSTER_FIRST, CLUSTER_IDENTITIES, LOCAL_FIRST, LOCAL_IDENTITIES}
@@ -8,7 +9,7 @@ use Rattle.pol_model.specs.declared.row.IdentityRow.{IdentityRow}
 use Rattle.pol_model.specs.Identities.{reserved_identities}
 use Rattle.pol_model.specs.Worlds.{world_around, world_labels}
 use Rattle.pol_model_laws.specs.Keeps.{KeepsRows}
-use Rattle.pol_interner.specs.Slots.{Slot}
+use Rattle.pol_interner.specs.Slots.{Slot, slot_at}
 
 module _ {K : Type 0} (labels : K → List Label) (prefix : K → Option Prefix) where
   -- the row of a key under a number
@@ -23,6 +24,10 @@ module _ {K : Type 0} (labels : K → List Label) (prefix : K → Option Prefix)
 
 abbrev pub local_rows : List (Slot Prefix) → List IdentityRow
 local_rows slots = rows_then (λ prefix. world_labels (world_around prefix)) Some LOCAL_FIRST slots []
+
+-- the prefix of each place is one
+abbrev pub ArePrefixes : List (Slot Prefix) → Type 0
+ArePrefixes slots = (place : ℕ) (own : Prefix × ℕ) → slot_at slots place ≡ Some own → IsPrefix own.0
 
 abbrev pub cluster_rows : List (Slot (List Label)) → List IdentityRow → List IdentityRow
 cluster_rows slots rest = rows_then (λ labels. labels) (λ _. None) CLUSTER_FIRST slots rest

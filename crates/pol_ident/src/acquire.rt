@@ -10,8 +10,8 @@ use crate::{IdentError, Identities};
 use pol_addr::Prefix;
 use pol_labels::LabelSet;
 use pol_model::{
-    CLUSTER_FIRST, CLUSTER_IDENTITIES, INIT_IDENTITY, LOCAL_FIRST, LOCAL_IDENTITIES,
-    WORLD_IDENTITY, is_init,
+    CLUSTER_FIRST, CLUSTER_IDENTITIES, INIT_IDENTITY, LOCAL_FIRST, LOCAL_IDENTITIES, is_init,
+    world_identity,
 };
 
 impl Identities {
@@ -48,8 +48,8 @@ impl Identities {
     }
 
     /// Gives the prefix's number and adds one holder: its own, else the least free one of 16777217 to 16842751 (Cilium,
-    /// Terminology, "Identity", local identities; which free number is profile). The prefix 0.0.0.0/0 has the reserved
-    /// number 2, whose row stays as it is.
+    /// Terminology, "Identity", local identities; which free number is profile). The prefixes 0.0.0.0/0 and ::/0 have the
+    /// reserved numbers 9 and 10, whose rows stay as they are.
     ///
     /// `Exhausted` comes exactly where all of these numbers are held and the prefix has none. `Memory` is want of
     /// memory, or a count of holders at its end. After an error the identities are as before.
@@ -66,7 +66,7 @@ impl Identities {
                 self.local.hold(place)?;
                 Ok(LOCAL_FIRST + place)
             }
-            None if len == 0 => Ok(WORLD_IDENTITY),
+            None if len == 0 => Ok(world_identity(prefix.network().family())),
             None => {
                 let place = self.local.free_place();
                 if place >= LOCAL_IDENTITIES {

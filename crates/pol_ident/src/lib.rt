@@ -15,6 +15,7 @@ mod prefixes;
 mod release;
 mod select;
 mod under;
+mod worlds;
 
 pub use error::IdentError;
 pub use identities::Identities;

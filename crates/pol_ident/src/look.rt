@@ -9,7 +9,6 @@ use crate::Identities;
 use crate::place::{NumberPlace, place_of};
 use pol_addr::Prefix;
 use pol_labels::LabelSet;
-use pol_model::WORLD_IDENTITY;
 
 impl Identities {
     /// The labels and the prefix of the number.
@@ -29,8 +28,8 @@ impl Identities {
             },
             NumberPlace::Local(place) => match self.local.key_at(place) {
                 Some(prefix) => {
-                    let world = &self.reserved[WORLD_IDENTITY as usize - 1];
-                    Some((&world.labels, Some(*prefix)))
+                    let labels = self.world_labels(prefix.network().family());
+                    Some((labels, Some(*prefix)))
                 }
                 None => None,
             },

@@ -6,10 +6,10 @@ ghost use Rattle.pol_model_laws.specs.Keeps.{KeepsRows};
 
 use crate::Identities;
 use pol_addr::Prefix;
-use pol_model::{LOCAL_FIRST, WORLD_IDENTITY};
+use pol_model::{LOCAL_FIRST, world_identity};
 
 impl Identities {
-    /// The number of the prefix, where it has one. It takes no memory.
+    /// The number of the prefix, where it has one; 0.0.0.0/0 has 9 and ::/0 has 10. It takes no memory.
     pub fn number_of_prefix(&self, prefix: &Prefix) -> Option<u32>
         ensures number { result ≡ number_of_prefix prefix.now self.now }
         ensures sound { KeepsRows self.now }
@@ -17,7 +17,7 @@ impl Identities {
         let len = prefix.len();
         match self.local.find(prefix) {
             Some(place) => Some(LOCAL_FIRST + place),
-            None if len == 0 => Some(WORLD_IDENTITY),
+            None if len == 0 => Some(world_identity(prefix.network().family())),
             None => None,
         }
     }

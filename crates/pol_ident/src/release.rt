@@ -9,7 +9,7 @@ use crate::place::{NumberPlace, place_of};
 
 impl Identities {
     /// Takes one holder away from the number, which is held. With its last holder the identity goes, and its number is
-    /// free. The reserved numbers 1 to 8 stay as they are. It takes no memory.
+    /// free. The reserved numbers 1 to 10 stay as they are. It takes no memory.
     pub fn release(&mut self, number: u32)
         requires held { has_row number self.old ≡ true }
         ensures rows { self.new ≡ released number self.old }

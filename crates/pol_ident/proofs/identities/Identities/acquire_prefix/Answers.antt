@@ -1,5 +1,7 @@
-use Rattle.std.proofs.Common.{refl, sym, ◌∙◌}
+use Rattle.std.proofs.Common.{refl, sym, ap, ◌∙◌}
 use Rattle.pol_ident.proofs.HeldPrefixes.{hold-found, hold-full, hold-new, hold-world}
+use Rattle.pol_addr.specs.Address.{family_of}
+use Rattle.pol_model.specs.Worlds.{world_in}
 use Rattle.pol_addr.proofs.World.{world_from_len}
 use Rattle.pol_ident.proofs.Refusals.{memory_only}
 use Rattle.pol_ident.proofs.identities.Identities.acquire_prefix.Goals as goal
@@ -35,14 +37,16 @@ returns-in_ok-hold-in-Some-clause-sound c = (invariant_of-self-in-Some c).keeps
 
 -- the world's
 pub returns-in-None-clause-number : goal.returns-in-None-clause-number
-returns-in-None-clause-number c = rw (← c.self.view_is) (hold-world _ _ _ c.self.invariant c.args.prefix (world_from_len c.args.prefix c.len-len.ensures.valid (sym c.len-len.ensures.value ∙ c.if-len-eq0.true))).number
+returns-in-None-clause-number c =
+    let own = c.world_identity.ensures.identity ∙ ap (λ f. (world_in f).identity) (c.family.ensures.value ∙ ap family_of c.network.ensures.value) in
+    rw (← c.self.view_is) (own ∙ (hold-world _ _ _ c.self.invariant c.args.prefix (family_of c.args.prefix.addr) (world_from_len c.args.prefix c.len-len.ensures.valid (sym c.len-len.ensures.value ∙ c.if-len-eq0.true))).number)
 
 pub returns-in-None-clause-ok : goal.returns-in-None-clause-ok
-returns-in-None-clause-ok c = rw (← c.self.view_is) (hold-world _ _ _ c.self.invariant c.args.prefix (world_from_len c.args.prefix c.len-len.ensures.valid (sym c.len-len.ensures.value ∙ c.if-len-eq0.true))).is
+returns-in-None-clause-ok c = rw (← c.self.view_is) (hold-world _ _ _ c.self.invariant c.args.prefix (family_of c.args.prefix.addr) (world_from_len c.args.prefix c.len-len.ensures.valid (sym c.len-len.ensures.value ∙ c.if-len-eq0.true))).is
 
 pub returns-in-None-clause-exhausted : goal.returns-in-None-clause-exhausted
 returns-in-None-clause-exhausted c =
-    let held = hold-world _ _ _ c.self.invariant c.args.prefix (world_from_len c.args.prefix c.len-len.ensures.valid (sym c.len-len.ensures.value ∙ c.if-len-eq0.true)) in
+    let held = hold-world _ _ _ c.self.invariant c.args.prefix (family_of c.args.prefix.addr) (world_from_len c.args.prefix c.len-len.ensures.valid (sym c.len-len.ensures.value ∙ c.if-len-eq0.true)) in
     rw (← c.self.view_is) (λ e. absurd cc, λ full. absurd (held.room full))
 
 -- no number is free

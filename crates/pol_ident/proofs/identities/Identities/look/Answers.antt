@@ -1,4 +1,6 @@
-use Rattle.std.proofs.Common.{None, Some, get_or, option_map, refl, sym, ap, ◌∙◌}
+use Rattle.std.proofs.Common.{None, Some, option_map, refl, sym, ap, ◌∙◌}
+use Rattle.pol_addr.specs.Address.{family_of}
+use Rattle.pol_model.specs.Worlds.{world_in, world_labels}
 use Rattle.pol_ident.proofs.HeldPrefixes.{worlds}
 use Rattle.pol_ident.proofs.Looks.{cluster-tells, local-tells, nowhere-row}
 use Rattle.pol_ident.proofs.identities.Identities.look.Goals as goal
@@ -21,9 +23,9 @@ returns-in-None-clause-prefix c =
 
 pub returns-in-Some-key_at-clause-labels : goal.returns-in-Some-key_at-clause-labels
 returns-in-Some-key_at-clause-labels c =
-    let world = c.index-world.ensures ∙ ap (λ rows. get_or rows 1 c.index-world.result.now) c.self.invariant.start in
+    let own = c.world_labels-labels.ensures ∙ ap (λ f. world_labels (world_in f)) (c.family.ensures.value ∙ ap family_of c.network.ensures.value) in
     rw (← c.self.view_is)
-    (ap (λ row. Some row.labels) world ∙ local-tells c.self.inside.cluster c.self.inside.local c.args.number c.in-Local.place c.in-Local.ensures c.self.invariant.cluster_few worlds (λ row. row.labels) (λ own. refl) (Some c.in-Some-key_at.prefix.now) c.in-Some-key_at.ensures)
+    (ap Some own ∙ local-tells c.self.inside.cluster c.self.inside.local c.args.number c.in-Local.place c.in-Local.ensures c.self.invariant.cluster_few worlds (λ row. row.labels) (λ own. refl) (Some c.in-Some-key_at.prefix.now) c.in-Some-key_at.ensures)
 
 pub returns-in-Some-key_at-clause-prefix : goal.returns-in-Some-key_at-clause-prefix
 returns-in-Some-key_at-clause-prefix c =
