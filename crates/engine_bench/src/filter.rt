@@ -12,9 +12,7 @@ use std::alloc::Global;
 /// A peer of its own for each number: a prefix of one address.
 pub(crate) fn peer(alloc: Global, number: u32) -> Peer {
     Peer::Cidr {
-        prefix: Prefix::host(Addr {
-            bits: number.wrapping_mul(0x9e37_79b1),
-        }),
+        prefix: Prefix::host(Addr::V4(number.wrapping_mul(0x9e37_79b1))),
         except: Prefixes::empty(alloc),
     }
 }

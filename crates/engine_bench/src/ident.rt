@@ -4,7 +4,7 @@ ghost use Rattle.std.specs.Prelude.{◌≤◌};
 
 use crate::holder::{Holder, label_set};
 use anyhow::Result;
-use pol_addr::{Addr, Prefix};
+use pol_addr::{Addr, Family, Prefix};
 use pol_headings::HeadingRef;
 use pol_ident::Identities;
 use pol_labels::LabelSet;
@@ -32,7 +32,7 @@ fn holder_for(alloc: Global, kind: HolderKind, number: u32) -> Result<Holder> {
         HolderKind::Labels => Ok(Holder::Labels(label_set(alloc, number)?)),
         HolderKind::Prefix => {
             let bits = number.wrapping_mul(1 << 8);
-            Ok(Holder::Prefix(Prefix::new(Addr { bits }, 24)))
+            Ok(Holder::Prefix(Prefix::new(Addr::V4(bits), 24)))
         }
     }
 }
@@ -205,8 +205,8 @@ fn headings(kind: HolderKind) -> (HeadingRef<'static>, HeadingRef<'static>) {
             (app, namespace)
         }
         HolderKind::Prefix => {
-            let one = Prefix::new(Addr { bits: 1 << 8 }, 24);
-            let all = Prefix::new(Addr { bits: 0 }, 0);
+            let one = Prefix::new(Addr::V4(1 << 8), 24);
+            let all = Prefix::world(Family::Ipv4);
             (HeadingRef::Prefix(one), HeadingRef::Prefix(all))
         }
     }

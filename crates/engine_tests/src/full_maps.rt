@@ -27,9 +27,7 @@ fn block(alloc: Global) -> Peer {
 fn identities(alloc: Global, count: u16) -> Option<Identities> {
     let mut identities = Identities::new(alloc).ok()?;
     for i in 0..count {
-        let address = Addr {
-            bits: 0x0A00_0000 + u32::from(i),
-        };
+        let address = Addr::V4(0x0A00_0000 + u32::from(i));
         identities.acquire_prefix(Prefix::host(address)).ok()?;
     }
     Some(identities)

@@ -1,6 +1,6 @@
 //! Numbers run out, are given back and are taken again.
 
-use pol_addr::{Addr, Prefix};
+use pol_addr::{Addr, Family, Prefix};
 use pol_data::Text;
 use pol_headings::HeadingRef;
 use pol_ident::{IdentError, Identities};
@@ -11,7 +11,7 @@ use std::test::Fail;
 
 /// The prefix of one address.
 fn address(bits: u32) -> Prefix {
-    Prefix::host(Addr { bits })
+    Prefix::host(Addr::V4(bits))
 }
 
 /// The set of the one label `k8s:app=N`.
@@ -109,6 +109,27 @@ fn have_label(
     are_under(alloc, identities, &heading, numbers)
 }
 
+/// Whether these are the numbers under the prefix of length 0 of a family, and under the name of its world.
+fn stand_outside(
+    alloc: Global,
+    identities: &Identities,
+    family: Family,
+    name: &str,
+    numbers: &[u32],
+) -> bool {
+    let world = HeadingRef::Prefix(Prefix::world(family));
+    are_under(alloc, identities, &world, numbers)
+        && have_label(alloc, identities, name, "", numbers)
+}
+
+/// Whether the world of a family has this number, also after it was given back.
+fn keeps_its_number(identities: &mut Identities, family: Family, number: u32) -> bool {
+    identities.acquire_prefix(Prefix::world(family)) == Ok(number)
+        && give_back(identities, number)
+        && give_back(identities, number)
+        && identities.holders_of(number) == Some(1)
+}
+
 #[test]
 fn prefixes_are_refused_and_taken_again(rt: HostRuntime) -> Result<(), Fail> {
     let mut identities = Identities::new(rt.alloc())?;
@@ -124,18 +145,25 @@ fn label_sets_are_refused_and_taken_again(rt: HostRuntime) -> Result<(), Fail> {
 }
 
 #[test]
+fn worlds_keep_their_numbers(rt: HostRuntime) -> Result<(), Fail> {
+    let mut identities = Identities::new(rt.alloc())?;
+    assert!(rt; keeps_its_number(&mut identities, Family::Ipv4, 9));
+    assert!(rt; keeps_its_number(&mut identities, Family::Ipv6, 10));
+    Ok(())
+}
+
+#[test]
 fn numbers_stand_under_headings(rt: HostRuntime) -> Result<(), Fail> {
     let mut identities = Identities::new(rt.alloc())?;
-    assert!(rt; identities.acquire_prefix(Prefix::world()) == Ok(2));
     assert!(rt; identities.acquire_prefix(address(7)) == Ok(16_777_217));
+    assert!(rt; identities.acquire_prefix(Prefix::host(Addr::V6(7))) == Ok(16_777_218));
     let labels = app(rt.alloc(), 1).ok_or("no memory")?;
     assert!(rt; number_of(&mut identities, &labels) == Ok(256));
-    let all = [1, 2, 3, 4, 5, 6, 7, 8, 256, 16_777_217];
-    let outside = [2, 16_777_217];
-    let world = HeadingRef::Prefix(Prefix::world());
+    let all = [1, 2, 3, 4, 5, 6, 7, 8, 9, 10, 256, 16_777_217, 16_777_218];
     assert!(rt; have_label(rt.alloc(), &identities, "app", "1", [256].as_slice()));
-    assert!(rt; have_label(rt.alloc(), &identities, "world", "", outside.as_slice()));
-    assert!(rt; are_under(rt.alloc(), &identities, &world, outside.as_slice()));
+    assert!(rt; have_label(rt.alloc(), &identities, "world", "", [2].as_slice()));
+    assert!(rt; stand_outside(rt.alloc(), &identities, Family::Ipv4, "world-ipv4", [9, 16_777_217].as_slice()));
+    assert!(rt; stand_outside(rt.alloc(), &identities, Family::Ipv6, "world-ipv6", [10, 16_777_218].as_slice()));
     assert!(rt; are_under(rt.alloc(), &identities, &HeadingRef::Any, all.as_slice()));
     Ok(())
 }

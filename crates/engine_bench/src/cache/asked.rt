@@ -51,7 +51,7 @@ fn requirements(alloc: Global, ask: Ask, number: u32) -> Result<Vec<Requirement>
 /// The prefix of 24 bits of a number.
 fn prefix(number: u32) -> Prefix {
     let bits = number.wrapping_mul(1 << 8).wrapping_add(0x1400_0000);
-    Prefix::new(Addr { bits }, 24)
+    Prefix::new(Addr::V4(bits), 24)
 }
 
 /// The peer of the selector of a number.

@@ -14,3 +14,7 @@ returns-clause-wider c = refl
 pub returns-clause-part : goal.returns-clause-part
 unfolding covers network
 returns-clause-part c = refl
+
+pub returns-clause-of_a_family : goal.returns-clause-of_a_family
+unfolding covers network
+returns-clause-of_a_family c = refl
