@@ -6,13 +6,13 @@ use Rattle.std.proofs.lemmas.Bool.{both_ways, cases_Bool, false_from_ne_true}
 use Rattle.pol_addr.specs.declared.address.Addr.{Addr}
 use Rattle.pol_addr.specs.Address.{same_addr}
 use Rattle.pol_addr.specs.contracts.address.AddrPartialEq.TheImpl as addr
+use Rattle.pol_addr.proofs.ByFamily.{same_addr-Decides}
 use Rattle.pol_addr.proofs.Equality.{addr_eq-Decides}
 use Rattle.pol_data.proofs.Members.{every-from_in}
 use Rattle.pol_model.specs.declared.row.Endpoint.{Endpoint}
 use Rattle.pol_model.specs.Remote.{endpoint_at}
 use Rattle.pol_model_laws.proofs.Distinct.{one_of_key}
 use Rattle.pol_model_laws.proofs.Membership.{In-filter, find-In}
-use Rattle.pol_model_laws.proofs.PolicyHolders.{same_addr-Decides}
 use Rattle.pol_tables.proofs.Deciding.{same_tests}
 use Rattle.pol_tables.specs.Numbered.{PassOnce}
 use Rattle.pol_tables.proofs.Entries.{find-inserted, find-kept, find-no, one_passes}

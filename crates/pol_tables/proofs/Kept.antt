@@ -10,6 +10,7 @@ use Rattle.std.proofs.lemmas.Option.{same_Some}
 use Rattle.pol_addr.specs.declared.address.Addr.{Addr}
 use Rattle.pol_addr.specs.Address.{same_addr}
 use Rattle.pol_addr.specs.contracts.address.AddrPartialEq.TheImpl as addr
+use Rattle.pol_addr.proofs.ByFamily.{same_addr-Decides}
 use Rattle.pol_data.proofs.Every.{every-insert, every-kept}
 use Rattle.pol_model.specs.declared.limits.TheConstants.{ENDPOINTS_MAX}
 use Rattle.pol_model.specs.declared.row.Endpoint.{Endpoint}
@@ -22,7 +23,6 @@ use Rattle.pol_model.proofs.LeastFree.{least_free-free}
 use Rattle.pol_model_laws.proofs.Distinct.{differ_filtered, differ_inserted}
 use Rattle.pol_model_laws.proofs.Keyed.{found_by_number}
 use Rattle.pol_model_laws.proofs.Membership.{find-In, find-none}
-use Rattle.pol_model_laws.proofs.PolicyHolders.{same_addr-Decides}
 use Rattle.pol_model_laws.proofs.PrefixHolders.{least_free-within}
 use Rattle.pol_tables.specs.Tables.{endpoint_in}
 use Rattle.pol_tables.specs.Tied.{IsEndpoints, IsKeyed}
