@@ -1,19 +1,22 @@
 -- A prefix table stays that of the rows, as they change.
-use Rattle.std.proofs.Common.{◌≡◌, ℕ, Bool, true, false, cond, List, [], ◌∷◌, find, codes, is_some, Option, None, Some, option_map, refl, sym, ap, ◌∙◌, subst}
+use Rattle.std.proofs.Common.{◌≡◌, ℕ, Bool, true, false, cond, ◌==◌, ◌&&◌, List, [], ◌∷◌, find, is_some, Option, None, Some, option_map, refl, sym, ap, ◌∙◌, subst}
 use Rattle.std.specs.FinMap as map
 use Rattle.std.specs.List.{cons_option}
 use Rattle.std.specs.Ordering.{eq_by_cmp}
 use Rattle.std.proofs.lemmas.Bool.{cond-false, cond-true}
 use Rattle.pol_addr.specs.declared.address.Addr.{Addr}
+use Rattle.pol_addr.specs.declared.address.Addr.TheVariants.{V4, V6}
+use Rattle.pol_addr.specs.declared.family.Family.TheVariants.{Ipv4, Ipv6}
 use Rattle.pol_addr.specs.declared.network.Prefix.{Prefix}
 use Rattle.pol_addr.specs.Order.{prefix_cmp}
 use Rattle.pol_addr.specs.Prefix.{same_prefix, world}
 use Rattle.pol_addr.proofs.Order.{prefix_cmp_total, prefix_cmp-IsAntisymmetric, same_tied, tied_same}
-use Rattle.pol_model.specs.declared.limits.TheConstants.{LOCAL_FIRST, WORLD_IDENTITY}
+use Rattle.pol_model.specs.declared.limits.TheConstants.{LOCAL_FIRST}
 use Rattle.pol_model.specs.declared.row.IdentityRow.{IdentityRow}
 use Rattle.pol_model.specs.Identities.{free_number, or_free, released, reserved_identities, reserved_row}
 use Rattle.pol_model.specs.Prefixes.{has_prefix, number_of_prefix, prefix_held}
 use Rattle.pol_model.specs.Remote.{longest_at, numbered_prefixes}
+use Rattle.pol_model.specs.Worlds.{world_in}
 use Rattle.pol_model_laws.specs.Holding.{has_row}
 use Rattle.pol_model_laws.specs.Keeps.{KeepsRows}
 use Rattle.pol_model_laws.proofs.Ledger.{same_prefix-is}
@@ -83,12 +86,25 @@ module _ (rows : List IdentityRow) (table : PrefixMap) (is : IsTableOf rows tabl
         ∙ sym (number_of_released rows keeps number prefix at own)
 
 -- ---- the table of the start
-pub table_at_start : IsTableOf reserved_identities (map.insert map.empty world WORLD_IDENTITY)
-table_at_start own = get_with map.empty world own WORLD_IDENTITY ∙ ap (cond (same_prefix own world) (Some WORLD_IDENTITY)) (map.get-empty prefix_cmp own) ∙ by (same_prefix own world)
-  where
-    by : (b : Bool) → cond b (Some WORLD_IDENTITY) None ≡ option_map (λ row. row.number) (cond b (Some (reserved_row WORLD_IDENTITY (codes "world"))) None)
-    by true = refl
-    by false = refl
+abbrev one_world : PrefixMap
+one_world = map.insert map.empty (world Ipv4) (world_in Ipv4).identity
+
+-- one test of a prefix gives the number of its row, or none
+by_test : (row : IdentityRow) (b : Bool) → cond b (Some row.number) None ≡ option_map (λ found. found.number) (cond b (Some row) None)
+by_test row true = refl
+by_test row false = refl
+
+-- a prefix isn't that of both worlds
+world_found : (addr : Addr) (len : ℕ) → let own : Prefix = record { addr = addr; len = len } in
+    cond (same_prefix own (world Ipv6)) (Some (world_in Ipv6).identity) (cond (same_prefix own (world Ipv4)) (Some (world_in Ipv4).identity) None) ≡ number_of_prefix own reserved_identities
+world_found (V4 bits) len = by_test (reserved_row (world_in Ipv4).identity (world_in Ipv4).name) ((bits == 0) && (len == 0))
+world_found (V6 bits) len = by_test (reserved_row (world_in Ipv6).identity (world_in Ipv6).name) ((bits == 0) && (len == 0))
+
+pub table_at_start : IsTableOf reserved_identities (map.insert one_world (world Ipv6) (world_in Ipv6).identity)
+table_at_start own =
+    get_with one_world (world Ipv6) own (world_in Ipv6).identity
+    ∙ ap (cond (same_prefix own (world Ipv6)) (Some (world_in Ipv6).identity)) (get_with map.empty (world Ipv4) own (world_in Ipv4).identity ∙ ap (cond (same_prefix own (world Ipv4)) (Some (world_in Ipv4).identity)) (map.get-empty prefix_cmp own))
+    ∙ world_found own.addr own.len
 
 -- ---- what an address finds
 -- the first entry of a prefix is its row's

@@ -10,7 +10,7 @@ ghost use Rattle.pol_prefixes.specs.AddressTable.{TellIdentities, number_in};
 use indexmap::IndexMap;
 use pol_addr::Addr;
 use pol_data::Memory;
-use pol_model::{Endpoint, WORLD_IDENTITY};
+use pol_model::{Endpoint, world_identity_of};
 use pol_prefix_table::PrefixTable;
 use std::alloc::Global;
 use std::marker::Model;
@@ -74,13 +74,13 @@ impl Addresses {
     }
 
     /// The identity of an address: that of the endpoint that has it, else of the longest held prefix that contains it, else
-    /// of the world (Cilium, Terminology, "Identity"). It takes no memory.
+    /// of the world of its family (Cilium, Terminology, "Identity"). It takes no memory.
     pub fn remote(&self, addr: Addr) -> u32
         ensures number { result ≡ number_in addr self.now }
     {
         match self.endpoints.get(&addr) {
             Some(number) => *number,
-            None => self.prefixes.find(addr).unwrap_or(WORLD_IDENTITY),
+            None => self.prefixes.find(addr).unwrap_or(world_identity_of(addr)),
         }
     }
 }
