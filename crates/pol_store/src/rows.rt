@@ -30,8 +30,8 @@ impl Store {
         }) }
         ensures within { IsAddr address }
     {
-        // The call tells that the address is within 32 bits.
-        let _bits = address.bits();
+        // The call tells that the address has the bits of its family.
+        let _family = address.family();
         Ok(Endpoint {
             name: name.copy(self.alloc)?,
             slot: self.endpoints.free_slot(),

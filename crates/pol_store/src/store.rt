@@ -14,7 +14,7 @@ use pol_addr::Addr;
 use pol_allocator::Allocator;
 use pol_data::Memory;
 use pol_kept_filters::KeptFilters;
-use pol_model::{Mode, WORLD_IDENTITY};
+use pol_model::{Mode, world_identity_of};
 use pol_tables::{EndpointTable, Named, Policies};
 use pol_taken::Addresses;
 use std::alloc::Global;
@@ -139,13 +139,13 @@ impl Store {
     }
 
     /// The identity of an address: that of the endpoint that has it, else of the longest held prefix that contains it, else
-    /// of the world (Cilium, Terminology, "Identity").
+    /// of the world of its family (Cilium, Terminology, "Identity").
     pub fn number_at(&self, address: Addr) -> u32
         ensures number { result ≡ number_at address self.now.state.endpoints self.now.state.identities }
     {
         match self.endpoints.at_address(address) {
             Some(endpoint) => endpoint.identity,
-            None => self.numbers.number_at(address).unwrap_or(WORLD_IDENTITY),
+            None => self.numbers.number_at(address).unwrap_or(world_identity_of(address)),
         }
     }
 }
