@@ -3,12 +3,15 @@ use Rattle.std.proofs.Common.{◌≡◌, ℕ, ◌==◌, ◌&&◌, ◌||◌, not,
 use Rattle.std.specs.List.{AllByRecursion, list_any}
 use Rattle.std.specs.Option.{option_map_or}
 use Rattle.std.proofs.lemmas.Bool.{and_from, and_parts, both_ways, eq-eqb, eqb-true, false_from_ne_true, leb-true, ne_eqb}
-use Rattle.pol_addr.specs.Address.{IsAddr}
+use Rattle.std.proofs.lemmas.Option.{same_Some}
+use Rattle.pol_addr.specs.Address.{IsAddr, family_of}
+use Rattle.pol_addr.specs.declared.family.Family.{Family}
+use Rattle.pol_addr.specs.declared.family.Family.TheVariants.{Ipv4, Ipv6}
 use Rattle.pol_addr.specs.declared.address.Addr.{Addr}
 use Rattle.pol_addr.specs.declared.network.Prefix.{Prefix}
 use Rattle.pol_addr.specs.Prefix.{contains, covers, world}
-use Rattle.pol_addr.proofs.Blocks.{network-none}
-use Rattle.pol_addr.proofs.Containment.{contains_from, contains_through, covers_from_shared}
+use Rattle.pol_addr.proofs.Containment.{contains-family, contains_through, covers_from_shared}
+use Rattle.pol_addr.proofs.World.{contains-world}
 use Rattle.pol_labels.specs.Match.{matches, carries}
 use Rattle.pol_ports.specs.declared.Direction.{Direction}
 use Rattle.pol_ports.specs.declared.Proto.{Proto}
@@ -18,7 +21,7 @@ use Rattle.pol_rule.specs.declared.policy.Entity.TheVariants as entity
 use Rattle.pol_rule.specs.declared.policy.Peer.{Peer}
 use Rattle.pol_rule.specs.declared.policy.Peer.TheVariants as peer
 use Rattle.pol_data.proofs.Members.{In, Contains-from_In, In-from_Contains, every-in}
-use Rattle.pol_model.specs.declared.limits.TheConstants.{HOST_IDENTITY, RESERVED_LAST, WORLD_IDENTITY}
+use Rattle.pol_model.specs.declared.limits.TheConstants.{HOST_IDENTITY, RESERVED_LAST}
 use Rattle.pol_model.specs.declared.options.Options.{Options}
 use Rattle.pol_model.specs.declared.row.Endpoint.{Endpoint}
 use Rattle.pol_model.specs.declared.row.IdentityRow.{IdentityRow}
@@ -28,7 +31,7 @@ use Rattle.pol_model.specs.Remote.{address_side, endpoint_at, endpoint_side, kno
 use Rattle.pol_model.specs.Selects.{Known, cluster_label, entity_selects, is_all, is_core_number, known_row, selects, selects_number, selects_row}
 use Rattle.pol_model.specs.State.{State}
 use Rattle.pol_model.specs.Verdict.{numbered_side, verdict_of, verdict_on}
-use Rattle.pol_model.specs.Worlds.{ipv4, reserved_label, world_labels}
+use Rattle.pol_model.specs.Worlds.{is_outside, outside, reserved_label, world_around, world_in, world_labels, world_of}
 use Rattle.pol_model_laws.specs.Holding.{is_held}
 use Rattle.pol_model_laws.specs.Keeps.{IsInForceIn, IsLiveIn, IsLocalRow, Keeps, KeepsRows}
 use Rattle.pol_model_laws.proofs.FoundRows.{reserved-there}
@@ -48,6 +51,8 @@ all_selects known (peer.Labels selector) = refl
 all_selects known (peer.Cidr prefix except) = refl
 all_selects known (peer.Entity entity.All) = refl
 all_selects known (peer.Entity entity.World) = refl
+all_selects known (peer.Entity entity.WorldIpv4) = refl
+all_selects known (peer.Entity entity.WorldIpv6) = refl
 all_selects known (peer.Entity entity.Host) = refl
 all_selects known (peer.Entity entity.RemoteNode) = refl
 all_selects known (peer.Entity entity.KubeApiserver) = refl
@@ -94,45 +99,62 @@ endpoint_agrees s keeps endpoint there stamped within p own =
 
 -- ---- an address outside
 
--- the row of a prefix: the world's label, none of the cluster's own numbers, and not the local host's
-record IsOutsideRow (row : IdentityRow) : Type 0 where
-  labels : row.labels ≡ world_labels ipv4
+-- the row of a prefix: the label of its world, none of the cluster's own numbers, and not the local host's
+record IsOutsideRow (row : IdentityRow) (prefix : Prefix) : Type 0 where
+  own : row.prefix ≡ Some prefix
+  labels : row.labels ≡ world_labels (world_around prefix)
   core : is_core_number row.number ≡ false
   host : (row.number == HOST_IDENTITY) ≡ false
 
-outside_two : IsOutsideRow (record { number = 2; labels = world_labels ipv4; prefix = Some world; holders = 1 })
-outside_two = record { labels = refl; core = refl; host = refl }
+-- the row of a family's world
+abbrev world_row : Family → IdentityRow
+world_row family = record { number = (world_in family).identity; labels = world_labels (world_in family); prefix = Some (world family); holders = 1 }
 
-reserved_outside : AllByRecursion (λ row. (row.prefix ≡ None) ⊎ IsOutsideRow row) reserved_identities
-reserved_outside = (inl refl, (inr outside_two, (inl refl, (inl refl, (inl refl, (inl refl, (inl refl, (inl refl, tt))))))))
+world_outside : (family : Family) → IsOutsideRow (world_row family) (world family)
+world_outside Ipv4 = record { own = refl; labels = refl; core = refl; host = refl }
+world_outside Ipv6 = record { own = refl; labels = refl; core = refl; host = refl }
 
-local_outside : (row : IdentityRow) → IsLocalRow row → IsOutsideRow row
+-- a reserved row has no prefix, or it is a world's
+abbrev IsWorldOrNone : IdentityRow → Type 0
+IsWorldOrNone row = (row.prefix ≡ None) ⊎ ((prefix : Prefix) × IsOutsideRow row prefix)
+
+reserved_outside : AllByRecursion IsWorldOrNone reserved_identities
+reserved_outside =
+    (inl refl, (inl refl, (inl refl, (inl refl, (inl refl, (inl refl, (inl refl, (inl refl, (inr (world Ipv4, world_outside Ipv4), (inr (world Ipv6, world_outside Ipv6), tt))))))))))
+
+local_outside : (row : IdentityRow) (local : IsLocalRow row) → IsOutsideRow row local.own
 local_outside row local = record {
+  own = local.prefix;
   labels = local.labels;
   core = false_from_ne_true (is_core_number row.number) (λ core.
-      let small = and_parts (nat_le 1 row.number && nat_le row.number RESERVED_LAST) (not (row.number == WORLD_IDENTITY)) core in
+      let small = and_parts (nat_le 1 row.number && nat_le row.number RESERVED_LAST) (not (is_outside row.number)) core in
       let upto = and_parts (nat_le 1 row.number) (nat_le row.number RESERVED_LAST) small.0 in
       absurd (omega (arith, local.from, leb-true row.number RESERVED_LAST upto.1)));
   host = ne_eqb row.number HOST_IDENTITY (λ is. omega (arith, local.from, is));
 }
 
-prefix_row_outside : (rows : List IdentityRow) → KeepsRows rows → (row : IdentityRow) (prefix : Prefix) → In row rows → row.prefix ≡ Some prefix → IsOutsideRow row
+outside_at : (row : IdentityRow) (given prefix : Prefix) → IsOutsideRow row given → row.prefix ≡ Some prefix → IsOutsideRow row prefix
+outside_at row given prefix is own = subst (IsOutsideRow row) (same_Some given prefix (sym is.own ∙ own)) is
+
+prefix_row_outside : (rows : List IdentityRow) → KeepsRows rows → (row : IdentityRow) (prefix : Prefix) → In row rows → row.prefix ≡ Some prefix → IsOutsideRow row prefix
 prefix_row_outside rows keeps row prefix there own =
     elim (row_cases keeps row there) [
-      | inl reserved ↦ elim (every-in (λ r. (r.prefix ≡ None) ⊎ IsOutsideRow r) reserved_identities reserved_outside row reserved) [
+      | inl reserved ↦ elim (every-in IsWorldOrNone reserved_identities reserved_outside row reserved) [
         | inl none ↦ absurd (let wrong : None ≡ Some prefix = sym none ∙ own in cc)
-        | inr outside ↦ outside
+        | inr its ↦ outside_at row its.0 prefix its.1 own
       ]
       | inr behind ↦ elim (kind_of keeps row behind) [
         | inl cluster ↦ absurd (let wrong : None ≡ Some prefix = sym cluster.no_prefix ∙ own in cc)
-        | inr local ↦ local_outside row local
+        | inr local ↦ outside_at row local.own prefix (local_outside row local) own
       ]
     ]
 
 -- entities ask for labels and for the cluster's own numbers alone
 entities_agree : (one other : Known) (e : Entity) → one.labels ≡ other.labels → one.is_core ≡ other.is_core → entity_selects one e ≡ entity_selects other e
 entities_agree one other entity.All labels core = refl
-entities_agree one other entity.World labels core = ap (λ ls. carries ls (reserved_label (codes "world"))) labels
+entities_agree one other entity.World labels core = ap (λ ls. list_any (λ w. carries ls (reserved_label w.1)) outside) labels
+entities_agree one other entity.WorldIpv4 labels core = ap (λ ls. carries ls (reserved_label (codes "world-ipv4"))) labels
+entities_agree one other entity.WorldIpv6 labels core = ap (λ ls. carries ls (reserved_label (codes "world-ipv6"))) labels
 entities_agree one other entity.Host labels core = ap (λ ls. carries ls (reserved_label (codes "host"))) labels
 entities_agree one other entity.RemoteNode labels core = ap (λ ls. carries ls (reserved_label (codes "remote-node"))) labels
 entities_agree one other entity.KubeApiserver labels core = ap (λ ls. carries ls (reserved_label (codes "kube-apiserver"))) labels
@@ -169,8 +191,9 @@ module _ (address : Addr) (rows : List IdentityRow) (keeps : KeepsRows rows) (be
   outside_agrees policies held stamped within p own =
       let it = longest_is address (numbered_prefixes rows) best is in
       let given = listed_prefix rows best it.there in
-      let outside = prefix_row_outside rows keeps given.row best.0 given.there given.prefix in
-      peers_agree (known_outside address) (known_row given.row) p (sym outside.labels) (sym outside.core)
+      let far = prefix_row_outside rows keeps given.row best.0 given.there given.prefix in
+      let labels = ap (λ family. world_labels (world_in family)) (contains-family best.0 address it.inside) ∙ sym far.labels in
+      peers_agree (known_outside address) (known_row given.row) p labels (sym far.core)
       (λ prefix its. held_lies prefix (every-in (λ q. is_held q rows ≡ true) (policy_prefixes stamped.policy) (held stamped within) prefix (own prefix its))
       ∙ ap (λ o. option_map_or (covers prefix) o false) (sym given.prefix))
       ∙ sym (row_selected rows keeps given.row given.there p)
@@ -182,14 +205,18 @@ module _ (address : Addr) (rows : List IdentityRow) (keeps : KeepsRows rows) (be
       let given = listed_prefix rows best it.there in
       sym (ap (λ n. n == HOST_IDENTITY) (sym given.number) ∙ (prefix_row_outside rows keeps given.row best.0 given.there given.prefix).host)
 
--- every address lies in the world, which is always held
+world_reserved : (family : Family) → In (world_row family) reserved_identities
+world_reserved Ipv4 = inr (inr (inr (inr (inr (inr (inr (inr (inl refl))))))))
+world_reserved Ipv6 = inr (inr (inr (inr (inr (inr (inr (inr (inr (inl refl)))))))))
+
+-- every address lies in the world of its family, which is always held
 always_longest : (address : Addr) (rows : List IdentityRow) → KeepsRows rows → IsAddr address → longest_at address rows ≡ None → ⊥
 always_longest address rows keeps within none =
-    let two : IdentityRow = record { number = 2; labels = world_labels ipv4; prefix = Some world; holders = 1 } in
-    let there = reserved-there rows keeps two (Contains-from_In reserved_identities two (inr (inl refl))) in
-    let listed = prefix_listed two world rows (In-from_Contains rows two there) refl in
-    both_ways (contains world address) (longest_none address (numbered_prefixes rows) none (world, 2) listed)
-    (contains_from world address (network-none address.bits within))
+    let family = family_of address in
+    let row = world_row family in
+    let there = reserved-there rows keeps row (Contains-from_In reserved_identities row (world_reserved family)) in
+    let listed = prefix_listed row (world family) rows (In-from_Contains rows row there) refl in
+    both_ways (contains (world family) address) (longest_none address (numbered_prefixes rows) none (world family, row.number) listed) (contains-world address within)
 
 -- ---- the law
 
@@ -199,7 +226,7 @@ held_in_force s keeps stamped there = (every-in (IsInForceIn s) s.policies keeps
 module _ (options : Options) (s : State) (endpoint : Endpoint) (dir : Direction) (address : Addr) (proto : Proto) (port : ℕ) (keeps : Keeps s) (within : IsAddr address) where
   at_outside : (found : Option (Prefix × ℕ)) → longest_at address s.identities ≡ found
       → verdict_on options s endpoint dir (outside_side address) proto port
-      ≡ verdict_of options s endpoint dir (option_map_or (λ f. f.1) found WORLD_IDENTITY) proto port
+      ≡ verdict_of options s endpoint dir (option_map_or (λ f. f.1) found (world_of address).identity) proto port
   at_outside None is = absurd (always_longest address s.identities keeps.identities within is)
   at_outside (Some best) is =
       verdicts_agree options s endpoint dir (outside_side address) (numbered_side s.identities best.1) proto port
@@ -209,7 +236,7 @@ module _ (options : Options) (s : State) (endpoint : Endpoint) (dir : Direction)
   at_found : (found : Option Endpoint) → endpoint_at address s.endpoints ≡ found
       → verdict_on options s endpoint dir (address_side address found) proto port
       ≡ verdict_of options s endpoint dir
-      (option_map_or (λ e. e.identity) found (option_map_or (λ f. f.1) (longest_at address s.identities) WORLD_IDENTITY)) proto port
+      (option_map_or (λ e. e.identity) found (option_map_or (λ f. f.1) (longest_at address s.identities) (world_of address).identity)) proto port
   at_found None is = at_outside (longest_at address s.identities) refl
   at_found (Some other) is =
       verdicts_agree options s endpoint dir (endpoint_side other) (numbered_side s.identities other.identity) proto port

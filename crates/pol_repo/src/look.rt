@@ -72,7 +72,7 @@ impl Repo {
     }
 
     /// The identity of an address: that of the endpoint that has it, else of the longest held prefix that contains it, else
-    /// of the world (Cilium, Terminology, "Identity").
+    /// of the world of its family (Cilium, Terminology, "Identity").
     pub fn remote(&self, addr: Addr) -> u32
         requires idle { self.now.prepared ≡ None }
         ensures number { result ≡ number_at addr (state_in self.now).endpoints (state_in self.now).identities }
