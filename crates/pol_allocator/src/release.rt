@@ -55,7 +55,7 @@ impl Allocator {
     }
 
     /// Takes one holder away from a number that isn't a prefix's. With its last holder the identity goes, and its number
-    /// is free. The reserved numbers 1 to 8 stay as they are, and so do the sets. It takes no memory.
+    /// is free. The reserved numbers 1 to 10 stay as they are, and so do the sets. It takes no memory.
     pub fn release(&mut self, number: u32)
         requires held { has_row number self.old.rows ≡ true }
         requires not_local { is_local number ≡ false }
