@@ -82,9 +82,7 @@ pub(crate) fn endpoint(alloc: Global, number: u32) -> Result<Request, Memory> {
     Ok(Request::AddEndpoint {
         name: name(alloc, "endpoint", number)?,
         labels: labels(alloc, "pod", number)?,
-        address: Addr {
-            bits: number.wrapping_add(0x0a00_0000),
-        },
+        address: Addr::V4(number.wrapping_add(0x0a00_0000)),
     })
 }
 

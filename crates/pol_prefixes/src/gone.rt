@@ -44,7 +44,7 @@ fn all_going(
 }
 
 /// The numbers that `release_prefixes` would let go: those that these prefixes alone hold. The reserved
-/// number 2 of 0.0.0.0/0 stays. The one error is want of memory.
+/// numbers 9 of 0.0.0.0/0 and 10 of ::/0 stay. The one error is want of memory.
 pub fn gone_numbers(
     alloc: Global,
     identities: &Identities,

@@ -28,7 +28,7 @@ fn cidr(alloc: Global, bits: u32, len: u8) -> Peer
     requires { len ≤ 32 }
 {
     Peer::Cidr {
-        prefix: Prefix::new(Addr { bits }, len),
+        prefix: Prefix::new(Addr::V4(bits), len),
         except: Prefixes::empty(alloc),
     }
 }

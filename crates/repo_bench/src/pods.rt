@@ -106,9 +106,7 @@ pub(crate) fn endpoint(alloc: Global, number: u32, namespace: &str) -> Result<Re
     Ok(Request::AddEndpoint {
         labels: label_set(alloc, number, namespace)?,
         name: name(alloc, number, namespace)?,
-        address: Addr {
-            bits: number.wrapping_add(0x0a00_0000),
-        },
+        address: Addr::V4(number.wrapping_add(0x0a00_0000)),
     })
 }
 

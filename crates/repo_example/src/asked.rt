@@ -1,4 +1,4 @@
-//! An endpoint, and a policy that lets it reach a prefix but for a part of it.
+//! An endpoint, and a policy that lets it reach a prefix but for a part of it, and a prefix of the other family.
 ghost use Rattle.std.specs.Prelude.{◌≡◌, None, IfSome};
 
 use pol_addr::{Addr, Prefix};
@@ -28,7 +28,7 @@ pub(crate) fn endpoint(alloc: Global) -> Option<Request> {
 }
 
 /// 10.0.0.0/8 without 10.1.0.0/16.
-fn peer(alloc: Global) -> Option<Peer> {
+fn ipv4(alloc: Global) -> Option<Peer> {
     let except = Prefix::new(Addr::from_octets(10, 1, 0, 0), 16);
     Some(Peer::Cidr {
         prefix: Prefix::new(Addr::from_octets(10, 0, 0, 0), 8),
@@ -36,9 +36,23 @@ fn peer(alloc: Global) -> Option<Peer> {
     })
 }
 
+/// 2001:db8::/32.
+fn ipv6(alloc: Global) -> Peer {
+    let documentation = Addr::from_groups([0x2001, 0xdb8, 0, 0, 0, 0, 0, 0]);
+    Peer::Cidr {
+        prefix: Prefix::new(documentation, 32),
+        except: Prefixes::empty(alloc),
+    }
+}
+
+fn peers(alloc: Global) -> Option<Peers> {
+    let peers = vec![in alloc; ipv4(alloc)?, ipv6(alloc)].ok()?;
+    Some(Peers::Listed(PeerList::from_vec(peers)))
+}
+
 fn entries(alloc: Global) -> Option<Entries> {
     let entry = Entry {
-        peers: Peers::Listed(PeerList::one(alloc, peer(alloc)?).ok()?),
+        peers: peers(alloc)?,
         ports: PortSpecs::empty(alloc),
     };
     Entries::one(alloc, entry).ok()
@@ -59,7 +73,7 @@ fn key(alloc: Global) -> Option<PolicyKey> {
     })
 }
 
-/// The policy of one rule that lets every endpoint reach that prefix.
+/// The policy of one rule that lets every endpoint reach those prefixes.
 pub(crate) fn policy(alloc: Global) -> Option<Request> {
     Some(Request::Apply(Policy {
         key: key(alloc)?,

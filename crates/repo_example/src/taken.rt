@@ -1,4 +1,4 @@
-//! What is taken for an endpoint that may reach a prefix but for a part of it.
+//! What is taken for an endpoint that may reach a prefix but for a part of it, and a prefix of the other family.
 ghost use Rattle.std.specs.Prelude.{◌≡◌, None, IfSome};
 
 use crate::asked::{commit, endpoint, policy};
@@ -52,29 +52,36 @@ fn show_endpoint<R: Print>(rt: &R, taken: &Taken) -> Result<()> {
     Ok(())
 }
 
-/// The prefix has the first number, its exception the second one, which the peer doesn't select.
+/// The first prefix has the first number, its exception the second one, which no peer selects, and the prefix of the other
+/// family the third one.
 fn show_sets<R: Print>(rt: &R, taken: &Taken) -> Result<()> {
     for row in taken.sets.as_slice() {
         println!(rt;
-            "a set of {} with 16777217: {}",
+            "a set of {} with 16777217: {}, with 16777219: {}",
             row.set.len(),
-            row.set.contains(16_777_217)
+            row.set.contains(16_777_217),
+            row.set.contains(16_777_219)
         )?;
     }
     Ok(())
 }
 
-fn show_address<R: Print>(rt: &R, taken: &Taken, a: u8, b: u8, c: u8, d: u8) -> Result<()> {
-    let number = taken.addresses.remote(Addr::from_octets(a, b, c, d));
-    println!(rt; "{a}.{b}.{c}.{d} is {number}")?;
+fn show_address<R: Print>(rt: &R, taken: &Taken, address: Addr) -> Result<()> {
+    let number = taken.addresses.remote(address);
+    println!(rt; "{address} is {number}")?;
     Ok(())
 }
 
+/// The endpoint's own address, addresses in the prefixes, and for each family one outside.
 fn show_addresses<R: Print>(rt: &R, taken: &Taken) -> Result<()> {
-    show_address(rt, taken, 192, 168, 0, 1)?;
-    show_address(rt, taken, 10, 0, 0, 1)?;
-    show_address(rt, taken, 10, 1, 0, 1)?;
-    show_address(rt, taken, 11, 0, 0, 1)
+    show_address(rt, taken, Addr::from_octets(192, 168, 0, 1))?;
+    show_address(rt, taken, Addr::from_octets(10, 0, 0, 1))?;
+    show_address(rt, taken, Addr::from_octets(10, 1, 0, 1))?;
+    show_address(rt, taken, Addr::from_octets(11, 0, 0, 1))?;
+    let inside = Addr::from_groups([0x2001, 0xdb8, 0, 0, 0, 0, 0, 1]);
+    show_address(rt, taken, inside)?;
+    let outside = Addr::from_groups([0x2001, 0xdb9, 0, 0, 0, 0, 0, 1]);
+    show_address(rt, taken, outside)
 }
 
 fn show_moves<R: Print>(rt: &R, taken: &Taken, since: u64) -> Result<()> {
