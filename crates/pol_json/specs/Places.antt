@@ -1,5 +1,5 @@
 -- The places that the reading of a policy document visits, in the order of its visits, and what is wrong at one ('profile').
-use Rattle.std.specs.Prelude.{ℕ, suc, ◌==◌, ◌||◌, not, Bool, false, if◌then◌else◌, List, [], ◌∷◌, ◌++◌, codes, map, Option, None, Some, is_none, is_some, option_map, option_and_then}
+use Rattle.std.specs.Prelude.{ℕ, suc, ◌||◌, not, Bool, false, if◌then◌else◌, List, [], ◌∷◌, ◌++◌, codes, map, Option, None, Some, is_none, is_some, option_map, option_and_then}
 use Rattle.std.specs.Option.{option_or}
 use Rattle.std.specs.List.{find, list_any}
 use Rattle.std.specs.Str.{str_eq_ignore_ascii_case}
@@ -44,7 +44,6 @@ is_icmp text =
 abbrev pub text_cause : TextForm → List ℕ → Option Cause
 text_cause form.Any text = None
 text_cause form.Name text = unless (is_dns_name text) wrong_shape
-text_cause form.Cidr text = unless (not (list_any (λ b. b == 58) text)) (left_out (codes "ipv6"))
 text_cause form.Port text = unless (not (list_any is_letter text)) (left_out (codes "named-port"))
 text_cause form.Protocol text = unless (not (is_icmp text)) (left_out (codes "icmp"))
 

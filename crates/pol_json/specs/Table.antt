@@ -62,17 +62,15 @@ members Expression =
     (rows (codes "values" ∷ []) (list_of text) [])
 members IngressEntry =
     rows (codes "fromEndpoints" ∷ []) (list_of (Object Selector))
-    (rows (codes "fromCIDR" ∷ []) (list_of (Text form.Cidr))
-    (rows (codes "fromEntities" ∷ []) (list_of text)
-    (rows (codes "fromCIDRSet" ∷ []) (list_of (Object CidrSet)) both_entries)))
+    (rows (codes "fromCIDR" ∷ codes "fromEntities" ∷ []) (list_of text)
+    (rows (codes "fromCIDRSet" ∷ []) (list_of (Object CidrSet)) both_entries))
 members EgressEntry =
     rows (codes "toEndpoints" ∷ []) (list_of (Object Selector))
-    (rows (codes "toCIDR" ∷ []) (list_of (Text form.Cidr))
-    (rows (codes "toEntities" ∷ []) (list_of text)
-    (rows (codes "toCIDRSet" ∷ []) (list_of (Object CidrSet)) both_entries)))
+    (rows (codes "toCIDR" ∷ codes "toEntities" ∷ []) (list_of text)
+    (rows (codes "toCIDRSet" ∷ []) (list_of (Object CidrSet)) both_entries))
 members CidrSet =
-    rows (codes "cidr" ∷ []) (one (Text form.Cidr))
-    (rows (codes "except" ∷ []) (list_of (Text form.Cidr)) [])
+    rows (codes "cidr" ∷ []) (one text)
+    (rows (codes "except" ∷ []) (list_of text) [])
 members PortItem = rows (codes "ports" ∷ []) (list_of (Object Port)) []
 members Port =
     rows (codes "port" ∷ []) (one (Text form.Port))
@@ -94,8 +92,8 @@ members NetworkPeer =
     rows (codes "podSelector" ∷ codes "namespaceSelector" ∷ []) (one (Object Selector))
     (rows (codes "ipBlock" ∷ []) (one (Object IpBlock)) [])
 members IpBlock =
-    rows (codes "cidr" ∷ []) (one (Text form.Cidr))
-    (rows (codes "except" ∷ []) (list_of (Text form.Cidr)) [])
+    rows (codes "cidr" ∷ []) (one text)
+    (rows (codes "except" ∷ []) (list_of text) [])
 members NetworkPort =
     rows (codes "port" ∷ []) (one PortNumber)
     (rows (codes "protocol" ∷ []) (one text)

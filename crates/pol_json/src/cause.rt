@@ -1,7 +1,7 @@
 //! What is wrong at a place of a policy document, without what it holds.
 #![tactic(auto, using(crate::proofs::Steps::one_step))]
 
-ghost use Rattle.std.specs.Prelude.{◌≡◌, Some, is_none, ◌==◌};
+ghost use Rattle.std.specs.Prelude.{◌≡◌, Some, is_none};
 ghost use Rattle.std.specs.List.{list_any};
 ghost use Rattle.std.specs.Str.{str_eq_ignore_ascii_case};
 ghost use Rattle.serde_json.specs.View.{view};
@@ -62,12 +62,6 @@ fn has_letter(text: &str) -> bool
     text.as_bytes().iter().any(|byte| is_letter(*byte))
 }
 
-fn has_colon(text: &str) -> bool
-    ensures { result ≡ list_any (λ b. b == 58) text.now }
-{
-    text.as_bytes().iter().any(|byte| *byte == b':')
-}
-
 /// Whether the text is this word without ASCII case.
 fn is_word(text: &str, word: &str) -> bool
     ensures { result ≡ str_eq_ignore_ascii_case text.now word.now }
@@ -87,7 +81,6 @@ fn is_sound_text(form: TextForm, text: &str) -> bool
     match form {
         TextForm::Any => true,
         TextForm::Name => is_dns_name(text),
-        TextForm::Cidr => !has_colon(text),
         TextForm::Port => !has_letter(text),
         TextForm::Protocol => !is_icmp(text),
     }
@@ -119,7 +112,6 @@ fn check_text(alloc: Global, form: TextForm, text: &str) -> Result<(), DocError>
     match form {
         TextForm::Any => Ok(()),
         TextForm::Name => wrong_shape(alloc),
-        TextForm::Cidr => left_out(alloc, "ipv6"),
         TextForm::Port => left_out(alloc, "named-port"),
         TextForm::Protocol => left_out(alloc, "icmp"),
     }

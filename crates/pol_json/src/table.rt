@@ -53,8 +53,6 @@ pub(crate) enum TextForm {
     Any,
     /// The name of a policy or of a namespace.
     Name,
-    /// An address or a prefix.
-    Cidr,
     /// A port.
     Port,
     /// A protocol.
@@ -96,8 +94,6 @@ const TEXT: Shape = Shape::One(Content::Text(TextForm::Any));
 const NAME: Shape = Shape::One(Content::Text(TextForm::Name));
 
 const TEXTS: Shape = Shape::List(Content::Text(TextForm::Any));
-
-const CIDRS: Shape = Shape::List(Content::Text(TextForm::Cidr));
 
 const IGNORED: Shape = Shape::One(Content::Ignored);
 
@@ -191,9 +187,8 @@ fn ingress_member(name: &str) -> Shape
     match name {
         "fromEndpoints" => SELECTORS,
         "toPorts" => PORT_ITEMS,
-        "fromCIDR" => CIDRS,
+        "fromCIDR" | "fromEntities" => TEXTS,
         "fromCIDRSet" => CIDR_SETS,
-        "fromEntities" => TEXTS,
         "fromRequires" | "fromNodes" | "fromGroups" | "icmps" | "authentication" => {
             Shape::Unsupported
         }
@@ -207,9 +202,8 @@ fn egress_member(name: &str) -> Shape
     match name {
         "toEndpoints" => SELECTORS,
         "toPorts" => PORT_ITEMS,
-        "toCIDR" => CIDRS,
+        "toCIDR" | "toEntities" => TEXTS,
         "toCIDRSet" => CIDR_SETS,
-        "toEntities" => TEXTS,
         "toRequires"
         | "toNodes"
         | "toGroups"
@@ -225,8 +219,8 @@ fn cidr_set_member(name: &str) -> Shape
     ensures { seen name.now result ≡ shape_of ObjectKind.CidrSet name.now }
 {
     match name {
-        "cidr" => Shape::One(Content::Text(TextForm::Cidr)),
-        "except" => CIDRS,
+        "cidr" => TEXT,
+        "except" => TEXTS,
         "cidrGroupRef" | "cidrGroupSelector" => Shape::Unsupported,
         _ => Shape::Unknown,
     }
@@ -315,8 +309,8 @@ fn ip_block_member(name: &str) -> Shape
     ensures { seen name.now result ≡ shape_of ObjectKind.IpBlock name.now }
 {
     match name {
-        "cidr" => Shape::One(Content::Text(TextForm::Cidr)),
-        "except" => CIDRS,
+        "cidr" => TEXT,
+        "except" => TEXTS,
         _ => Shape::Unknown,
     }
 }
