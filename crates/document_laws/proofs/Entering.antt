@@ -1,14 +1,14 @@
 -- Entries are read again, and nothing is wrong in a well-formed one.
-use Rattle.std.proofs.Common.{◌≡◌, ℕ, List, [], ◌∷◌, codes, ◌==◌, not, Option, None, Some, option_map, IfSome, IsTrue, refl}
+use Rattle.std.proofs.Common.{◌≡◌, ℕ, List, [], ◌∷◌, codes, not, Option, None, Some, option_map, IfSome, IsTrue, refl}
 use Rattle.std.specs.List.{list_any}
 use Rattle.serde_json.specs.Data.{string}
 use Rattle.document_laws.proofs.Again.{items_come_again, list_again, text_again, text_comes_again, whole_again}
 use Rattle.document_laws.proofs.Named.{has}
-use Rattle.document_laws.proofs.Nothing.{IsSound, any_if_there, each_if_there, each_sound, passes, sound_at, sound_if_there, sound_object, sound_unless_empty}
+use Rattle.document_laws.proofs.Nothing.{IsSound, all_sound, any_if_there, each_sound, passes, sound_at, sound_if_there, sound_object, sound_unless_empty}
 use Rattle.document_laws.proofs.Selecting.{any_text_sound, selector_again, selector_sound, text_is_again}
-use Rattle.document_laws.proofs.Shapes.{cidr_shape, entry_is, entry_shape, member_shape, number_shape, port_is, port_item_is, port_item_shape, port_shape, port_text_shape, protocol_shape, set_is, set_shape}
+use Rattle.document_laws.proofs.Shapes.{entry_is, entry_shape, member_shape, number_shape, port_is, port_item_is, port_item_shape, port_shape, port_text_shape, protocol_shape, set_is, set_shape}
 use Rattle.document_laws.specs.Fields.{unless_empty}
-use Rattle.document_laws.specs.WellFormed.{IsWellFormedCidr, IsWellFormedEntry, IsWellFormedItem, IsWellFormedPort, IsWellFormedSet}
+use Rattle.document_laws.specs.WellFormed.{IsWellFormedEntry, IsWellFormedItem, IsWellFormedPort}
 use Rattle.document_laws.specs.Written.{cidr_set_document, cidr_set_fields, entry_document, entry_fields, port_document, port_fields, port_item_document, port_item_fields, selector_document, whole_document}
 use Rattle.pol_json.specs.Build.{cidr_set_of, entry_of, port_item_of, port_of, selector_of, text_of}
 use Rattle.pol_json.specs.Places.{cause_of, is_icmp, left_out}
@@ -61,18 +61,14 @@ entry_again Egress e =
 
 -- ---- nothing is wrong
 
-pub cidr_sound : (text : List ℕ) → IsWellFormedCidr text → IsSound cidr_shape (string text)
-cidr_sound text well = sound_at cidr_shape (string text) (passes (not (list_any (λ byte. byte == 58) text)) (left_out (codes "ipv6")) well) refl
-
 set_cause : (cidr : List ℕ) (except : List (List ℕ)) → cause_of set_shape (cidr_set_document (record { cidr = cidr; except = except })) ≡ None
 set_cause cidr [] = refl
 set_cause cidr (text ∷ others) = refl
 
-set_sound : (s : RawCidrSet) → IsWellFormedSet s → IsSound set_shape (cidr_set_document s)
-set_sound s well =
-    let except =
-    sound_unless_empty string (member_shape set_shape (codes "except")) s.except tt (each_sound IsWellFormedCidr _ cidr_sound s.except well.except) in
-    sound_object set_shape set_is (cidr_set_fields s) (set_cause s.cidr s.except) (cidr_sound s.cidr well.cidr, (except, tt))
+set_sound : (s : RawCidrSet) → IsSound set_shape (cidr_set_document s)
+set_sound s =
+    let except = sound_unless_empty string (member_shape set_shape (codes "except")) s.except tt (all_sound _ any_text_sound s.except) in
+    sound_object set_shape set_is (cidr_set_fields s) (set_cause s.cidr s.except) (any_text_sound s.cidr, (except, tt))
 
 pub whole_sound : (n : Option ℕ) → IfSome (option_map whole_document n) (IsSound number_shape)
 whole_sound None = tt
@@ -103,20 +99,20 @@ port_item_sound item well =
 
 entry_sound_in : (e : RawEntry) → IsWellFormedEntry e → IsSound (entry_shape Ingress) (entry_document Ingress e)
 entry_sound_in e well =
-    let cidrs = sound_if_there string (member_shape (entry_shape Ingress) (codes "fromCIDR")) e.cidrs tt (each_if_there IsWellFormedCidr _ cidr_sound e.cidrs well.cidrs) in
-    let sets = sound_if_there cidr_set_document (member_shape (entry_shape Ingress) (codes "fromCIDRSet")) e.cidr_sets tt (each_if_there IsWellFormedSet _ set_sound e.cidr_sets well.cidr_sets) in
+    let cidrs = sound_if_there string (member_shape (entry_shape Ingress) (codes "fromCIDR")) e.cidrs tt (any_if_there _ any_text_sound e.cidrs) in
+    let sets = sound_if_there cidr_set_document (member_shape (entry_shape Ingress) (codes "fromCIDRSet")) e.cidr_sets tt (any_if_there _ set_sound e.cidr_sets) in
     let endpoints = sound_if_there selector_document (member_shape (entry_shape Ingress) (codes "fromEndpoints")) e.endpoints tt (any_if_there _ selector_sound e.endpoints) in
     let entities = sound_if_there string (member_shape (entry_shape Ingress) (codes "fromEntities")) e.entities tt (any_if_there _ any_text_sound e.entities) in
-    let ports = sound_unless_empty port_item_document (member_shape (entry_shape Ingress) (codes "toPorts")) e.ports tt (each_sound IsWellFormedItem _ port_item_sound e.ports well.ports) in
+    let ports = sound_unless_empty port_item_document (member_shape (entry_shape Ingress) (codes "toPorts")) e.ports tt (each_sound IsWellFormedItem _ port_item_sound e.ports well) in
     sound_object (entry_shape Ingress) (entry_is Ingress) (entry_fields Ingress e) refl (cidrs, (sets, (endpoints, (entities, (ports, tt)))))
 
 entry_sound_out : (e : RawEntry) → IsWellFormedEntry e → IsSound (entry_shape Egress) (entry_document Egress e)
 entry_sound_out e well =
-    let cidrs = sound_if_there string (member_shape (entry_shape Egress) (codes "toCIDR")) e.cidrs tt (each_if_there IsWellFormedCidr _ cidr_sound e.cidrs well.cidrs) in
-    let sets = sound_if_there cidr_set_document (member_shape (entry_shape Egress) (codes "toCIDRSet")) e.cidr_sets tt (each_if_there IsWellFormedSet _ set_sound e.cidr_sets well.cidr_sets) in
+    let cidrs = sound_if_there string (member_shape (entry_shape Egress) (codes "toCIDR")) e.cidrs tt (any_if_there _ any_text_sound e.cidrs) in
+    let sets = sound_if_there cidr_set_document (member_shape (entry_shape Egress) (codes "toCIDRSet")) e.cidr_sets tt (any_if_there _ set_sound e.cidr_sets) in
     let endpoints = sound_if_there selector_document (member_shape (entry_shape Egress) (codes "toEndpoints")) e.endpoints tt (any_if_there _ selector_sound e.endpoints) in
     let entities = sound_if_there string (member_shape (entry_shape Egress) (codes "toEntities")) e.entities tt (any_if_there _ any_text_sound e.entities) in
-    let ports = sound_unless_empty port_item_document (member_shape (entry_shape Egress) (codes "toPorts")) e.ports tt (each_sound IsWellFormedItem _ port_item_sound e.ports well.ports) in
+    let ports = sound_unless_empty port_item_document (member_shape (entry_shape Egress) (codes "toPorts")) e.ports tt (each_sound IsWellFormedItem _ port_item_sound e.ports well) in
     sound_object (entry_shape Egress) (entry_is Egress) (entry_fields Egress e) refl (cidrs, (sets, (endpoints, (entities, (ports, tt)))))
 
 pub entry_sound : (dir : Direction) (e : RawEntry) → IsWellFormedEntry e → IsSound (entry_shape dir) (entry_document dir e)

@@ -5,12 +5,12 @@ use Rattle.std.specs.Option.{option_or}
 use Rattle.serde_json.specs.Data.{Data}
 use Rattle.serde_json.specs.Find.{as_array}
 use Rattle.document_laws.proofs.Nothing.{IsSound}
-use Rattle.document_laws.proofs.Shapes.{cidr_shape, entry_is, entry_shape, member_shape, policy_is, policy_shape, port_is, port_item_is, port_item_shape, port_shape, rule_is, rule_shape, set_is, set_shape}
-use Rattle.document_laws.proofs.Within.{items_well, list_well, member_text_well, passed, sound_items_within, sound_within, text_well}
-use Rattle.document_laws.specs.WellFormed.{IsWellFormed, IsWellFormedCidr, IsWellFormedEntry, IsWellFormedItem, IsWellFormedPort, IsWellFormedRule, IsWellFormedSet}
+use Rattle.document_laws.proofs.Shapes.{entry_is, entry_shape, member_shape, policy_is, policy_shape, port_is, port_item_is, port_item_shape, port_shape, rule_is, rule_shape}
+use Rattle.document_laws.proofs.Within.{items_well, member_text_well, passed, sound_items_within, sound_within}
+use Rattle.document_laws.specs.WellFormed.{IsWellFormed, IsWellFormedEntry, IsWellFormedItem, IsWellFormedPort, IsWellFormedRule}
 use Rattle.pol_json.proofs.FirstFaults.{nothing_found}
 use Rattle.pol_json.proofs.Keys.{key_name, key_namespace, wide_key}
-use Rattle.pol_json.specs.Build.{cidr_set_of, entry_of, member_items, policy_of, port_item_of, port_of, rule_of, rules_of, text_of}
+use Rattle.pol_json.specs.Build.{entry_of, member_items, policy_of, port_item_of, port_of, rule_of, rules_of}
 use Rattle.pol_json.specs.Document.{first_fault, has_name, has_spec, head_fault, is_empty_list, is_policy, is_there_and_long, places_of, read_document, unless_fault}
 use Rattle.pol_json.specs.Members.{items_list, present}
 use Rattle.pol_json.specs.Path.{fault_of}
@@ -25,26 +25,11 @@ use Rattle.pol_rule.specs.declared.raw.RawRule.{RawRule}
 
 -- ---- entries
 
-abbrev pub cidr_cause : List ℕ → Option Cause
-cidr_cause text = unless (not (list_any (λ byte. byte == 58) text)) (left_out (codes "ipv6"))
-
 abbrev port_cause : List ℕ → Option Cause
 port_cause text = unless (not (list_any is_letter text)) (left_out (codes "named-port"))
 
 abbrev protocol_cause : List ℕ → Option Cause
 protocol_cause text = unless (not (is_icmp text)) (left_out (codes "icmp"))
-
-pub cidr_passes : (text : List ℕ) → cidr_cause text ≡ None → IsWellFormedCidr text
-cidr_passes text none = passed (not (list_any (λ byte. byte == 58) text)) (left_out (codes "ipv6")) none
-
-pub cidr_well : (d : Data) → IsSound cidr_shape d → IsWellFormedCidr (text_of d)
-cidr_well d sound = text_well IsWellFormedCidr cidr_cause refl cidr_passes cidr_shape d (λ e. refl) sound
-
-set_well : (d : Data) → IsSound set_shape d → IsWellFormedSet (cidr_set_of d)
-set_well d sound = record {
-  cidr = member_text_well IsWellFormedCidr cidr_cause refl cidr_passes set_shape set_is (codes "cidr") d (λ e. refl) sound;
-  except = items_well IsWellFormedCidr text_of set_shape set_is (codes "except") d tt sound cidr_well;
-}
 
 abbrev IsUnnamed : List ℕ → Type 0
 IsUnnamed text = IsTrue (not (list_any is_letter text))
@@ -68,16 +53,8 @@ item_well : (d : Data) → IsSound port_item_shape d → IsWellFormedItem (port_
 item_well d sound = items_well IsWellFormedPort port_of port_item_shape port_item_is (codes "ports") d tt sound port_well
 
 entry_well : (dir : Direction) (d : Data) → IsSound (entry_shape dir) d → IsWellFormedEntry (entry_of dir d)
-entry_well Ingress d sound = record {
-  cidrs = list_well IsWellFormedCidr text_of (entry_shape Ingress) (entry_is Ingress) (codes "fromCIDR") d tt sound cidr_well;
-  cidr_sets = list_well IsWellFormedSet cidr_set_of (entry_shape Ingress) (entry_is Ingress) (codes "fromCIDRSet") d tt sound set_well;
-  ports = items_well IsWellFormedItem port_item_of (entry_shape Ingress) (entry_is Ingress) (codes "toPorts") d tt sound item_well;
-}
-entry_well Egress d sound = record {
-  cidrs = list_well IsWellFormedCidr text_of (entry_shape Egress) (entry_is Egress) (codes "toCIDR") d tt sound cidr_well;
-  cidr_sets = list_well IsWellFormedSet cidr_set_of (entry_shape Egress) (entry_is Egress) (codes "toCIDRSet") d tt sound set_well;
-  ports = items_well IsWellFormedItem port_item_of (entry_shape Egress) (entry_is Egress) (codes "toPorts") d tt sound item_well;
-}
+entry_well Ingress d sound = items_well IsWellFormedItem port_item_of (entry_shape Ingress) (entry_is Ingress) (codes "toPorts") d tt sound item_well
+entry_well Egress d sound = items_well IsWellFormedItem port_item_of (entry_shape Egress) (entry_is Egress) (codes "toPorts") d tt sound item_well
 
 -- ---- rules
 

@@ -127,10 +127,6 @@ pub all_sound : {A : Type 0} (Q : A → Type 0) → ((x : A) → Q x) → (xs : 
 all_sound Q holds [] = tt
 all_sound Q holds (x ∷ xs) = (holds x, all_sound Q holds xs)
 
-pub each_if_there : {A : Type 0} (P Q : A → Type 0) → ((x : A) → P x → Q x) → (list : Option (List A)) → IfSome list (AllByRecursion P) → IfSome list (AllByRecursion Q)
-each_if_there P Q lifts None all = tt
-each_if_there P Q lifts (Some xs) all = each_sound P Q lifts xs all
-
 pub any_if_there : {A : Type 0} (Q : A → Type 0) → ((x : A) → Q x) → (list : Option (List A)) → IfSome list (AllByRecursion Q)
 any_if_there Q holds None = tt
 any_if_there Q holds (Some xs) = all_sound Q holds xs

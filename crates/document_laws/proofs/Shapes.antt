@@ -66,9 +66,6 @@ text_shape = member_shape expression_shape (codes "key")
 abbrev pub entry_shape : Direction → Shape
 entry_shape dir = item_shape (member_shape rule_shape (by_direction dir (codes "ingress") (codes "egress")))
 
-abbrev pub cidr_shape : Shape
-cidr_shape = item_shape (member_shape (entry_shape Ingress) (codes "fromCIDR"))
-
 abbrev pub set_shape : Shape
 set_shape = item_shape (member_shape (entry_shape Ingress) (codes "fromCIDRSet"))
 

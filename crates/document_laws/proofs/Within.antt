@@ -10,7 +10,7 @@ use Rattle.serde_json.specs.Find.{as_array, as_str, get_member}
 use Rattle.document_laws.proofs.Nothing.{IsListing, IsSound, found_with, items_below}
 use Rattle.document_laws.proofs.Shapes.{IsObject, item_shape, member_shape}
 use Rattle.pol_json.proofs.Steps.{first_of_both, first_under, further}
-use Rattle.pol_json.specs.Build.{items_if_there, member_items, member_of, member_text, text_of}
+use Rattle.pol_json.specs.Build.{items_if_there, member_items, member_text, text_of}
 use Rattle.pol_json.specs.Members.{is_null, items_list, list_at, present, unless_null}
 use Rattle.pol_json.specs.Places.{Cause, Found, Place, Step, below, below_items, cause_of, first_found, here, named, numbered, or_wrong, places, under, unless, unless_absent}
 use Rattle.pol_json.specs.Table.{Shape, unknown, unsupported, one, list_of}
@@ -155,7 +155,7 @@ module _ {A : Type 0} (P : A → Type 0) (read : Data → A) (shape : Shape) (of
       subst (λ f. IfSome (option_map (map read) (option_and_then (λ ds. Some (items_list ds)) f)) (AllByRecursion P)) (sym within.1)
       (each_well well (items_list within.0) within.2)
 
-  pub list_well : (d : Data) → IsListing (member_shape shape name) → IsSound shape d
+  list_well : (d : Data) → IsListing (member_shape shape name) → IsSound shape d
       → ((e : Data) → IsSound (item_shape (member_shape shape name)) e → P (read e)) → IfSome (items_if_there read name d) (AllByRecursion P)
   list_well d listing sound well = by_member d (present name d) refl listing sound well
 
@@ -166,14 +166,6 @@ module _ {A : Type 0} (P : A → Type 0) (read : Data → A) (shape : Shape) (of
   pub items_well : (d : Data) → IsListing (member_shape shape name) → IsSound shape d
       → ((e : Data) → IsSound (item_shape (member_shape shape name)) e → P (read e)) → AllByRecursion P (member_items read name d)
   items_well d listing sound well = or_empty (list_at name d) (list_well d listing sound well)
-
-  member_by : (d : Data) (found : Option Data) → present name d ≡ found → IsSound shape d
-      → ((e : Data) → IsSound (member_shape shape name) e → P (read e)) → IfSome (option_map read found) P
-  member_by d None is sound well = tt
-  member_by d (Some e) is sound well = well e (sound_within shape of name d e sound is)
-
-  pub member_well : (d : Data) → IsSound shape d → ((e : Data) → IsSound (member_shape shape name) e → P (read e)) → IfSome (member_of read name d) P
-  member_well d sound well = member_by d (present name d) refl sound well
 
 -- ---- texts
 
@@ -186,7 +178,7 @@ module _ (P : List ℕ → Type 0) (cause : List ℕ → Option Cause) (empty : 
   by_text None none = empty
   by_text (Some text) none = well text none
 
-  pub text_well : (shape : Shape) (d : Data) → IsTextual shape cause → IsSound shape d → P (text_of d)
+  text_well : (shape : Shape) (d : Data) → IsTextual shape cause → IsSound shape d → P (text_of d)
   text_well shape d textual sound = by_text (as_str d) (sym (textual d) ∙ no_cause shape d sound)
 
   text_found : (shape : Shape) (of : IsObject shape) (name : List ℕ) (d : Data) (found : Option Data) → present name d ≡ found

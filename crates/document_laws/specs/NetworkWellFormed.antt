@@ -1,20 +1,10 @@
--- What a NetworkPolicy has to meet so that a document can write it: no prefix is one of IPv6, and it has a key that documents
--- give. Nothing else is judged before the object is.
-use Rattle.std.specs.Prelude.{◌≡◌, ◌++◌, false, IfSome, IsTrue}
-use Rattle.std.specs.List.{AllByRecursion}
+-- What a NetworkPolicy has to meet so that a document can write it: it has a key that documents give. Nothing else is judged before
+-- the object is.
+use Rattle.std.specs.Prelude.{◌≡◌, ◌++◌, false, IsTrue}
 use Rattle.document_laws.specs.NetworkWritten.{net_front, net_name}
-use Rattle.document_laws.specs.WellFormed.{IsWellFormedSet}
 use Rattle.pol_json.specs.Texts.{is_dns_name}
-use Rattle.pol_netpol.specs.declared.raw.RawNetEntry.{RawNetEntry}
-use Rattle.pol_netpol.specs.declared.raw.RawNetPeer.{RawNetPeer}
 use Rattle.pol_netpol.specs.declared.raw.RawNetworkPolicy.{RawNetworkPolicy}
 use Rattle.pol_rule.specs.declared.policy.PolicyKey.{PolicyKey}
-
-abbrev pub IsWellFormedPeer : RawNetPeer → Type 0
-IsWellFormedPeer peer = IfSome peer.block IsWellFormedSet
-
-abbrev pub IsWellFormedNetEntry : RawNetEntry → Type 0
-IsWellFormedNetEntry entry = AllByRecursion IsWellFormedPeer entry.peers
 
 -- the object is in a namespace, and its name stands behind `networkpolicy/`; both names are those of Kubernetes
 pub record IsWellFormedNetKey (key : PolicyKey) : Type 0 where
@@ -23,7 +13,5 @@ pub record IsWellFormedNetKey (key : PolicyKey) : Type 0 where
   pub front : key.name ≡ net_front ++ net_name key
   pub name : IsTrue (is_dns_name (net_name key))
 
-pub record IsWellFormedNetwork (policy : RawNetworkPolicy) : Type 0 where
-  pub key : IsWellFormedNetKey policy.key
-  pub ingress : AllByRecursion IsWellFormedNetEntry policy.ingress
-  pub egress : AllByRecursion IsWellFormedNetEntry policy.egress
+abbrev pub IsWellFormedNetwork : RawNetworkPolicy → Type 0
+IsWellFormedNetwork policy = IsWellFormedNetKey policy.key

@@ -1,24 +1,15 @@
 -- What a written policy has to meet so that a document can write it: nothing that the profile leaves out stands in its texts,
 -- it has a key that documents give, and it has a rule.
-use Rattle.std.specs.Prelude.{◌≡◌, ◌≢◌, ℕ, ◌==◌, not, true, false, List, [], IfSome, IsTrue}
+use Rattle.std.specs.Prelude.{◌≡◌, ◌≢◌, not, true, false, List, [], IsTrue}
 use Rattle.std.specs.List.{AllByRecursion, list_any}
 use Rattle.pol_json.specs.Places.{is_icmp}
 use Rattle.pol_json.specs.Texts.{is_dns_name, is_letter}
 use Rattle.pol_rule.specs.declared.policy.PolicyKey.{PolicyKey}
-use Rattle.pol_rule.specs.declared.raw.RawCidrSet.{RawCidrSet}
 use Rattle.pol_rule.specs.declared.raw.RawEntry.{RawEntry}
 use Rattle.pol_rule.specs.declared.raw.RawPolicy.{RawPolicy}
 use Rattle.pol_rule.specs.declared.raw.RawPort.{RawPort}
 use Rattle.pol_rule.specs.declared.raw.RawPortItem.{RawPortItem}
 use Rattle.pol_rule.specs.declared.raw.RawRule.{RawRule}
-
--- a CIDR text with a `:` is one of IPv6
-abbrev pub IsWellFormedCidr : List ℕ → Type 0
-IsWellFormedCidr text = IsTrue (not (list_any (λ byte. byte == 58) text))
-
-pub record IsWellFormedSet (set : RawCidrSet) : Type 0 where
-  pub cidr : IsWellFormedCidr set.cidr
-  pub except : AllByRecursion IsWellFormedCidr set.except
 
 -- a port text with a letter is a named port; ICMP has no ports
 pub record IsWellFormedPort (port : RawPort) : Type 0 where
@@ -28,10 +19,8 @@ pub record IsWellFormedPort (port : RawPort) : Type 0 where
 abbrev pub IsWellFormedItem : RawPortItem → Type 0
 IsWellFormedItem item = AllByRecursion IsWellFormedPort item.ports
 
-pub record IsWellFormedEntry (entry : RawEntry) : Type 0 where
-  pub cidrs : IfSome entry.cidrs (AllByRecursion IsWellFormedCidr)
-  pub cidr_sets : IfSome entry.cidr_sets (AllByRecursion IsWellFormedSet)
-  pub ports : AllByRecursion IsWellFormedItem entry.ports
+abbrev pub IsWellFormedEntry : RawEntry → Type 0
+IsWellFormedEntry entry = AllByRecursion IsWellFormedItem entry.ports
 
 abbrev pub IsWellFormedSection : List RawEntry → Type 0
 IsWellFormedSection entries = AllByRecursion IsWellFormedEntry entries
