@@ -1,5 +1,6 @@
 -- Small objects and rows, for examples that compute.
-use Rattle.std.specs.Prelude.{ℕ, ◌+◌, ◌*◌, ◌^◌, false, List, [], ◌∷◌, codes, Option, None, Some}
+use Rattle.std.specs.Prelude.{ℕ, false, List, [], ◌∷◌, codes, Option, None, Some}
+use Rattle.pol_addr.specs.Address.{addr_of_groups, addr_of_octets}
 use Rattle.pol_addr.specs.declared.network.Prefix.{Prefix}
 use Rattle.pol_labels.specs.declared.label.Label.{Label}
 use Rattle.pol_mapkey.specs.declared.Word.{Word}
@@ -36,7 +37,11 @@ row labels prefix = record { number = 300; labels = labels; prefix = prefix; hol
 
 -- 10.N.0.0/16
 abbrev pub net : ℕ → IdentityRow
-net n = row [] (Some (record { bits = 10 * 2 ^ 24 + n * 2 ^ 16; len = 16 }))
+net n = row [] (Some (record { addr = addr_of_octets 10 n 0 0; len = 16 }))
+
+-- 2001:db8:N::/48
+abbrev pub net6 : ℕ → IdentityRow
+net6 n = row [] (Some (record { addr = addr_of_groups (8193 ∷ 3512 ∷ n ∷ 0 ∷ 0 ∷ 0 ∷ 0 ∷ 0 ∷ []); len = 48 }))
 
 -- ---- objects
 abbrev pub asking : List ℕ → List ℕ → RawSelector
@@ -92,16 +97,20 @@ web_to_db =
 abbrev pub deny : RawNetworkPolicy
 deny = object anything (codes "Ingress" ∷ codes "Egress" ∷ []) [] []
 
+-- lets what the block takes in
+abbrev pub lets_block_in : List ℕ → List (List ℕ) → RawNetworkPolicy
+lets_block_in cidr except = object anything [] (entry (block cidr except ∷ []) [] ∷ []) []
+
 -- lets all in
 abbrev pub lets_all_in : RawNetworkPolicy
 lets_all_in = object anything [] (entry [] [] ∷ []) []
 
 -- ---- verdicts
 abbrev pub adds : List ℕ → ℕ → Request
-adds name host = AddEndpoint name (pod (codes "default") name) (record { bits = 10 * 2 ^ 24 + host })
+adds name host = AddEndpoint name (pod (codes "default") name) (addr_of_octets 10 0 0 host)
 
 -- the verdict at the endpoint `db` where `web` and `db` are, with the object's policy
 abbrev pub word_at : Options → RawNetworkPolicy → Direction → ℕ → Proto → ℕ → Word
 word_at options raw dir number proto port =
     verdict_of options (state_of options (SetMode Default ∷ adds (codes "web") 1 ∷ adds (codes "db") 2 ∷ Apply (policy_of raw) ∷ []))
-    (new_endpoint (start options) (codes "db") (pod (codes "default") (codes "db")) (record { bits = 10 * 2 ^ 24 + 2 })) dir number proto port
+    (new_endpoint (start options) (codes "db") (pod (codes "default") (codes "db")) (addr_of_octets 10 0 0 2)) dir number proto port

@@ -6,7 +6,7 @@ ghost use Rattle.pol_json.specs.declared.fault.DocFault.TheVariants as fault;
 ghost use Rattle.pol_rule.specs.declared.cause.RuleCause.TheVariants as rule;
 ghost use Rattle.pol_rule.specs.declared.policy.Section.TheVariants as section;
 ghost use Rattle.pol_netpol.specs.Document.{netpol_of, read_document};
-ghost use Rattle.pol_netpol.specs.Examples.{deny, lets_all_in, web_to_db};
+ghost use Rattle.pol_netpol.specs.Examples.{deny, lets_all_in, lets_block_in, web_to_db};
 ghost use Rattle.pol_netpol.specs.Faults.{fault_at};
 ghost use Rattle.pol_netpol.specs.Values.{fields, headed, items, named_np, network, of_app, only_item, with_entry, with_peer, with_port};
 ghost use Rattle.pol_netpol.specs.declared.fault.NetFault.TheVariants.{Doc, Rule};
@@ -23,6 +23,7 @@ pub fn documents_are_objects()
         ∷ (codes "policyTypes", only_item (string (codes "Ingress"))) ∷ [])) ≡ Ok web_to_db }
     ensures deny { read_document (network ((codes "podSelector", fields []) ∷ (codes "policyTypes", items (string (codes "Ingress") ∷ string (codes "Egress") ∷ [])) ∷ [])) ≡ Ok deny }
     ensures opened { read_document (with_entry (codes "ingress") []) ≡ Ok lets_all_in }
+    ensures of_ipv6 { read_document (with_peer ((codes "ipBlock", fields ((codes "cidr", string (codes "::/0")) ∷ (codes "except", only_item (string (codes "2001:db8::/32"))) ∷ [])) ∷ [])) ≡ Ok (lets_block_in (codes "::/0") (codes "2001:db8::/32" ∷ [])) }
     ensures null_members { read_document (with_entry (codes "ingress") ((codes "from", null) ∷ (codes "to", null) ∷ [])) ≡ Ok lets_all_in }
 {}
 
@@ -42,7 +43,6 @@ pub fn members_are_told()
     ensures named_port { netpol_of (with_port ((codes "port", string (codes "80")) ∷ [])) ≡ Err (Doc (fault.Unsupported (codes "named-port"))) }
     ensures port { netpol_of (with_port ((codes "port", boolean true) ∷ [])) ≡ Err (Doc (fault.WrongShape (codes "spec.ingress[0].ports[0].port"))) }
     ensures no_cidr { netpol_of (with_peer ((codes "ipBlock", fields []) ∷ [])) ≡ Err (Doc (fault.WrongShape (codes "spec.ingress[0].from[0].ipBlock.cidr"))) }
-    ensures other_family { netpol_of (with_peer ((codes "ipBlock", fields ((codes "cidr", string (codes "::/0")) ∷ [])) ∷ [])) ≡ Err (Doc (fault.Unsupported (codes "ipv6"))) }
     ensures document_first { netpol_of (network ((codes "x", items []) ∷ [])) ≡ Err (Doc (fault.UnknownMember (codes "spec.x"))) }
     ensures no_member { netpol_of (with_peer []) ≡ Err (Rule (fault_at (Some (section.Ingress, 0)) rule.BadPeer)) }
 {}

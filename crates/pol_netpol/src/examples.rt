@@ -9,7 +9,7 @@ ghost use Rattle.pol_rule.specs.Covers.{entry_covers};
 ghost use Rattle.pol_rule.specs.declared.policy.Peers.TheVariants.{Every};
 ghost use Rattle.pol_rule.specs.declared.cause.RuleCause.TheVariants as rule;
 ghost use Rattle.pol_rule.specs.declared.policy.Section.TheVariants as section;
-ghost use Rattle.pol_netpol.specs.Examples.{anything, asking, bare, block, deny, entry, namespaces, net, object, lets_all_in, pod, pod_of_team, pods, pods_in, port, port_with, row, web_to_db, word_at};
+ghost use Rattle.pol_netpol.specs.Examples.{anything, asking, bare, block, deny, entry, namespaces, net, net6, object, lets_all_in, lets_block_in, pod, pod_of_team, pods, pods_in, port, port_with, row, web_to_db, word_at};
 ghost use Rattle.pol_netpol.specs.Faults.{fault_at, first_fault};
 ghost use Rattle.pol_netpol.specs.Meaning.{allows, isolates, peer_takes, port_takes};
 
@@ -49,6 +49,20 @@ pub fn blocks_except()
     ensures within { peer_takes (codes "default") (block (codes "10.0.0.0/8") (codes "10.1.0.0/16" ∷ [])) (net 2) ≡ true }
     ensures excepted { peer_takes (codes "default") (block (codes "10.0.0.0/8") (codes "10.1.0.0/16" ∷ [])) (net 1) ≡ false }
     ensures no_prefix { peer_takes (codes "default") (block (codes "0.0.0.0/0") []) (row (pod (codes "default") (codes "web")) None) ≡ false }
+{}
+
+/// A range takes nothing of the other family, not even 0.0.0.0/0 or ::/0 does; and an exception of the other family doesn't lie
+/// inside its range ('profile').
+pub fn blocks_are_of_one_family()
+    ensures within { peer_takes (codes "default") (block (codes "2001:db8::/32") (codes "2001:DB8:1::/48" ∷ [])) (net6 2) ≡ true }
+    ensures excepted { peer_takes (codes "default") (block (codes "2001:db8::/32") (codes "2001:DB8:1::/48" ∷ [])) (net6 1) ≡ false }
+    ensures ipv6_world { peer_takes (codes "default") (block (codes "::/0") []) (net6 1) ≡ true }
+    ensures not_ipv4 { peer_takes (codes "default") (block (codes "::/0") []) (net 1) ≡ false }
+    ensures not_ipv6 { peer_takes (codes "default") (block (codes "0.0.0.0/0") []) (net6 1) ≡ false }
+    ensures same_family { first_fault (lets_block_in (codes "::/0") (codes "2001:db8::/32" ∷ [])) ≡ None }
+    ensures except_of_ipv6 { first_fault (lets_block_in (codes "10.0.0.0/8") (codes "2001:db8::/32" ∷ [])) ≡ Some (fault_at (Some (section.Ingress, 0)) rule.ExceptOutside) }
+    ensures except_of_ipv4 { first_fault (lets_block_in (codes "::/0") (codes "10.0.0.0/8" ∷ [])) ≡ Some (fault_at (Some (section.Ingress, 0)) rule.ExceptOutside) }
+    ensures bad_text { first_fault (lets_block_in (codes "1::2::3/64") []) ≡ Some (fault_at (Some (section.Ingress, 0)) rule.BadCidr) }
 {}
 
 /// A port without a protocol is of TCP alone; without `endPort` it is one port, and without `port` every port.

@@ -26,10 +26,6 @@ pub returns-clause-no_cidr : goal.returns-clause-no_cidr
 unfolding digits
 returns-clause-no_cidr c = refl
 
-pub returns-clause-other_family : goal.returns-clause-other_family
-unfolding digits
-returns-clause-other_family c = refl
-
 pub returns-clause-document_first : goal.returns-clause-document_first
 unfolding digits
 returns-clause-document_first c = refl
