@@ -5,7 +5,7 @@ use Rattle.document_laws.proofs.Needed.{read_is_well_formed}
 use Rattle.document_laws.proofs.NetworkPolicies.{read_network_is_well_formed}
 use Rattle.document_laws.specs.NetworkWritten.{network_document_of}
 use Rattle.document_laws.specs.Written.{document_of}
-use Rattle.pol_addr.proofs.Texts.{read_addr_sound}
+use Rattle.pol_addr.proofs.HexTexts.{read_addr_sound}
 use Rattle.pol_addr.specs.Address.{read_addr}
 use Rattle.pol_addr.specs.Grammar.{WritesAddr}
 use Rattle.pol_addr.specs.declared.address.Addr.{Addr}

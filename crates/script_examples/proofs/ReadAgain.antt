@@ -5,7 +5,7 @@ use Rattle.serde_json.specs.Find.{as_str}
 use Rattle.document_laws.proofs.NetworkPolicies.{networks_again}
 use Rattle.document_laws.proofs.Policies.{policies_again}
 use Rattle.document_laws.specs.Written.{document_of, ruled_document}
-use Rattle.pol_addr.proofs.Texts.{read_addr_complete}
+use Rattle.pol_addr.proofs.HexTexts.{read_addr_complete}
 use Rattle.pol_addr.specs.declared.address.Addr.{Addr}
 use Rattle.pol_addr.specs.Grammar.{WritesAddr}
 use Rattle.pol_json.specs.Members.{is_null, items_list}

@@ -76,13 +76,12 @@ pub fn names_are_left_out()
     ensures unknown_port_item { AreUnknown (codes "spec.ingress[0].toPorts[0].") in_port_item (codes "icmps" ∷ codes "port" ∷ []) }
 {}
 
-/// Texts that are left out: a port with a letter, ICMP by either name without ASCII case, and a prefix with a colon
-/// ('profile').
+/// Texts that are left out: a port with a letter, and ICMP by either name without ASCII case. No text of a prefix is: whether it
+/// is one is told by its rule ('profile').
 pub fn texts_are_left_out()
     ensures ports { map as_port (codes "http" ∷ codes "HTTP" ∷ codes "8o" ∷ []) ≡ replicate 3 (Some (fault.Unsupported (codes "named-port"))) }
     ensures no_ports { map as_port (codes "80" ∷ codes "" ∷ codes "-" ∷ codes "000080" ∷ []) ≡ replicate 4 None }
     ensures protocols { map as_protocol (codes "ICMP" ∷ codes "icmp" ∷ codes "ICMPv6" ∷ codes "icmpV6" ∷ []) ≡ replicate 4 (Some (fault.Unsupported (codes "icmp"))) }
     ensures no_protocols { map as_protocol (codes "ICMPv4" ∷ codes "TCP" ∷ codes "" ∷ []) ≡ replicate 3 None }
-    ensures cidrs { map as_cidr (codes "::/0" ∷ codes "10.0.0.0:8" ∷ []) ≡ replicate 2 (Some (fault.Unsupported (codes "ipv6"))) }
-    ensures no_cidrs { map as_cidr (codes "10.0.0.0/8" ∷ codes "ten" ∷ []) ≡ replicate 2 None }
+    ensures cidrs { map as_cidr (codes "::/0" ∷ codes "10.0.0.0:8" ∷ codes "10.0.0.0/8" ∷ codes "ten" ∷ []) ≡ replicate 4 None }
 {}

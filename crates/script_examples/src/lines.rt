@@ -1,14 +1,20 @@
 //! What lines of the script ask, and what they are refused for, on small lines; and that each command is read again.
-ghost use Rattle.std.specs.Prelude.{◌≡◌, ℕ, List, [], ◌∷◌, codes, Ok, Err};
+ghost use Rattle.std.specs.Prelude.{◌≡◌, ℕ, List, [], ◌∷◌, codes, map, replicate, None, Ok, Err};
 ghost use Rattle.serde_json.specs.Data.{Data, unsigned, null, number};
+ghost use Rattle.pol_addr.specs.Address.{addr_of_groups, addr_of_octets};
 ghost use Rattle.pol_model.specs.declared.options.Mode.TheVariants as mode;
+ghost use Rattle.pol_model.specs.declared.request.Remote.TheVariants as remote;
 ghost use Rattle.pol_model.specs.declared.request.Request.TheVariants as request;
+ghost use Rattle.pol_ports.specs.declared.Direction.TheVariants.{Ingress};
+ghost use Rattle.pol_ports.specs.declared.Proto.TheVariants.{Tcp};
 ghost use Rattle.pol_script.specs.Reading.{object_of, read_object, reading_of};
 ghost use Rattle.pol_script.specs.declared.command.Command.{Command};
 ghost use Rattle.pol_script.specs.declared.command.Command.TheVariants as command;
 ghost use Rattle.pol_script.specs.declared.line_fault.LineFault.TheVariants as fault;
 ghost use Rattle.script_examples.specs.Answers.{own, wide};
 ghost use Rattle.script_examples.specs.Commands.{Writes};
+ghost use Rattle.script_examples.specs.Endpoints.{IsReadAt, at_address};
+ghost use Rattle.script_examples.specs.Printed.{address_query_line};
 ghost use Rattle.script_examples.specs.Values.{fields, items, text};
 
 /// A `delete` takes each name of the script, also one that no policy can have; a namespace that isn't named is `default`,
@@ -54,6 +60,20 @@ pub fn faults_of_lines_are_in_order()
     ensures null_is_absent { read_object (fields ((codes "enable", text (codes "always")) ∷ (codes "op", text (codes "mode")) ∷ (codes "other", null) ∷ (codes "session", null) ∷ []))
         ≡ Ok (command.Commit 1 (request.SetMode mode.Always)) }
     ensures phase_has_no_session { read_object (fields ((codes "op", text (codes "phase")) ∷ (codes "session", number (unsigned 1)) ∷ [])) ≡ Err (fault.UnknownField (codes "session")) }
+{}
+
+/// An address is one of either family, in any of its texts ('profile').
+pub fn addresses_are_of_either_family()
+    ensures ipv4 { IsReadAt (codes "10.0.0.1") (addr_of_octets 10 0 0 1) }
+    ensures ipv6 { IsReadAt (codes "fd00::1") (addr_of_groups (64768 ∷ 0 ∷ 0 ∷ 0 ∷ 0 ∷ 0 ∷ 0 ∷ 1 ∷ [])) }
+    ensures eight_groups { IsReadAt (codes "FD00:0:0:0:0:0:0:1") (addr_of_groups (64768 ∷ 0 ∷ 0 ∷ 0 ∷ 0 ∷ 0 ∷ 0 ∷ 1 ∷ [])) }
+    ensures zeros { IsReadAt (codes "fd00::0001") (addr_of_groups (64768 ∷ 0 ∷ 0 ∷ 0 ∷ 0 ∷ 0 ∷ 0 ∷ 1 ∷ [])) }
+    ensures nothing { IsReadAt (codes "::") (addr_of_groups (0 ∷ 0 ∷ 0 ∷ 0 ∷ 0 ∷ 0 ∷ 0 ∷ 0 ∷ [])) }
+    ensures query { read_object (address_query_line (codes "trace") None (codes "web") Ingress (codes "2001:db9::1") Tcp 80)
+        ≡ Ok (command.Trace 1 (record { endpoint = codes "web"; dir = Ingress; remote = remote.Address (addr_of_groups (8193 ∷ 3513 ∷ 0 ∷ 0 ∷ 0 ∷ 0 ∷ 0 ∷ 1 ∷ [])); proto = Tcp; port = 80 })) }
+    ensures none { map at_address (codes "1::2::3" ∷ codes "1:2:3:4::5:6:7:8" ∷ codes "1:2:3:4:5:6:7:8:9" ∷ codes "1:2:3:4:5:6:7" ∷ codes "::00001" ∷ codes "::fffg" ∷ codes "::ffff:10.0.0.1" ∷ codes "fe80::1%1" ∷ codes "::/128" ∷ [])
+        ≡ replicate 9 (Err fault.BadAddress) }
+    ensures of_a_query { read_object (address_query_line (codes "verdict") None (codes "web") Ingress (codes "::1::") Tcp 80) ≡ Err fault.BadAddress }
 {}
 
 /// Every command is read again from each value that writes it ('profile'): a session or a namespace that is the one left out

@@ -1,9 +1,13 @@
 //! What selectors ask, and what rules are refused for, on small rules.
-ghost use Rattle.std.specs.Prelude.{◌≡◌, [], ◌∷◌, codes, map, None, Some};
+ghost use Rattle.std.specs.Prelude.{◌≡◌, [], ◌∷◌, codes, map, replicate, None, Some};
+ghost use Rattle.pol_addr.specs.Address.{addr_of_groups, addr_of_octets};
 ghost use Rattle.pol_ports.specs.declared.Proto.TheVariants.{Sctp, Tcp, Udp};
 ghost use Rattle.pol_rule.specs.declared.policy.DefaultDeny.{DefaultDeny};
+ghost use Rattle.pol_rule.specs.declared.policy.Entity.TheVariants as entity;
+ghost use Rattle.pol_rule.specs.declared.policy.Peer.TheVariants as peer;
 ghost use Rattle.pol_rule.specs.declared.policy.Section.TheVariants as section;
 ghost use Rattle.pol_sanitize.specs.Faults.{first_fault};
+ghost use Rattle.pol_sanitize.specs.Peers.{cidr_peer, entity_of};
 ghost use Rattle.pol_sanitize.specs.Ports.{protocol_of};
 ghost use Rattle.pol_sanitize.specs.Sanitized.{policy_of};
 ghost use Rattle.pol_sanitize.specs.Selectors.{peer_selector, subject_selector};
@@ -43,13 +47,35 @@ pub fn peers_say_their_namespaces()
     ensures wide_label { peer_selector cluster_wide (asks_label (codes "app") (codes "x")) ≡ any_is (codes "app") (codes "x") ∷ [] }
 {}
 
-/// An exception lies inside its prefix, which it may be itself ('profile').
+/// An exception lies inside its prefix, which it may be itself, and is of its family ('profile').
 pub fn exceptions_lie_inside()
     ensures outside { first_fault (without (codes "10.0.0.0/8") (codes "11.0.0.0/16")) ≡ Some (record { number = 19; rule = 0; «at» = Some (section.Egress, 0) }) }
     ensures wider { first_fault (without (codes "10.0.0.0/8") (codes "10.0.0.0/7")) ≡ Some (record { number = 19; rule = 0; «at» = Some (section.Egress, 0) }) }
     ensures itself { first_fault (without (codes "10.0.0.0/8") (codes "10.0.0.0/8")) ≡ None }
     ensures inside { first_fault (without (codes "10.0.0.0/8") (codes "10.255.255.255")) ≡ None }
+    ensures wider_ipv6 { first_fault (without (codes "2001:db8::/32") (codes "2001:db8::/31")) ≡ Some (record { number = 19; rule = 0; «at» = Some (section.Egress, 0) }) }
+    ensures of_ipv6 { first_fault (without (codes "10.0.0.0/8") (codes "2001:db8::/32")) ≡ Some (record { number = 19; rule = 0; «at» = Some (section.Egress, 0) }) }
+    ensures of_ipv4 { first_fault (without (codes "::/0") (codes "0.0.0.0/0")) ≡ Some (record { number = 19; rule = 0; «at» = Some (section.Egress, 0) }) }
+    ensures inside_ipv6 { first_fault (without (codes "2001:db8::/32") (codes "2001:DB8:1::/48")) ≡ None }
+    ensures host_bits { first_fault (without (codes "1:2:3:4:8000::1/65") (codes "1:2:3:4:ffff::")) ≡ None }
+    ensures bad_ipv6 { first_fault (without (codes "2001:db8::/32") (codes "2001:db8::1::/48")) ≡ Some (record { number = 18; rule = 0; «at» = Some (section.Egress, 0) }) }
     ensures bad { first_fault (without (codes "10.0.0.0/8") (codes "10.0.0/16")) ≡ Some (record { number = 18; rule = 0; «at» = Some (section.Egress, 0) }) }
+{}
+
+/// A text of either family is a prefix, with its host bits cleared, and its greatest length where it names none ('profile').
+pub fn prefixes_are_of_either_family()
+    ensures ipv4 { cidr_peer (codes "10.1.2.3/8") ≡ Some (peer.Cidr (record { addr = addr_of_octets 10 0 0 0; len = 8 }) []) }
+    ensures ipv6 { cidr_peer (codes "2001:DB8::5/32") ≡ Some (peer.Cidr (record { addr = addr_of_groups (8193 ∷ 3512 ∷ 0 ∷ 0 ∷ 0 ∷ 0 ∷ 0 ∷ 0 ∷ []); len = 32 }) []) }
+    ensures bare { cidr_peer (codes "fd00::1") ≡ Some (peer.Cidr (record { addr = addr_of_groups (64768 ∷ 0 ∷ 0 ∷ 0 ∷ 0 ∷ 0 ∷ 0 ∷ 1 ∷ []); len = 128 }) []) }
+    ensures host_bits { cidr_peer (codes "1:2:3:4:ffff::1/65") ≡ Some (peer.Cidr (record { addr = addr_of_groups (1 ∷ 2 ∷ 3 ∷ 4 ∷ 32768 ∷ 0 ∷ 0 ∷ 0 ∷ []); len = 65 }) []) }
+    ensures too_long { map cidr_peer (codes "::/129" ∷ codes "10.0.0.0/33" ∷ codes "::/00" ∷ codes "::ffff:10.0.0.0/104" ∷ []) ≡ replicate 4 None }
+{}
+
+/// What lies outside the cluster is named by three entities: all of it, and that of each family (Cilium, Network Policy, "Entities
+/// based").
+pub fn worlds_are_named()
+    ensures named { map entity_of (codes "world" ∷ codes "world-ipv4" ∷ codes "world-ipv6" ∷ []) ≡ Some entity.World ∷ Some entity.WorldIpv4 ∷ Some entity.WorldIpv6 ∷ [] }
+    ensures not_named { map entity_of (codes "world-ipv5" ∷ codes "World-IPv4" ∷ codes "worlds" ∷ codes "ipv6" ∷ []) ≡ replicate 4 None }
 {}
 
 /// What a rule says of default deny is kept as it was written, whatever it is.
