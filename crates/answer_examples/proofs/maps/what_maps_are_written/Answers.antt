@@ -2,10 +2,10 @@
 use Rattle.std.proofs.Common.{refl, ap, [], ◌∷◌, ◌∙◌, List, codes, is_some}
 use Rattle.json.specs.Print.{escape_byte}
 use Rattle.std.specs.Fmt.{digits}
-use Rattle.std.specs.Net.Reader.{read_ipv4, read_number, read_octet}
+use Rattle.std.specs.Net.Reader.{read_ipv4, read_ipv6, read_number, read_octet, read_segment, read_segments}
 use Rattle.answer_examples.proofs.Scripts.{answers_by, script_read}
 use Rattle.answer_examples.specs.Answered.{by_default}
-use Rattle.pol_addr.specs.Address.{read_addr}
+use Rattle.pol_addr.specs.Address.{read_addr, read_v4, read_v6}
 use Rattle.pol_map_dump.specs.AtEnd.{endpoint_after, map_text_after}
 use Rattle.pol_model.specs.Enforced.{has_rule}
 use Rattle.pol_netpol.specs.Values.{fields, items, only_item}
@@ -20,27 +20,27 @@ lines =
     ∷ []
 
 pub returns-clause-answers : goal.returns-clause-answers
-unfolding read_addr read_ipv4 read_number read_octet digits escape_byte
+unfolding read_addr read_v4 read_v6 read_ipv4 read_ipv6 read_number read_octet read_segment read_segments digits escape_byte
 returns-clause-answers c = answers_by lines _ _ refl refl refl
 
 pub returns-clause-isolated : goal.returns-clause-isolated
-unfolding read_addr read_ipv4 read_number read_octet digits escape_byte has_rule
+unfolding read_addr read_v4 read_v6 read_ipv4 read_ipv6 read_number read_octet read_segment read_segments digits escape_byte has_rule
 returns-clause-isolated c = ap (map_text_after by_default (codes "db")) (script_read lines _ refl refl) ∙ refl
 
 pub returns-clause-not_isolated : goal.returns-clause-not_isolated
-unfolding read_addr read_ipv4 read_number read_octet digits escape_byte has_rule
+unfolding read_addr read_v4 read_v6 read_ipv4 read_ipv6 read_number read_octet read_segment read_segments digits escape_byte has_rule
 returns-clause-not_isolated c = ap (map_text_after by_default (codes "web")) (script_read lines _ refl refl) ∙ refl
 
 pub returns-clause-nobody : goal.returns-clause-nobody
-unfolding read_addr read_ipv4 read_number read_octet digits escape_byte has_rule
+unfolding read_addr read_v4 read_v6 read_ipv4 read_ipv6 read_number read_octet read_segment read_segments digits escape_byte has_rule
 returns-clause-nobody c = ap (map_text_after by_default (codes "api")) (script_read lines _ refl refl) ∙ refl
 
 pub returns-clause-lives : goal.returns-clause-lives
-unfolding read_addr read_ipv4 read_number read_octet digits escape_byte has_rule
+unfolding read_addr read_v4 read_v6 read_ipv4 read_ipv6 read_number read_octet read_segment read_segments digits escape_byte has_rule
 returns-clause-lives c = ap (λ readings. is_some (endpoint_after by_default (codes "db") readings)) (script_read lines _ refl refl) ∙ refl
 
 pub returns-clause-lives_not : goal.returns-clause-lives_not
-unfolding read_addr read_ipv4 read_number read_octet digits escape_byte has_rule
+unfolding read_addr read_v4 read_v6 read_ipv4 read_ipv6 read_number read_octet read_segment read_segments digits escape_byte has_rule
 returns-clause-lives_not c = ap (λ readings. is_some (endpoint_after by_default (codes "api") readings)) (script_read lines _ refl refl) ∙ refl
 
 pub returns-clause-ports : goal.returns-clause-ports
