@@ -103,7 +103,7 @@ module _ (own : List ℕ) (rows : List IdentityRow) (number : ℕ) (proto : Prot
       λ i. entry_same entry.peers entry.ports here.peers here.ports i || entries_same entries (All-tail Fine entry entries fine) i
 
 -- ---- the rule
-module _ (raw : RawNetworkPolicy) (selector : RawSelector) (there : raw.subject ≡ Some selector) where
+module _ (raw : RawNetworkPolicy) (selector : RawSelector) (there : raw.subject ≡ Some selector) (fine : is_bad_selector selector ≡ false) where
   abbrev own : List ℕ
   own = raw.key.namespace
 
@@ -113,7 +113,7 @@ module _ (raw : RawNetworkPolicy) (selector : RawSelector) (there : raw.subject 
   selects_same : (labels : List Label) → matches subject labels ≡ selects raw labels
   selects_same labels =
       both (requirements_of [] selector) (is_in_namespace own ∷ []) labels
-      ∙ (λ i. selector_met [] labels selector i && own_namespace own labels i)
+      ∙ (λ i. selector_met [] labels selector fine i && own_namespace own labels i)
       ∙ ap (λ o. option_map_or (meets (of_pod labels)) o false && is_pod_of own labels) (sym there)
 
   says_same : (dir : Direction) (labels : List Label) → (matches subject labels && isolates raw dir) ≡ (selects raw labels && isolates raw dir)
@@ -121,9 +121,9 @@ module _ (raw : RawNetworkPolicy) (selector : RawSelector) (there : raw.subject 
 
   section_same : (dir : Direction) → All Fine (entries_of dir raw) → (rows : List IdentityRow) (number : ℕ) (proto : Proto) (port : ℕ) (low : port ≤ 65535)
       → isolates raw dir ≡ true → list_any (entry_covers (selects_number rows number) proto port) (section_of raw dir) ≡ allows raw rows dir number proto port
-  section_same dir fine rows number proto port low isolated =
+  section_same dir each rows number proto port low isolated =
       ap (λ b. list_any (entry_covers (selects_number rows number) proto port) (cond b (map (entry_of own) (entries_of dir raw)) [])) isolated
-      ∙ entries_same own rows number proto port low (entries_of dir raw) fine
+      ∙ entries_same own rows number proto port low (entries_of dir raw) each
 
   elsewhere : (dir : Direction) → isolates raw dir ≡ false → section_of raw dir ≡ []
   elsewhere dir not_isolated = ap (λ b. cond b (map (entry_of own) (entries_of dir raw)) []) not_isolated
@@ -157,8 +157,8 @@ module _ (raw : RawNetworkPolicy) (selector : RawSelector) (there : raw.subject 
     denies = rule_denies;
   }
 
-  subject_read : is_bad_selector selector ≡ false → rule_of raw ≡ Some rule
-  subject_read fine =
+  subject_read : rule_of raw ≡ Some rule
+  subject_read =
       let formed = both_formed (requirements_of [] selector) (is_in_namespace own ∷ []) (selector_formed [] selector fine) refl in
       ap (λ o. option_map (rule_with raw) (option_and_then (subject_of own) o)) there
       ∙ ap (λ b. option_map (rule_with raw) (cond b (Some subject) None)) formed
@@ -188,7 +188,7 @@ keeps raw policy is =
     let (ingress, egress) = no_or (section_fault section.Ingress raw.ingress) _ n1 in
     let (selector, there, fine) = subject_fine raw (none_there _ (first_cause (subject_causes raw)) subject) in (
       ap (λ (p : Policy). p.key) (sym same),
-      rule raw selector there,
+      rule raw selector there fine,
       ap (λ (p : Policy). p.rules) (sym same) ∙ ap (λ o. cons_option o []) (subject_read raw selector there fine),
-      means raw selector there (section_fine section.Ingress raw.ingress ingress) (section_fine section.Egress raw.egress egress),
+      means raw selector there fine (section_fine section.Ingress raw.ingress ingress) (section_fine section.Egress raw.egress egress),
     )

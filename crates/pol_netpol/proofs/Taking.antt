@@ -32,7 +32,7 @@ pods_row own peer row fine =
     let (pods, namespaces) = or_parts (has_bad_selector peer.pods) (has_bad_selector peer.namespaces) fine in
     let asked : List Requirement = of_pods peer.pods ++ of_namespaces own peer.namespaces in
     ap (λ b. says_row row (option_map Labels (cond b (Some asked) None))) (pods_peer_formed own peer.pods peer.namespaces pods namespaces)
-    ∙ pods_peer_met own peer.pods peer.namespaces row.labels
+    ∙ pods_peer_met own peer.pods peer.namespaces row.labels pods namespaces
 
 excepted : (prefix : Prefix) (texts : List (List ℕ)) → list_any (λ range. covers range prefix) (filter_map read_prefix texts) ≡ list_any (holds_prefix prefix) texts
 excepted prefix [] = refl

@@ -55,14 +55,14 @@ meets_label labelled pair = labelled pair.key (λ value. bytes_eq value pair.val
 abbrev pub is_listed : List (List ℕ) → List ℕ → Bool
 is_listed values value = list_any (bytes_eq value) values
 
--- an item of `matchExpressions`; there is no other operator in an object that is accepted
+-- an item of `matchExpressions`; another operator, which no object that is accepted has, is met by nothing
 abbrev pub meets_expression : Labelled → RawExpression → Bool
 meets_expression labelled expression =
     if bytes_eq expression.operator (codes "In") then labelled expression.key (is_listed expression.values)
     else if bytes_eq expression.operator (codes "NotIn") then not (labelled expression.key (is_listed expression.values))
     else if bytes_eq expression.operator (codes "Exists") then labelled expression.key (λ value. true)
     else if bytes_eq expression.operator (codes "DoesNotExist") then not (labelled expression.key (λ value. true))
-    else true
+    else false
 
 -- all that is asked holds, so a selector that asks nothing selects all
 abbrev pub meets : Labelled → RawSelector → Bool

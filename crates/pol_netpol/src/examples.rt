@@ -1,6 +1,7 @@
 //! Examples that compute: what the definitions give of small objects, written out, and the wrong readings that
 //! they refuse. Each function does nothing: its contract is the example.
-ghost use Rattle.std.specs.Prelude.{◌≡◌, ◌∷◌, [], true, false, codes, None, Some};
+ghost use Rattle.std.specs.Prelude.{◌≡◌, List, ◌∷◌, [], true, false, codes, None, Some};
+ghost use Rattle.pol_labels.specs.declared.label.Label.{Label};
 ghost use Rattle.pol_mapkey.specs.declared.Word.TheVariants.{Allowed, DeniedByDefault};
 ghost use Rattle.pol_model.specs.declared.options.Options.{Options as AllOptions};
 ghost use Rattle.pol_ports.specs.declared.Direction.TheVariants.{Egress, Ingress};
@@ -11,7 +12,7 @@ ghost use Rattle.pol_rule.specs.declared.cause.RuleCause.TheVariants as rule;
 ghost use Rattle.pol_rule.specs.declared.policy.Section.TheVariants as section;
 ghost use Rattle.pol_netpol.specs.Examples.{anything, asking, bare, block, deny, entry, namespaces, net, net6, object, lets_all_in, lets_block_in, pod, pod_of_team, pods, pods_in, port, port_with, row, web_to_db, word_at};
 ghost use Rattle.pol_netpol.specs.Faults.{fault_at, first_fault};
-ghost use Rattle.pol_netpol.specs.Meaning.{allows, isolates, peer_takes, port_takes};
+ghost use Rattle.pol_netpol.specs.Meaning.{allows, isolates, meets, of_pod, peer_takes, port_takes};
 
 /// An entry that says nothing allows all, of numbers without a row too. In a rule such an entry covers nothing.
 pub fn empty_entries_allow_all()
@@ -42,6 +43,12 @@ pub fn selectors_of_one_peer_are_both_met()
 pub fn empty_namespace_selectors_select_pods()
     ensures every_pod { peer_takes (codes "default") (namespaces anything) (row (pod (codes "other") (codes "web")) None) ≡ true }
     ensures no_pod { peer_takes (codes "default") (namespaces anything) (net 1) ≡ false }
+{}
+
+/// An expression whose operator isn't known is met by nothing, whatever the labels; no object that is accepted has one.
+pub fn unknown_operators_select_nothing()
+    ensures has { (labels : List Label) → meets (of_pod labels) (record { labels = []; expressions = record { key = codes "app"; operator = codes "Has"; values = [] } ∷ [] }) ≡ false }
+    ensures of_another_case { (labels : List Label) → meets (of_pod labels) (record { labels = []; expressions = record { key = codes "app"; operator = codes "exists"; values = [] } ∷ [] }) ≡ false }
 {}
 
 /// An `ipBlock` takes what lies in its range, but nothing that lies in an exception, and no pod.
