@@ -37,6 +37,7 @@ pub fn rules_are_answered()
 pub fn networks_are_answered()
     ensures no_spec { IsRefusedBy (codes "{\"apiVersion\":\"networking.k8s.io/v1\",\"kind\":\"NetworkPolicy\",\"metadata\":{\"name\":\"p\"},\"specs\":[{\"podSelector\":{}}]}") (codes "12 no-spec") }
     ensures bad_exception { IsRefusedBy (network (codes "{\"egress\":[{\"to\":[{\"podSelector\":{\"matchExpressions\":[{\"key\":\"app\",\"operator\":\"Has\"}]}}]}],\"ingress\":[{\"from\":[{\"ipBlock\":{\"cidr\":\"10.0.0.0/8\",\"except\":[\"ten\"]}}]}],\"podSelector\":{}}")) (codes "18 bad-cidr #0.ingress[0]") }
+    ensures other_family { IsRefusedBy (network (codes "{\"egress\":[{\"ports\":[{\"port\":0}]}],\"ingress\":[{\"from\":[{\"ipBlock\":{\"cidr\":\"::/0\",\"except\":[\"10.0.0.0/8\"]}}]}],\"podSelector\":{}}")) (codes "19 except-outside #0.ingress[0]") }
     ensures bad_policy_type { IsRefusedBy (network (codes "{\"ingress\":[{\"from\":[{}]}],\"podSelector\":{},\"policyTypes\":[\"Egress\",\"ingress\"]}")) (codes "26 bad-policy-type #0") }
     ensures bad_peer { IsRefusedBy (network (codes "{\"egress\":[{\"ports\":[{\"port\":0}]}],\"ingress\":[{\"from\":[{\"podSelector\":{}},{}],\"ports\":[{\"endPort\":80,\"port\":443}]}],\"podSelector\":{}}")) (codes "27 bad-peer #0.ingress[0]") }
     ensures bad_end_port { IsRefusedBy (network (codes "{\"egress\":[{\"to\":[{\"ipBlock\":{\"cidr\":\"10.0.0.0/8\"},\"podSelector\":{}}]}],\"ingress\":[{},{\"ports\":[{\"endPort\":80,\"port\":443}]}],\"podSelector\":{}}")) (codes "28 bad-end-port #0.ingress[1]") }

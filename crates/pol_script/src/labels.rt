@@ -39,7 +39,7 @@ pub(crate) fn labels_of(alloc: Global, values: &[Value]) -> Result<LabelSet, Lin
     Ok(LabelSet::from_labels(alloc, labels)?)
 }
 
-/// The address that the text writes. `BadAddress` comes where it writes none.
+/// The address of either family that the text writes. `BadAddress` comes where it writes none.
 pub(crate) fn address_of(text: &str) -> Result<Addr, LineError>
     ensures { Reads (λ address. address) result (address_of text.now) }
 {

@@ -32,7 +32,7 @@ pub enum LineFault {
     BadLabel,
     /// 40: two labels share source and key.
     DuplicateLabelKey,
-    /// 42: the address text is bad.
+    /// 42: the address text is of neither family.
     BadAddress,
 }
 

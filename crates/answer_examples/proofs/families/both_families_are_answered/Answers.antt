@@ -7,6 +7,7 @@ use Rattle.pol_addr.specs.Address.{read_addr, read_v4, read_v6}
 use Rattle.pol_addr.specs.Cidr.{network}
 use Rattle.pol_addr.specs.Prefix.{contains, covers, read_len, read_prefix}
 use Rattle.pol_model.specs.Enforced.{has_rule}
+use Rattle.pol_model.specs.Verdict.{rule_covers}
 use Rattle.pol_netpol.specs.Values.{fields, only_item}
 use Rattle.serde_json.specs.Data.{Data, number, string, unsigned}
 use Rattle.answer_examples.proofs.Scripts.{answers_by}
@@ -33,9 +34,9 @@ refused =
     ∷ []
 
 pub returns-clause-played : goal.returns-clause-played
-unfolding network contains covers read_addr read_v4 read_v6 read_len read_prefix read_ipv4 read_ipv6 read_octet read_number read_segment read_segments digits escape_byte has_rule
+unfolding network contains covers read_addr read_v4 read_v6 read_len read_prefix read_ipv4 read_ipv6 read_octet read_number read_segment read_segments digits escape_byte has_rule rule_covers
 returns-clause-played c = answers_by played _ _ refl refl refl
 
 pub returns-clause-refused : goal.returns-clause-refused
-unfolding network contains covers read_addr read_v4 read_v6 read_len read_prefix read_ipv4 read_ipv6 read_octet read_number read_segment read_segments digits escape_byte has_rule
+unfolding network contains covers read_addr read_v4 read_v6 read_len read_prefix read_ipv4 read_ipv6 read_octet read_number read_segment read_segments digits escape_byte has_rule rule_covers
 returns-clause-refused c = answers_by refused _ _ refl refl refl

@@ -21,6 +21,11 @@ unfolding network covers read_addr read_v4 read_v6 read_len read_prefix read_ipv
 returns-clause-bad_exception c =
     answers_by (fields ((codes "op", string (codes "apply")) ∷ (codes "policy", fields ((codes "apiVersion", string (codes "networking.k8s.io/v1")) ∷ (codes "kind", string (codes "NetworkPolicy")) ∷ (codes "metadata", fields ((codes "name", string (codes "np")) ∷ [])) ∷ (codes "spec", fields ((codes "egress", only_item (fields ((codes "to", only_item (fields ((codes "podSelector", fields ((codes "matchExpressions", only_item (fields ((codes "key", string (codes "app")) ∷ (codes "operator", string (codes "Has")) ∷ []))) ∷ [])) ∷ []))) ∷ []))) ∷ (codes "ingress", only_item (fields ((codes "from", only_item (fields ((codes "ipBlock", fields ((codes "cidr", string (codes "10.0.0.0/8")) ∷ (codes "except", only_item (string (codes "ten"))) ∷ [])) ∷ []))) ∷ []))) ∷ (codes "podSelector", fields []) ∷ [])) ∷ [])) ∷ []) ∷ []) _ _ refl refl refl
 
+pub returns-clause-other_family : goal.returns-clause-other_family
+unfolding network covers read_addr read_v4 read_v6 read_len read_prefix read_ipv4 read_ipv6 read_number read_octet read_segment read_segments digits escape_byte
+returns-clause-other_family c =
+    answers_by (fields ((codes "op", string (codes "apply")) ∷ (codes "policy", fields ((codes "apiVersion", string (codes "networking.k8s.io/v1")) ∷ (codes "kind", string (codes "NetworkPolicy")) ∷ (codes "metadata", fields ((codes "name", string (codes "np")) ∷ [])) ∷ (codes "spec", fields ((codes "egress", only_item (fields ((codes "ports", only_item (fields ((codes "port", number (unsigned 0)) ∷ []))) ∷ []))) ∷ (codes "ingress", only_item (fields ((codes "from", only_item (fields ((codes "ipBlock", fields ((codes "cidr", string (codes "::/0")) ∷ (codes "except", only_item (string (codes "10.0.0.0/8"))) ∷ [])) ∷ []))) ∷ []))) ∷ (codes "podSelector", fields []) ∷ [])) ∷ [])) ∷ []) ∷ []) _ _ refl refl refl
+
 pub returns-clause-bad_policy_type : goal.returns-clause-bad_policy_type
 unfolding network covers read_addr read_v4 read_v6 read_len read_prefix read_ipv4 read_ipv6 read_number read_octet read_segment read_segments digits escape_byte
 returns-clause-bad_policy_type c =
