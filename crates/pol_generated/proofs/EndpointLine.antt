@@ -12,7 +12,8 @@ use Rattle.serde_json.specs.Data.{Data, string, array, object, item, no_items, m
 use Rattle.serde_json.specs.Read.{read}
 use Rattle.pol_addr.specs.Address.{read_addr}
 use Rattle.pol_addr.specs.declared.address.Addr.{Addr}
-use Rattle.pol_addr.proofs.Texts.{read_addr_complete}
+use Rattle.pol_addr.specs.Grammar.WritesAddr.{dotted}
+use Rattle.pol_addr.proofs.HexTexts.{read_addr_complete}
 use Rattle.pol_gen.specs.Generated.{endpoint_text}
 use Rattle.pol_json.specs.Texts.{is_name, is_name_byte}
 use Rattle.pol_labels.specs.declared.label.Label.{Label}
@@ -93,7 +94,7 @@ none = refl
 pub address_at : (host : ℕ) → host ≤ 255 → read_addr (codes "10.0.0." ++ decimal host) ≡ Some (host_address host)
 address_at host small =
     read_addr_complete (codes "10.0.0." ++ decimal host) (host_address host)
-    (record {
+    (dotted (record {
       a = 10;
       b = 0;
       c = 0;
@@ -101,7 +102,7 @@ address_at host small =
       octets = (omega arith, omega arith, omega arith, small);
       written = rw (ten, none) refl;
       value = refl;
-    })
+    }))
 
 -- ---- the line
 

@@ -9,7 +9,7 @@ use Rattle.pol_model.specs.Identities.{free_number, held_or_new, is_reserved, nu
 use Rattle.pol_model.specs.Policies.{applied, is_of_key, policy_at, prefixes_of}
 use Rattle.pol_model.specs.Prefixes.{number_of_prefix, prefix_held, prefix_released, prefix_row, prefixes_held, prefixes_released}
 use Rattle.pol_model.specs.State.{State}
-use Rattle.pol_model.specs.Worlds.{reserved_label}
+use Rattle.pol_model.specs.Worlds.{reserved_label, world_around}
 use Rattle.pol_model.specs.declared.limits.TheConstants.{CLUSTER_FIRST, LOCAL_FIRST}
 use Rattle.pol_model.specs.declared.options.Options.{Options}
 use Rattle.pol_model.specs.declared.request.Request.{Request}
@@ -87,7 +87,7 @@ held_prefixes : (prefixes : List Prefix) (rows : List IdentityRow) → AllByRecu
 held_prefixes [] rows all = all
 held_prefixes (prefix ∷ others) rows all =
     held_prefixes others (prefix_held prefix rows)
-    (held_rows (number_of_prefix prefix rows) (prefix_row prefix (free_number LOCAL_FIRST rows)) rows (inl (codes "world", refl)) all)
+    (held_rows (number_of_prefix prefix rows) (prefix_row prefix (free_number LOCAL_FIRST rows)) rows (inl ((world_around prefix).name, refl)) all)
 
 released_rows : (o : Option ℕ) (rows : List IdentityRow) → AllByRecursion IsScriptRow rows → AllByRecursion IsScriptRow (number_released o rows)
 released_rows None rows all = all
@@ -119,7 +119,7 @@ applied_policies new (old ∷ others) is all =
 
 pub script_start : (options : Options) → IsScriptState (start options)
 script_start options = record {
-  rows = (inl (codes "host", refl), (inl (codes "world", refl), (inl (codes "unmanaged", refl), (inl (codes "health", refl), (inl (codes "init", refl), (inl (codes "remote-node", refl), (inl (codes "kube-apiserver", refl), (inl (codes "ingress", refl), tt))))))));
+  rows = (inl (codes "host", refl), (inl (codes "world", refl), (inl (codes "unmanaged", refl), (inl (codes "health", refl), (inl (codes "init", refl), (inl (codes "remote-node", refl), (inl (codes "kube-apiserver", refl), (inl (codes "ingress", refl), (inl (codes "world-ipv4", refl), (inl (codes "world-ipv6", refl), tt))))))))));
   policies = tt;
 }
 

@@ -6,7 +6,7 @@ use Rattle.std.specs.Cmp.Lexicographic.{bytes_decides}
 use Rattle.std.specs.Fmt.{decimal}
 use Rattle.std.specs.List.{AllByRecursion, list_any}
 use Rattle.std.specs.List.Sorted.{IsStrictlySortedBy}
-use Rattle.pol_addr.specs.Address.{same_addr}
+use Rattle.pol_addr.specs.Address.{bits_of, same_addr}
 use Rattle.pol_addr.specs.declared.address.Addr.{Addr}
 use Rattle.pol_addr.specs.declared.network.Prefix.{Prefix}
 use Rattle.pol_model_laws.proofs.Membership.{In-list_any, found-some, insert-here, insert-kept, list_any-In}
@@ -42,7 +42,7 @@ pub record Added (count : ℕ) (s : State) : Type 0 where
   pub endpoints : AllByRecursion (IsOneOf count) s.endpoints
   pub there : (j : ℕ) → j < count → list_any (λ (e : Endpoint). bytes_eq e.name (endpoint_name j)) s.endpoints ≡ true
   pub few : length s.endpoints ≤ count
-  pub rows : length s.identities ≤ 8 + count
+  pub rows : length s.identities ≤ 10 + count
 
 names_differ : (i j : ℕ) → i < 32 → j < 32 → endpoint_name j ≡ endpoint_name i → j ≡ i
 names_differ i j low small same =
@@ -65,7 +65,7 @@ name_free i (e ∷ endpoints) low every =
 other_address : (i j : ℕ) (a : Addr) → j < i → a ≡ host_address (j + 1) → same_addr a (host_address (i + 1)) ≡ false
 other_address i j a before is =
     subst (λ (x : Addr). same_addr x (host_address (i + 1)) ≡ false) (sym is)
-    (ne_eqb (host_address (j + 1)).bits (host_address (i + 1)).bits (λ same. omega (arith, before, same)))
+    (ne_eqb (bits_of (host_address (j + 1))) (bits_of (host_address (i + 1))) (λ same. omega (arith, before, same)))
 
 address_free : (i : ℕ) (endpoints : List Endpoint) → AllByRecursion (IsOneOf i) endpoints → is_taken endpoints (host_address (i + 1)) ≡ false
 address_free i [] every = refl
@@ -121,7 +121,7 @@ endpoint_added i app s added =
 
 pub record Settled (s : State) : Type 0 where
   pub there : (j : ℕ) → j < 32 → list_any (λ (e : Endpoint). bytes_eq e.name (endpoint_name j)) s.endpoints ≡ true
-  pub rows : length s.identities ≤ 40
+  pub rows : length s.identities ≤ 42
 
 pub all_there : (s : State) → Added 32 s → Settled s
 all_there s added = let rows = added.rows in record { there = added.there; rows = omega (arith, rows) }
