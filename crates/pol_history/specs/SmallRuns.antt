@@ -14,7 +14,7 @@ use Rattle.pol_history.specs.declared.machine.Reply.{Reply}
 use Rattle.pol_history.specs.declared.machine.Reply.TheVariants as reply
 use Rattle.pol_history.specs.ExampleEvents.{add_web, remove_web, web}
 
--- a packet from the world to port 80
+-- a packet of the identity `world` to port 80
 abbrev pub packet : Query
 packet = record { endpoint = web; dir = Ingress; remote = Identity 2; proto = Tcp; port = 80 }
 

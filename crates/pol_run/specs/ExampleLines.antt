@@ -70,7 +70,7 @@ first_number = Some 256
 
 -- ---- lines
 
--- a packet that comes from the world to port 80 of the endpoint
+-- a packet of the identity `world` to port 80 of the endpoint
 abbrev pub packet_to : List ℕ → Query
 packet_to name = record { endpoint = name; dir = Ingress; remote = Identity 2; proto = Tcp; port = 80 }
 
