@@ -58,9 +58,7 @@ pub(crate) fn endpoint(alloc: Global, number: u32) -> Result<Request> {
     Ok(Request::AddEndpoint {
         name: name(alloc, "endpoint", number)?,
         labels: pod_labels(alloc, number)?,
-        address: Addr {
-            bits: number.wrapping_add(0x0a00_0000),
-        },
+        address: Addr::V4(number.wrapping_add(0x0a00_0000)),
     })
 }
 
