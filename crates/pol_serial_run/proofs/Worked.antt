@@ -20,7 +20,7 @@ accepted_first = refl
 pub later : IsSerial usual requests later_lines later_answers
 unfolding has_rule rule_covers contains network
 later =
-    (refl, ((refl, record { those = record { moves = []; below = tt; is = refl }; sorted = tt }), (refl, (refl, (refl, tt)))))
+    (refl, ((refl, record { those = record { moves = []; below = tt; is = refl }; sorted = tt }), (refl, (refl, (refl, (refl, (refl, tt)))))))
 
 pub accepted_later : accepted usual requests later_lines ≡ []
 accepted_later = refl

@@ -1,6 +1,7 @@
 -- A small script, its answers, and a second one that is played after its requests.
 use Rattle.std.specs.Prelude.{ℕ, true, false, List, [], ◌∷◌, codes, None, Some, Ok}
-use Rattle.pol_addr.specs.Address.{addr_of_octets}
+use Rattle.pol_addr.specs.declared.address.Addr.{Addr}
+use Rattle.pol_addr.specs.Address.{addr_of_groups, addr_of_octets}
 use Rattle.pol_answer.specs.declared.answer.Answer.{Answer}
 use Rattle.pol_answer.specs.declared.answer.Answer.TheVariants as answer
 use Rattle.pol_labels.specs.declared.label.Label.{Label}
@@ -61,9 +62,17 @@ requests = deathstar ∷ ship (codes "tiefighter") (codes "empire") 2 ∷ ship (
 abbrev pub commit : Request → Reading
 commit request = Ok (command.Commit 1 request)
 
--- a packet that comes in to the deathstar from this host, on port 80
+-- a packet that comes in to the deathstar from this address, on port 80
+abbrev pub packet_from : Addr → Query
+packet_from address = record { endpoint = codes "deathstar"; dir = Ingress; remote = Address address; proto = Tcp; port = 80 }
+
+-- from this host
 abbrev pub packet : ℕ → Query
-packet host = record { endpoint = codes "deathstar"; dir = Ingress; remote = Address (addr_of_octets 10 0 0 host); proto = Tcp; port = 80 }
+packet host = packet_from (addr_of_octets 10 0 0 host)
+
+-- 2001:db8::1, which no ship has
+abbrev pub beyond : Addr
+beyond = addr_of_groups (8193 ∷ 3512 ∷ 0 ∷ 0 ∷ 0 ∷ 0 ∷ 0 ∷ 1 ∷ [])
 
 abbrev pub asks : ℕ → Reading
 asks host = Ok (command.Look 1 (packet host))
@@ -98,9 +107,17 @@ answers =
     ∷ answer.Verdict 4 DeniedByDefault
     ∷ []
 
--- after those requests no map is published before a sync
+-- After those requests no map is published before a sync. An address that no ship has is outside, by its family.
 abbrev pub later_lines : List Reading
-later_lines = asks 2 ∷ sync ∷ asks 2 ∷ Ok command.Phase ∷ Ok (command.Trace 1 (packet 2)) ∷ []
+later_lines =
+    asks 2
+    ∷ sync
+    ∷ asks 2
+    ∷ Ok command.Phase
+    ∷ Ok (command.Trace 1 (packet 2))
+    ∷ Ok (command.Trace 1 (packet 9))
+    ∷ Ok (command.Trace 1 (packet_from beyond))
+    ∷ []
 
 abbrev pub rule1_place : Place
 rule1_place = record { key = key_of (codes "rule1"); rule = 0; section = section.Ingress; entry = 0 }
@@ -112,4 +129,6 @@ later_answers =
     ∷ answer.Verdict 4 Allowed
     ∷ answer.Phase 1
     ∷ answer.Traced 4 (record { word = Allowed; remote = 257; denies = []; allows = rule1_place ∷ [] })
+    ∷ answer.Traced 4 (record { word = DeniedByDefault; remote = 9; denies = []; allows = [] })
+    ∷ answer.Traced 4 (record { word = DeniedByDefault; remote = 10; denies = []; allows = [] })
     ∷ []

@@ -10,7 +10,7 @@ ghost use Rattle.pol_serial_run.specs.SerialRun.{IsSerial, machine_after_lines, 
 ghost use Rattle.pol_serial_run.specs.Worked as worked;
 
 /// What a small script is answered, and which of its requests are accepted; and what a script is answered that is played after those
-/// requests: no map is published before its sync ('profile').
+/// requests: no map is published before its sync ('profile'), and an address that nothing holds is number 9, or 10 where it is of IPv6.
 pub fn worked_scripts()
     ensures first { IsSerial worked.usual [] worked.lines worked.answers }
     ensures accepted { accepted worked.usual [] worked.lines ≡ worked.requests }
