@@ -1,5 +1,5 @@
 -- All addresses of a region have its number.
-use Rattle.std.proofs.Common.{◌≡◌, ℕ, ◌+◌, ◌<◌, ◌≤◌, nat_le, Bool, true, false, cond, List, [], ◌∷◌, ◌++◌, map, Option, None, Some, option_map, refl, sym, ap, subst, ◌∙◌, ◌⊎◌, inl, inr, arith}
+use Rattle.std.proofs.Common.{◌≡◌, ℕ, ◌≤◌, nat_le, Bool, true, false, cond, List, [], ◌∷◌, ◌++◌, map, Option, None, Some, option_map, refl, sym, ap, subst, ◌∙◌, ◌⊎◌, inl, inr, arith}
 use Rattle.std.specs.BTreeSet.{insert_key}
 use Rattle.std.specs.List.{Contains}
 use Rattle.std.specs.Option.{option_map_or}
@@ -14,13 +14,14 @@ use Rattle.pol_addr.specs.declared.network.Prefix.{Prefix}
 use Rattle.pol_addr.specs.Longest.{longer, longest_of}
 use Rattle.pol_addr.specs.Order.{prefix_cmp}
 use Rattle.pol_addr.specs.Prefix.{contains, covers}
-use Rattle.pol_addr.proofs.Containment.{contains_through, covers_from_shared}
+use Rattle.pol_addr.specs.declared.family.Family.{Family}
+use Rattle.pol_addr.proofs.Containment.{contains-family, contains_through, covers_from_shared}
 use Rattle.pol_addr.proofs.Order.{prefix_cmp-IsAntisymmetric}
 use Rattle.pol_model.specs.declared.row.Endpoint.{Endpoint}
 use Rattle.pol_model.specs.declared.row.IdentityRow.{IdentityRow}
 use Rattle.pol_model.specs.Remote.{endpoint_at, longest_at, number_at, numbered_prefixes}
 use Rattle.pol_model.specs.State.{State}
-use Rattle.pol_model.specs.Worlds.{world_around, world_of}
+use Rattle.pol_model.specs.Worlds.{world_around, world_in, world_of}
 use Rattle.pol_connections.specs.Regions.{held_prefixes, longest_over, prefixes_in_order, region_number, region_of, regions_of}
 
 clash : (b : Bool) → b ≡ true → b ≡ false → ⊥
@@ -125,8 +126,10 @@ module _ (a : Addr) where
 pub number_in_region : (s : State) (regions : List Prefix) (region : Prefix) (a : Addr) → ((prefix : Prefix) → Contains (held_prefixes s.identities) prefix → Contains regions prefix)
     → endpoint_at a s.endpoints ≡ None → region_of a regions ≡ Some region → number_at a s.endpoints s.identities ≡ region_number region s.identities
 number_in_region s regions region a all none is =
+    let own = region_is a regions region is in
     ap (λ (o : Option Endpoint). option_map_or (λ (endpoint : Endpoint). endpoint.identity) o (option_map_or (λ (found : Prefix × ℕ). found.1) (longest_at a s.identities) (world_of a).identity)) none
-    ∙ ap (λ o. option_map_or (λ (found : Prefix × ℕ). found.1) o (world_around region).identity) (longest_in_region a regions region s.identities all (region_is a regions region is))
+    ∙ ap (λ (family : Family). option_map_or (λ (found : Prefix × ℕ). found.1) (longest_at a s.identities) (world_in family).identity) (contains-family region a own.has)
+    ∙ ap (λ o. option_map_or (λ (found : Prefix × ℕ). found.1) o (world_around region).identity) (longest_in_region a regions region s.identities all own)
 
 -- ---- the regions of two states have each prefix that either holds
 module _ (k : Prefix) where

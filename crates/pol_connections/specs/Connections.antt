@@ -1,7 +1,7 @@
 -- Which connections are open in a state, and which open or shut with a change ('profile'; Cilium, Network Policy: a connection
 -- passes where the policy of its source and that of its target allow it).
 use Rattle.std.specs.Prelude.{ℕ, not, ◌&&◌, Bool, List, [], ◌∷◌, map, filter, is_some, Option, None, Some}
-use Rattle.std.specs.List.{filter_map, flat_map}
+use Rattle.std.specs.List.{flat_map}
 use Rattle.pol_ports.specs.declared.Direction.{Direction}
 use Rattle.pol_ports.specs.declared.Direction.TheVariants.{Ingress, Egress}
 use Rattle.pol_ports.specs.declared.Proto.{Proto}

@@ -1,17 +1,17 @@
 -- The ends of connections in a state ('profile').
-use Rattle.std.specs.Prelude.{ℕ, ◌==◌, Bool, true, false, ◌&&◌, List, [], ◌∷◌, ◌++◌, map, filter, find, Option, None, Some, option_map}
+use Rattle.std.specs.Prelude.{ℕ, ◌==◌, Bool, false, List, [], ◌∷◌, ◌++◌, map, filter, find, Option, None, Some}
 use Rattle.std.specs.Cmp.Lexicographic.{slice_cmp}
-use Rattle.std.specs.List.{list_any}
 use Rattle.std.specs.Option.{option_map_or}
 use Rattle.std.specs.Ordering.{match_ordering, nat_cmp}
 use Rattle.std.specs.Str.{bytes_eq}
 use Rattle.pol_addr.specs.declared.network.Prefix.{Prefix}
+use Rattle.pol_addr.specs.declared.family.Family.TheVariants.{Ipv4}
 use Rattle.pol_addr.specs.Prefix.{network_of, same_prefix, world}
 use Rattle.pol_labels.specs.declared.label.Label.{Label}
 use Rattle.pol_model.specs.declared.row.Endpoint.{Endpoint}
 use Rattle.pol_model.specs.declared.row.IdentityRow.{IdentityRow}
 use Rattle.pol_model.specs.declared.row.NamedIdentity.{NamedIdentity}
-use Rattle.pol_model.specs.Identities.{is_reserved}
+use Rattle.pol_model.specs.Selects.{is_core_number}
 use Rattle.pol_model.specs.State.{State}
 use Rattle.pol_connections.specs.declared.end.EndName.{EndName}
 use Rattle.pol_connections.specs.declared.end.EndName.TheVariants as name
@@ -51,19 +51,15 @@ named_subject s identity = record {
   added = 0;
   labels = labels_of identity.number s.identities;
   identity = identity.number;
-  address = network_of world;
+  address = network_of (world Ipv4);
 }
 
 abbrev pub named_end : State → NamedIdentity → End
 named_end s identity = record { name = name.Identity identity.name; number = identity.number; subject = Some (named_subject s identity) }
 
--- a reserved identity that isn't a world's
-abbrev pub has_no_prefix : Option Prefix → Bool
-has_no_prefix None = true
-has_no_prefix (Some prefix) = false
-
+-- a reserved identity of the cluster's own: what lies outside has regions
 abbrev pub stands_alone : IdentityRow → Bool
-stands_alone row = is_reserved row.number && has_no_prefix row.prefix
+stands_alone row = is_core_number row.number
 
 abbrev pub reserved_end : IdentityRow → End
 reserved_end row = record { name = name.Reserved row.number; number = row.number; subject = None }
@@ -71,8 +67,8 @@ reserved_end row = record { name = name.Reserved row.number; number = row.number
 abbrev pub region_end : State → Prefix → End
 region_end s region = record { name = name.Region region; number = region_number region s.identities; subject = None }
 
--- The ends of a state: its endpoints and its named identities, each by name, then the reserved identities but the world's, by
--- number, and then the regions.
+-- The ends of a state: its endpoints and its named identities, each by name, then the reserved identities but those of the
+-- worlds, by number, and then the regions.
 unfoldable pub ends_of : List Prefix → State → List End
 ends_of regions s =
     map endpoint_end (by_name (λ endpoint. endpoint.name) s.endpoints)

@@ -1,7 +1,8 @@
 -- Small scripts, for the laws that compute.
 use Rattle.std.specs.Prelude.{ℕ, ◌==◌, false, List, [], ◌∷◌, ◌++◌, codes, find, None, Some}
 use Rattle.std.specs.Option.{option_map_or}
-use Rattle.pol_addr.specs.Address.{addr_of_octets}
+use Rattle.pol_addr.specs.Address.{addr_of_groups, addr_of_octets}
+use Rattle.pol_addr.specs.declared.address.Addr.TheVariants.{V6}
 use Rattle.pol_addr.specs.declared.network.Prefix.{Prefix}
 use Rattle.pol_addr.specs.Prefix.{prefix_of}
 use Rattle.pol_labels.specs.declared.label.Label.{Label}
@@ -9,6 +10,7 @@ use Rattle.pol_ports.specs.PortRange.{range_from}
 use Rattle.pol_ports.specs.declared.Proto.{Proto}
 use Rattle.pol_ports.specs.declared.Proto.TheVariants.{Tcp}
 use Rattle.pol_mapkey.specs.declared.Word.{Word}
+use Rattle.pol_rule.specs.declared.policy.Entity.{Entity}
 use Rattle.pol_rule.specs.declared.policy.Entity.TheVariants as entity
 use Rattle.pol_rule.specs.declared.policy.Entry.{Entry}
 use Rattle.pol_rule.specs.declared.policy.Peer.{Peer}
@@ -132,12 +134,29 @@ b_receives_but denies = two_pods ++ receives b (pods_of a) (tcp 0 3 ∷ []) ∷ 
 abbrev pub alike : List PortSpec → List Request
 alike ports = elsewhere (codes "x") a ∷ elsewhere (codes "y") a ∷ pod b 2 ∷ receives b (pods_of a) ports ∷ []
 
+-- 20.0.0.0/8
 abbrev pub net : Prefix
 net = prefix_of (addr_of_octets 20 0 0 0) 8
+
+-- 2001:db8::/32
+abbrev pub net6 : Prefix
+net6 = prefix_of (addr_of_groups (8193 ∷ 3512 ∷ 0 ∷ 0 ∷ 0 ∷ 0 ∷ 0 ∷ 0 ∷ [])) 32
+
+-- ::/96, which contains an IPv6 address with the bits of each IPv4 address
+abbrev pub low6 : Prefix
+low6 = prefix_of (V6 0) 96
+
+-- a may send to the entity on port 0
+abbrev pub sends_out : Entity → List Request
+sends_out e = pod a 1 ∷ sends a (peer.Entity e) (tcp 0 0 ∷ []) ∷ []
 
 -- a may send to the world, but for what the policies deny
 abbrev pub to_world : List Request → List Request
 to_world denies = pod a 1 ∷ sends a (peer.Entity entity.World) [] ∷ denies
+
+-- but not on port 0 to the prefix
+abbrev pub to_world_but : Prefix → List Request
+to_world_but prefix = to_world (withholds a (peer.Cidr prefix []) (tcp 0 0 ∷ []) ∷ [])
 
 -- a and a pod without labels, one of which may receive nothing
 abbrev pub with_new : List Request

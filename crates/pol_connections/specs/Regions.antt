@@ -1,5 +1,5 @@
--- Regions of addresses outside the endpoints ('profile').
-use Rattle.std.specs.Prelude.{ℕ, List, [], ◌∷◌, ◌++◌, map, Option, None, Some, option_map, if◌then◌else◌}
+-- Regions of addresses outside the endpoints, of both families ('profile').
+use Rattle.std.specs.Prelude.{ℕ, List, [], ◌∷◌, ◌++◌, map, Option, None, option_map, if◌then◌else◌}
 use Rattle.std.specs.BTreeSet.{insert_key}
 use Rattle.std.specs.Option.{option_map_or}
 use Rattle.pol_addr.specs.declared.address.Addr.{Addr}
@@ -11,11 +11,11 @@ use Rattle.pol_model.specs.declared.row.IdentityRow.{IdentityRow}
 use Rattle.pol_model.specs.Remote.{numbered_prefixes}
 use Rattle.pol_model.specs.Worlds.{world_around}
 
--- the prefixes that have rows; that of the world is always among them
+-- the prefixes that have rows; those of both worlds are always among them
 abbrev pub held_prefixes : List IdentityRow → List Prefix
 held_prefixes rows = map (λ held. held.0) (numbered_prefixes rows)
 
--- The regions of two states: each prefix that either holds, once and in order.
+-- The regions of two states: each prefix that either holds, once and in order: those of IPv4 first.
 unfoldable pub prefixes_in_order : List Prefix → List Prefix
 prefixes_in_order [] = []
 prefixes_in_order (prefix ∷ others) = insert_key prefix_cmp (prefixes_in_order others) prefix

@@ -11,4 +11,4 @@ use Rattle.pol_connections.proofs.laws.a_prefix_splits_a_region.Goals as goal
 
 pub returns : goal.returns
 unfolding changes_below ends_of by_name prefixes_in_order ends_alone ranges_from rule_covers has_rule covers network
-returns c = refl
+returns c = record { ipv4 = refl; ipv6 = refl }

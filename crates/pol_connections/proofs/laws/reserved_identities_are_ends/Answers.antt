@@ -11,4 +11,4 @@ use Rattle.pol_connections.proofs.laws.reserved_identities_are_ends.Goals as goa
 
 pub returns : goal.returns
 unfolding changes_below ends_of by_name prefixes_in_order ends_alone ranges_from rule_covers has_rule covers network
-returns c = record { localhost = refl; by_policy = refl; init = refl; back = refl }
+returns c = record { own = refl; localhost = refl; by_policy = refl; init = refl; back = refl }
