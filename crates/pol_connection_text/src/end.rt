@@ -3,12 +3,13 @@ ghost use Rattle.std.specs.Prelude.{◌≡◌, ◌∷◌, IfOk};
 ghost use Rattle.std.specs.String.{string_bytes};
 ghost use Rattle.json.specs.Token.{key};
 ghost use Rattle.json.specs.Tree.{json_tokens};
+ghost use Rattle.pol_addr.specs.Text.{prefix_text};
 ghost use Rattle.pol_connection_text.specs.Adds.{Adds};
 ghost use Rattle.pol_connection_text.specs.Ends.{end_json, reserved_text};
 
 use crate::line::of_one;
-use crate::prefix::prefix_text;
 use json::Writer;
+use pol_addr::Prefix;
 use pol_connections::EndName;
 use pol_data::Memory;
 use std::alloc::Global;
@@ -26,8 +27,17 @@ fn reserved_text(alloc: Global, number: u32) -> Result<String, Memory>
         6 => String::from_str(alloc, "remote-node"),
         7 => String::from_str(alloc, "kube-apiserver"),
         8 => String::from_str(alloc, "ingress"),
+        9 => String::from_str(alloc, "world-ipv4"),
+        10 => String::from_str(alloc, "world-ipv6"),
         _ => format!(in alloc; "{number}"),
     }
+}
+
+/// The prefix in CIDR notation.
+fn region_text(alloc: Global, prefix: &Prefix) -> Result<String, Memory>
+    ensures { IfOk result (λ text. string_bytes text ≡ prefix_text prefix.now) }
+{
+    format!(in alloc; "{prefix}")
 }
 
 /// An end, as its object.
@@ -42,7 +52,7 @@ pub(crate) fn end(alloc: Global, out: &mut Writer, name: &EndName) -> Result<(),
             of_one(out, "reserved", text.as_str())
         }
         EndName::Region(prefix) => {
-            let text = prefix_text(alloc, prefix)?;
+            let text = region_text(alloc, prefix)?;
             of_one(out, "region", text.as_str())
         }
     }

@@ -10,7 +10,6 @@ mod end;
 pub mod laws;
 mod line;
 mod name;
-mod prefix;
 mod refusal;
 mod said;
 mod side;
