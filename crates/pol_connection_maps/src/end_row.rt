@@ -2,7 +2,7 @@
 ghost use Rattle.std.specs.Prelude.{◌≡◌, ◌++◌, IfOk, OnOk, filter, map};
 ghost use Rattle.std.specs.List.{IsDistinct};
 ghost use Rattle.std.specs.Str.{bytes_eq};
-ghost use Rattle.pol_connections.specs.Ends.{by_name, has_no_prefix, stands_alone};
+ghost use Rattle.pol_connections.specs.Ends.{by_name, stands_alone};
 ghost use Rattle.pol_connection_maps.specs.EndRows.{alone_row, end_rows, endpoint_row, named_row, number_row, region_row};
 ghost use Rattle.pol_connection_maps.specs.Rows.{AreSound};
 
@@ -12,7 +12,7 @@ use crate::rows::StateRows;
 use pol_addr::Prefix;
 use pol_connections::EndName;
 use pol_data::{Memory, Text};
-use pol_model::{Endpoint, IdentityRow, NamedIdentity, RESERVED_LAST};
+use pol_model::{Endpoint, IdentityRow, NamedIdentity, is_core};
 use std::alloc::Global;
 use std::collections::BTreeMap;
 
@@ -72,14 +72,14 @@ fn push_named(alloc: Global, out: &mut Vec<EndRow>, named: &[NamedIdentity]) -> 
     Ok(())
 }
 
-/// Whether the identity is a reserved one that isn't a world's.
+/// Whether the identity is a reserved one of the cluster's own.
 fn stands_alone(row: &IdentityRow) -> bool
     ensures { result ≡ stands_alone row.now }
 {
-    1 <= row.number && row.number <= RESERVED_LAST && row.prefix.is_none()
+    is_core(row.number)
 }
 
-/// Appends the reserved identities but the worlds'.
+/// Appends the reserved identities but those of the worlds.
 fn push_reserved(out: &mut Vec<EndRow>, identities: &[IdentityRow]) -> Result<(), Memory>
     ensures { OnOk result (out.new.items ≡ out.old.items ++ map alone_row (filter stands_alone identities.now)) }
 {

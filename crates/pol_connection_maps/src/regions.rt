@@ -7,7 +7,7 @@ ghost use Rattle.pol_connection_maps.specs.EndRows.{over_row};
 
 use pol_addr::Prefix;
 use pol_data::Memory;
-use pol_model::{IdentityRow, WORLD_IDENTITY};
+use pol_model::{IdentityRow, world_identity_of};
 use std::alloc::Global;
 use std::collections::BTreeSet;
 
@@ -34,7 +34,7 @@ fn prefixes_in_order(alloc: Global, prefixes: &[Prefix]) -> Result<BTreeSet<Pref
     Ok(ordered)
 }
 
-/// The regions of two states with these identities: each prefix that either holds, once and in order.
+/// The regions of two states with these identities: each prefix that either holds, once and in order: those of IPv4 first.
 pub(crate) fn regions_of(
     alloc: Global,
     before: &[IdentityRow],
@@ -90,6 +90,6 @@ pub(crate) fn region_number(region: &Prefix, identities: &[IdentityRow]) -> u32
 {
     match longest_over(region, identities) {
         Some((_, number)) => number,
-        None => WORLD_IDENTITY,
+        None => world_identity_of(region.network()),
     }
 }
