@@ -29,7 +29,28 @@ def labels(pick):
 
 
 def address(pick):
-    return pick.choice([f"10.0.0.{pick.randrange(40)}", f"10.1.{pick.randrange(4)}.{pick.randrange(256)}", "10.0.0.256"])
+    """An address of either family, or a text that is none; one of IPv6 in one of its texts."""
+    found = pick.choice(["10.0.0", "10.0.0", "10.1", "10.0.0.256", "2001:db8", "2001:db8", "2001:db8:1", "1::2::3"])
+    if found == "10.0.0":
+        return f"10.0.0.{pick.randrange(40)}"
+    if found == "10.1":
+        return f"10.1.{pick.randrange(4)}.{pick.randrange(256)}"
+    if found == "2001:db8":
+        return pick.choice(["2001:db8::{:x}", "2001:DB8:0::0:{:04X}", "2001:db8:0:0:0:0:0:{:x}"]).format(pick.randrange(40))
+    return f"2001:db8:1:{pick.randrange(4)}::{pick.randrange(256):x}" if found == "2001:db8:1" else found
+
+
+def prefix(pick):
+    if pick.random() < 0.5:
+        return f"10.{pick.randrange(3)}.0.0/{pick.randrange(8, 33)}"
+    return pick.choice([f"2001:db8:{pick.randrange(3)}::/{pick.randrange(32, 129)}", f"2001:db8:1:{pick.randrange(4)}:8000::/{pick.randrange(63, 67)}", "0.0.0.0/0", "::/0"])
+
+
+def prefix_set(pick):
+    """A prefix with an exception, which is of the other family at times."""
+    whole = pick.choice(["10.0.0.0/8", "2001:db8::/32", "0.0.0.0/0", "::/0"])
+    inner = [f"10.{pick.randrange(3)}.0.0/16", f"2001:db8:{pick.randrange(3)}::/48"]
+    return {"cidr": whole, "except": [inner[(":" in whole) ^ (pick.random() < 0.1)]]}
 
 
 def ports(pick):
@@ -45,11 +66,11 @@ def entry(pick, word):
     if kind == 0:
         found[f"{word}Endpoints"] = [{"matchLabels": {"app": f"a{pick.randrange(6)}"}}]
     elif kind == 1:
-        found[f"{word}CIDR"] = [f"10.{pick.randrange(3)}.0.0/{pick.randrange(8, 33)}"]
+        found[f"{word}CIDR"] = [prefix(pick)]
     elif kind == 2:
-        found[f"{word}CIDRSet"] = [{"cidr": "10.0.0.0/8", "except": [f"10.{pick.randrange(3)}.0.0/16"]}]
+        found[f"{word}CIDRSet"] = [prefix_set(pick)]
     elif kind == 3:
-        found[f"{word}Entities"] = [pick.choice(["all", "world", "host", "cluster", "init", "none"])]
+        found[f"{word}Entities"] = [pick.choice(["all", "world", "world-ipv4", "world-ipv6", "host", "cluster", "init", "none"])]
     if pick.random() < 0.7:
         found["toPorts"] = ports(pick)
     return found
@@ -69,7 +90,7 @@ def policy(pick):
 def query(pick, op):
     found = {"op": op, "endpoint": pick.choice(NAMES), "direction": pick.choice(["ingress", "egress"]),
              "protocol": pick.choice(["TCP", "UDP", "SCTP", "tcp"]), "port": pick.choice([0, 53, 80, 443, 65535])}
-    found.update({"identity": pick.choice([0, 1, 2, 256, 257, 300, 16777217])} if pick.random() < 0.4 else {"address": address(pick)})
+    found.update({"identity": pick.choice([0, 1, 2, 9, 10, 256, 257, 300, 16777217, 16777218])} if pick.random() < 0.4 else {"address": address(pick)})
     return found
 
 

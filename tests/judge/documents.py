@@ -66,8 +66,6 @@ def left_out(name):
 def walk_text(form, value, path):
     if not isinstance(value, str) or form == NAME and not re.fullmatch("[a-z0-9.-]{1,253}", value):
         raise wrong_shape(path)
-    if form == CIDR and ":" in value:
-        raise left_out("ipv6")
     if form == PORT and re.search("[a-zA-Z]", value):
         raise left_out("named-port")
     if form == PROTOCOL and value.encode().upper() in (b"ICMP", b"ICMPV6"):

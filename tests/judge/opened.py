@@ -56,9 +56,19 @@ class End:
         self.key = (kind, name)
 
 
+def groups_text(bits):
+    """An IPv6 address in its shortest text: `::` stands for the first of the longest runs of two or more groups of zeros."""
+    groups = [bits >> at & 0xFFFF for at in range(112, -1, -16)]
+    runs = {at: next((to for to in range(at, 8) if groups[to]), 8) - at for at in range(8)}
+    at = max(runs, key=lambda it: (runs[it], -it))
+    whole = lambda part: ":".join(f"{it:x}" for it in part)
+    return whole(groups) if runs[at] < 2 else f"{whole(groups[:at])}::{whole(groups[at + runs[at]:])}"
+
+
 def prefix_text(prefix):
-    bits, length = prefix
-    return ".".join(str(bits >> at & 255) for at in (24, 16, 8, 0)) + f"/{length}"
+    family, bits, length = prefix
+    address = groups_text(bits) if family == rules.IPV6 else ".".join(str(bits >> at & 255) for at in (24, 16, 8, 0))
+    return f"{address}/{length}"
 
 
 def prefixes(state):
@@ -67,19 +77,19 @@ def prefixes(state):
 
 def named(state, name):
     number = state.names[name]
-    return End("identity", name, number, rules.Endpoint(0, 0, state.rows[number].labels, number, 0))
+    return End("identity", name, number, rules.Endpoint(0, 0, state.rows[number].labels, number, None))
 
 
 def region(state, prefix):
     around = [it for it in prefixes(state) if rules.covers(it, prefix)]
-    return End("region", prefix_text(prefix), prefixes(state)[max(around, key=lambda it: it[1])])
+    return End("region", prefix_text(prefix), prefixes(state)[max(around, key=lambda it: it[2])])
 
 
 def ends(state, regions):
     by_bytes = lambda table: sorted(table, key=lambda name: name.encode())
     return [*(End("endpoint", name, state.endpoints[name].identity, state.endpoints[name]) for name in by_bytes(state.endpoints)),
             *(named(state, name) for name in by_bytes(state.names)),
-            *(End("reserved", name, number) for number, name in enumerate(rules.RESERVED, 1) if number != rules.WORLD),
+            *(End("reserved", name, number) for number, name in enumerate(rules.RESERVED, 1) if name not in rules.OUTSIDE),
             *(region(state, prefix) for prefix in regions)]
 
 

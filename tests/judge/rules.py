@@ -9,15 +9,22 @@ from dataclasses import dataclass, field, replace
 
 NAMESPACE = "io.kubernetes.pod.namespace"
 NAMESPACE_LABELS = "io.cilium.k8s.namespace.labels."
-RESERVED = ["host", "world", "unmanaged", "health", "init", "remote-node", "kube-apiserver", "ingress"]
-ENTITIES = ["all", "world", "host", "remote-node", "kube-apiserver", "ingress", "init", "health", "unmanaged", "cluster"]
+RESERVED = ["host", "world", "unmanaged", "health", "init", "remote-node", "kube-apiserver", "ingress", "world-ipv4", "world-ipv6"]
+ENTITIES = ["all", "world", "world-ipv4", "world-ipv6", "host", "remote-node", "kube-apiserver", "ingress", "init", "health", "unmanaged", "cluster"]
 CLUSTER_LABEL = ("k8s", "io.cilium.k8s.policy.cluster", "default")
 INIT_LABELS = frozenset({("reserved", "init", "")})
-WORLD_LABELS = frozenset({("reserved", "world", "")})
 INGRESS, EGRESS = "ingress", "egress"
 PROTOCOLS = ["TCP", "UDP", "SCTP"]
 MOST_ENDPOINTS, FIRST_CLUSTER, LAST_CLUSTER = 256, 256, 65535
-FIRST_LOCAL, LAST_LOCAL, WORLD, HOST = 16777217, 16842751, 2, 1
+FIRST_LOCAL, LAST_LOCAL, HOST = 16777217, 16842751, 1
+# Each family with the bits of its addresses, and the identity and the name of its world.
+IPV4, IPV6 = 4, 6
+WIDTHS = {IPV4: 32, IPV6: 128}
+WORLDS = {IPV4: 9, IPV6: 10}
+WORLD_NAMES = {IPV4: "world-ipv4", IPV6: "world-ipv6"}
+# Who lies outside the cluster: what the entity `world` selects, by its labels.
+OUTSIDE = ["world", *WORLD_NAMES.values()]
+GROUPS, GROUP_BITS = 8, 16
 
 
 # ---- labels, selectors, prefixes
@@ -49,29 +56,68 @@ def matches(selector, labels):
     return all(one.met_by(labels) for one in selector)
 
 
-def address_of(text):
-    """An address as a number, None where the text is none."""
+def dotted(text):
+    """The number of four decimal numbers, None where the text is none."""
     parts = text.split(".")
     if len(parts) != 4 or not all(re.fullmatch("0|[1-9][0-9]{0,2}", it) and int(it) < 256 for it in parts):
         return None
     return sum(int(it) << 8 * (3 - at) for at, it in enumerate(parts))
 
 
-def prefix_of(text):
-    """(network, length) of a CIDR text, None where the text is none."""
-    head, slash, tail = text.partition("/")
-    network, length = address_of(head), tail if slash else "32"
-    if network is None or not re.fullmatch("0|[1-9][0-9]?", length) or int(length) > 32:
+def groups_of(text):
+    """The groups of a text of them, none of an empty one; None where one of them is no group."""
+    parts = text.split(":") if text else []
+    return [int(it, 16) for it in parts] if all(re.fullmatch("[0-9a-fA-F]{1,4}", it) for it in parts) else None
+
+
+def grouped(text):
+    """The number of eight groups, some of which may be written as `::`; None where the text is none."""
+    parts = [groups_of(it) for it in text.split("::")]
+    if None in parts or len(parts) > 2:
         return None
-    return (network >> (32 - int(length)) << (32 - int(length)), int(length))
+    front, back = parts[0], parts[-1] if len(parts) == 2 else []
+    left_out = GROUPS - len(front) - len(back)
+    if left_out < 1 if len(parts) == 2 else left_out != 0:
+        return None
+    return sum(it << GROUP_BITS * (GROUPS - 1 - at) for at, it in enumerate([*front, *[0] * left_out, *back]))
+
+
+def address_of(text):
+    """(family, number) of an address, None where the text is none."""
+    family, number = (IPV6, grouped(text)) if ":" in text else (IPV4, dotted(text))
+    return None if number is None else (family, number)
+
+
+def cleared(address, length):
+    """The prefix (family, network, length) of an address."""
+    family, number = address
+    behind = WIDTHS[family] - length
+    return (family, number >> behind << behind, length)
+
+
+def prefix_of(text):
+    """(family, network, length) of a CIDR text, None where the text is none."""
+    head, slash, tail = text.partition("/")
+    address = address_of(head)
+    if address is None:
+        return None
+    length = tail if slash else str(WIDTHS[address[0]])
+    if not re.fullmatch("0|[1-9][0-9]{0,2}", length) or int(length) > WIDTHS[address[0]]:
+        return None
+    return cleared(address, int(length))
 
 
 def contains(prefix, address):
-    return prefix[0] >> (32 - prefix[1]) == address >> (32 - prefix[1])
+    return prefix[0] == address[0] and cleared(address, prefix[2]) == prefix
 
 
 def covers(prefix, other):
-    return prefix[1] <= other[1] and contains(prefix, other[0])
+    return prefix[2] <= other[2] and contains(prefix, other[:2])
+
+
+def world_around(prefix):
+    """The prefix of all addresses of a prefix's family."""
+    return (prefix[0], 0, 0)
 
 
 # ---- policies
@@ -109,14 +155,14 @@ class Policy:
 
 
 def prefixes_of(policy):
-    """The prefixes that take numbers, in the order of the document, each once."""
+    """The prefixes that take numbers, in the order of the document, each once: all but the two of the worlds."""
     found = []
     for rule in policy.rules:
         for section in ("ingress", "ingressDeny", "egress", "egressDeny"):
             for entry in rule.sections[section]:
                 for peer in entry.peers or ():
                     found += [it for it in (peer.prefix, *peer.exceptions) if peer.kind == "cidr"]
-    return [*dict.fromkeys(it for it in found if it != (0, 0))]
+    return [*dict.fromkeys(it for it in found if it != world_around(it))]
 
 
 # ---- the state
@@ -135,7 +181,7 @@ class Endpoint:
     slot: int
     labels: frozenset
     identity: int
-    address: int
+    address: tuple
 
 
 @dataclass(frozen=True)
@@ -150,10 +196,19 @@ class State:
     endpoints: dict = field(default_factory=dict)
 
 
+def labels_named(name):
+    return frozenset({("reserved", name, "")})
+
+
 def start(mode, localhost):
-    rows = {number: Row(frozenset({("reserved", name, "")}), None, 1) for number, name in enumerate(RESERVED, 1)}
-    rows[WORLD] = replace(rows[WORLD], prefix=(0, 0))
+    rows = {number: Row(labels_named(name), None, 1) for number, name in enumerate(RESERVED, 1)}
+    for family, number in WORLDS.items():
+        rows[number] = replace(rows[number], prefix=(family, 0, 0))
     return State(mode, localhost, 0, rows)
+
+
+def is_reserved(number):
+    return number <= len(RESERVED)
 
 
 def least_free(rows, first, last):
@@ -163,7 +218,7 @@ def least_free(rows, first, last):
 def number_of_labels(rows, labels):
     if labels == INIT_LABELS:
         return 5
-    return next((number for number, row in rows.items() if row.labels == labels and row.prefix is None and number > 8), None)
+    return next((number for number, row in rows.items() if row.labels == labels and row.prefix is None and not is_reserved(number)), None)
 
 
 def prefix_numbers(rows):
@@ -173,14 +228,14 @@ def prefix_numbers(rows):
 
 def held(rows, number, row):
     """The rows with one holder more of the number, whose row this is where it is new."""
-    if number <= 8:
+    if is_reserved(number):
         return rows
     old = rows.get(number)
     return {**rows, number: replace(old, holders=old.holders + 1) if old else row}
 
 
 def released(rows, number):
-    if number <= 8:
+    if is_reserved(number):
         return rows
     if rows[number].holders == 1:
         return {at: row for at, row in rows.items() if at != number}
@@ -198,7 +253,7 @@ def hold_prefixes(rows, prefixes):
     for prefix in prefixes:
         number = numbers[prefix] if prefix in numbers else next(free)
         old = rows.get(number)
-        rows[number] = replace(old, holders=old.holders + 1) if old else Row(WORLD_LABELS, prefix, 1)
+        rows[number] = replace(old, holders=old.holders + 1) if old else Row(labels_named(WORLD_NAMES[prefix[0]]), prefix, 1)
     return rows
 
 
@@ -310,7 +365,8 @@ def selects(rows, peer, number):
         return inside and not any(covers(it, row.prefix) for it in peer.exceptions)
     if peer.entity == "cluster":
         return number in (1, 3, 4, 5, 6, 7, 8) or CLUSTER_LABEL in row.labels
-    return ("reserved", peer.entity, "") in row.labels
+    names = OUTSIDE if peer.entity == "world" else [peer.entity]
+    return any(("reserved", name, "") in row.labels for name in names)
 
 
 def has_effect(entry):
@@ -365,7 +421,7 @@ def explain(state, endpoint, direction, packet):
 def remote(state, address):
     """The number that an address has."""
     own = next((it.identity for it in state.endpoints.values() if it.address == address), None)
-    around = [(row.prefix[1], number) for number, row in state.rows.items() if row.prefix and contains(row.prefix, address)]
+    around = [(row.prefix[2], number) for number, row in state.rows.items() if row.prefix and contains(row.prefix, address)]
     return own if own is not None else max(around)[1]
 
 

@@ -33,14 +33,14 @@ for k in range(66):
 for i in (0, 7_007, 65_534, 65_535):
     trace_of(i)
 apply("new", [prefix(65_535)])
-apply("shares", [prefix(7_007), "0.0.0.0/0"])
+apply("shares", [prefix(7_007), "0.0.0.0/0", "::/0"])
 apply("new", [prefix(7_007), prefix(65_535)])
 apply("p65", [*LAST[1:], prefix(65_535)])
 apply("p65", LAST[1:])
 apply("new", [prefix(65_535)])
 for i in (65_000, 65_001, 65_535):
     trace_of(i)
-apply("newer", ["11.0.0.0/24"])
+apply("newer", ["2001:db8::/32"])
 line(op="delete", kind="CiliumNetworkPolicy", name="p7")
 for i in (7_006, 7_007, 7_008):
     trace_of(i)

@@ -1,10 +1,10 @@
 """The answers, by the rules: prefix i has the number 16777217 + i, and 38 comes where there would be over 65,535.
 
-A prefix that has a number takes no other, nor does 0.0.0.0/0. A policy that replaces another takes before it gives back.
+A prefix that has a number takes no other, nor do 0.0.0.0/0 and ::/0. A policy that replaces another takes before it gives back.
 The prefix 65,535 gets what the prefix 65,000 had. Without `p7` the numbers of its thousand prefixes are free, but for that of
 prefix 7,007, which another policy holds; what comes then takes the least of them, in the order of the document.
 """
-FIRST, WORLD = 16_777_217, 2
+FIRST, WORLD = 16_777_217, 9
 
 
 def trace(at, number):
