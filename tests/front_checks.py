@@ -192,6 +192,8 @@ def flows_are_replayed(folder, wrong):
         *(flow(teller, ledger, 8443, it) for it in times),
         flow("shop/web-7f6c8-bb4np", "shop/cart-5d8b4-t6k9z", 8081),
         flow((["reserved:world"], "198.51.100.7"), "shop/web-7f6c8-bb4np", 443),
+        flow((["reserved:world-ipv6"], "2001:DB8:0::7"), "shop/web-7f6c8-bb4np", 443),
+        flow((["reserved:world-ipv6"], "2001:db8::8"), ledger, 8443),
         flow(gone, ledger, 8443),
         flow(teller, ledger, 8443, is_reply=True),
         flow(teller, ledger, 8443, verdict="DROPPED"),
@@ -200,7 +202,7 @@ def flows_are_replayed(folder, wrong):
     ]
     name, new = door.write("flows", "\n".join(lines) + "\n"), door.write("shut.json", shut)
     status, out, err = door.call("replay", name, *STATE)
-    told(wrong, "what the state drops", (status, [it[3] for it in stripped(out)]), (3, ["1"]))
+    told(wrong, "what the state drops", (status, sorted((it[0], it[3]) for it in stripped(out))), (3, [("2001:db8::8", "1"), ("shop/cart-5d8b4-t6k9z", "1")]))
     removed = ["--remove", "cnp/pay/ledger-clients", "--add", new]
     status, out, err = door.call("replay", name, *STATE, *removed, "--format", "json")
     value = json.loads(out)
@@ -212,7 +214,7 @@ def flows_are_replayed(folder, wrong):
     ]))
     told(wrong, "what was left out", [it for it in value["notes"] if "replies" in it or "forwarded" in it or "TCP, UDP" in it], [
         "left out: flows that aren't of TCP, UDP or SCTP: 1", "left out: flows that weren't forwarded: 1", "left out: replies: 1"])
-    told(wrong, "what was denied already", any(it.startswith("1 flow is denied before the change too") for it in value["notes"]), True)
+    told(wrong, "what was denied already", any(it.startswith("2 flows are denied before the change too") for it in value["notes"]), True)
     for text, what in (("nothing", "no JSON"), ("{}", None), ('{"flow": 3}', "it has no flow"), ("", "no flow is in it")):
         status, _, err = door.call("replay", door.write("bad", text), *STATE)
         told(wrong, f"at {text!r}", (status, what is None or what in err), (0 if what is None else 1, True))
@@ -266,6 +268,69 @@ def names_are_ends(folder, wrong):
     world = sorted((it[1], it[2], it[4], it[5].rpartition("; ")[2] if "names" in it[5] else "") for it in stripped(out) if it[1] in ("world", "names: a.example"))
     rest = "TCP 0-442, 444-65535; UDP and SCTP every port"
     told(wrong, "what changes", world, [("names: a.example", rest, "denied-by-default", ""), ("world", rest, "denied-by-default", ""), ("world", "TCP 443", "denied-by-default", "and names: a.example")])
+
+
+EVERY = "every protocol and port"
+
+
+def worlds_are_told_apart(folder, wrong):
+    """The worlds of both families are one end where the answers are one, and two where they aren't."""
+    door = Door(folder)
+    web = lambda name, **sections: policy(name, {"endpointSelector": {"matchLabels": {"app": "web"}}, **sections})
+    state = lambda name, *policies: ["--state", door.write(name, listed(NAMESPACE, *PODS, *policies))]
+    reached = lambda given, *more: [it[1:3] for it in stripped(door.call("list", "--from", "shop/web", "--to", "world", *given, *more)[1])]
+    shut = web("shut", egress=[{}])
+    both, four, six = (web("open", egress=[{"toEntities": [it]}]) for it in ("world", "world-ipv4", "world-ipv6"))
+    told(wrong, "both", reached(state("both", both)), [["world", EVERY]])
+    told(wrong, "IPv4", reached(state("four", four)), [["world-ipv4", EVERY]])
+    told(wrong, "IPv6", reached(state("six", six)), [["world-ipv6", EVERY]])
+    two = web("open", egress=[{"toEntities": ["world-ipv4"], "toPorts": [{"ports": [{"port": "80"}]}]}, {"toEntities": ["world-ipv6"]}])
+    told(wrong, "each at other ports", reached(state("two", two)), [["world-ipv4", "every protocol, 80"], ["world-ipv6", EVERY]])
+    most = web("open", egress=[{"toCIDRSet": [{"cidr": "0.0.0.0/0", "except": ["10.0.0.0/8"]}, {"cidr": "::/0", "except": ["2001:DB8::/32", "fd00::/8"]}]}])
+    for more in ([], ["--by", "workload"]):
+        told(wrong, f"but for some {more}", reached(state("most", most), *more), [["world but for 10.0.0.0/8, 2001:db8::/32, fd00::/8", EVERY]])
+    told(wrong, "as an end", [it[1] for it in stripped(door.call("list", "--from", "shop/web", "--to", "world-ipv6", *state("most", most))[1])], ["world-ipv6 but for 2001:db8::/32, fd00::/8"])
+    told(wrong, "within a prefix", [it[1] for it in stripped(door.call("list", "--from", "shop/web", "--to", "2001::/16", *state("most", most))[1])], ["2001::/16 but for 2001:db8::/32"])
+    graph = [door.call("list", "--from", "shop/web", "--to", "world", "--format", "dot", *state("both", it))[1] for it in (both, two)]
+    told(wrong, "in a graph", [sorted({word for word in ('"world"', '"world-ipv4"', '"world-ipv6"') if word in it}) for it in graph], [['"world"'], ['"world-ipv4"', '"world-ipv6"']])
+    given = state("shut", shut)
+    opens = lambda it: [row[1] for row in stripped(door.call("diff", *given, "--add", door.write("new.json", it))[1])]
+    told(wrong, "what opens", [opens(it) for it in (both, four, six)], [["world"], ["world-ipv4"], ["world-ipv6"]])
+    value = json.loads(door.call("diff", *state("four", four), "--add", door.write("new.json", both), "--format", "json")[1])
+    told(wrong, "what opens beside it", [it["to"] for it in value["rows"]], [[{"cidr": "::/0", "except": []}]])
+    why = lambda given, end: [row[1:4] + row[5:6] for row in stripped(door.call("why", "shop/web", end, "TCP/80", *given)[1])]
+    told(wrong, "why, of both", why(state("both", both), "world"), [["world", "TCP 80", "allowed", "allowed"]])
+    told(wrong, "why, of each", why(state("four", four), "world"), [["world-ipv4", "TCP 80", "allowed", "allowed"], ["world-ipv6", "TCP 80", "denied-by-default", "denied-by-default"]])
+    told(wrong, "why, of an address", why(state("six", six), "2001:DB8:0::1"), [["2001:db8::1", "TCP 80", "allowed", "allowed"]])
+    promises = door.write("promises", "web -> world any always\nweb -> world-ipv4 any always\n")
+    told(wrong, "what is promised", [row[:4] for row in stripped(door.call("check", promises, *state("four", four))[1])], [["1", "web -> world any always", "shop/web", "world-ipv6"]])
+
+
+def names_of_each_family(folder, wrong):
+    """What a name opens is told by its family where the worlds differ."""
+    door = Door(folder)
+    free = {"toFQDNs": [{"matchName": "a.example"}], "toPorts": [{"ports": [{"port": "443", "protocol": "TCP"}]}]}
+    deny = policy("free", {"endpointSelector": {"matchLabels": {"app": "cart"}}, "egress": [free], "egressDeny": [{"toEntities": ["world-ipv4"]}]})
+    state = ["--state", door.write("state.json", listed(NAMESPACE, *PODS, deny))]
+    told(wrong, "what the cart may reach", [it[1:3] for it in stripped(door.call("list", "--from", "shop/cart", *state)[1])], [["names: a.example (IPv6)", "TCP 443"]])
+    value = json.loads(door.call("list", "--from", "shop/cart", *state, "--format", "json")[1])
+    told(wrong, "for programs", [it["to"] for it in value["rows"]], [[{"name": "a.example", "family": "IPv6"}]])
+    form = json.loads((TOP / "docs" / "answer.schema.json").read_text())
+    wrong += schema.wrong_with(value, form, form)
+
+
+def pods_of_both_families_are_ends(folder, wrong):
+    """A pod with an IPv6 address alone is an end, and a pod is named by each of its addresses."""
+    door = Door(folder)
+    six, two = pod("shop", "six", "n1", "fd00::6", {"app": "six"}), pod("shop", "two", "n1", "10.0.0.9", {"app": "two"})
+    two["status"]["podIPs"] = [{"ip": "10.0.0.9"}, {"ip": "fd00::9"}]
+    shut = policy("shut", {"endpointSelector": {"matchLabels": {"app": "six"}}, "ingress": [{"fromEndpoints": [{"matchLabels": {"app": "two"}}]}]})
+    state = ["--state", door.write("state.json", listed(NAMESPACE, *PODS, six, two, shut))]
+    for source, target in (("shop/two", "shop/six"), ("fd00::9", "fd00:0::6"), ("10.0.0.9", "FD00::6/128")):
+        told(wrong, f"from {source} to {target}", [it[:2] for it in stripped(door.call("list", "--from", source, "--to", target, *state)[1])], [["shop/two", "shop/six"]])
+    told(wrong, "from another one", door.call("list", "--from", "shop/web", "--to", "shop/six", *state)[1], "")
+    told(wrong, "from an address outside", door.call("list", "--from", "fd00::7", "--to", "shop/six", *state)[1], "")
+    told(wrong, "no text of an address", door.call("list", "--from", "fd00::7::1", *state)[0::2][0], 1)
 
 
 # Words.
@@ -502,9 +567,9 @@ def over_connections(check):
 
 def checks():
     found = (a_change_is_told, forms_agree, what_is_open, connections_are_asked, a_change_is_held, why_is_told, expectations_are_held, flows_are_replayed)
-    found += (two_states_are_compared, slips_are_asked_of_the_bridge, workloads_and_namespaces, names_are_ends, words_agree, bash_completes, kubectl_is_asked)
+    found += (two_states_are_compared, slips_are_asked_of_the_bridge, workloads_and_namespaces, names_are_ends, worlds_are_told_apart, names_of_each_family, pods_of_both_families_are_ends, words_agree, bash_completes, kubectl_is_asked)
     found += (children_end_too, other_programs_are_not_asked, progress_lives, ports_are_read, unions_and_flat_ranges)
     found += (forms_are_safe, flows_are_read, modules_are_small, one_formatter_lays_them_out, random_changes_are_told)
-    asking = (a_change_is_told, forms_agree, what_is_open, expectations_are_held, two_states_are_compared, workloads_and_namespaces, names_are_ends)
+    asking = (a_change_is_told, forms_agree, what_is_open, expectations_are_held, two_states_are_compared, workloads_and_namespaces, names_are_ends, worlds_are_told_apart, names_of_each_family)
     yield from ((f"front door {it.__name__.replace('_', ' ')}", lambda it=it: run(it)) for it in found)
     yield from ((f"front door {it.__name__.replace('_', ' ')}, over connections", lambda it=it: over_connections(it)) for it in asking)

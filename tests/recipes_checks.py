@@ -87,7 +87,9 @@ def faults_of_queries(wrong):
         ({"direction": None, "identity": 2}, "direction is ingress or egress, and is missing"),
         ({"identity": "2"}, "identity is a number from 0 to 4294967295"),
         ({"identity": 4294967296}, "identity is a number from 0 to 4294967295"),
-        ({"address": "1.2.3"}, "address is an IPv4 address"),
+        ({"address": "1.2.3"}, "address is an IP address"),
+        ({"address": "1::2::3"}, "address is an IP address"),
+        ({"address": "::1.2.3.4"}, "address is an IP address"),
         ({"protocol": "ICMP", "identity": 2}, "protocol is TCP, UDP or SCTP"),
         ({"port": 65536, "identity": 2}, "port is a number from 0 to 65535"),
         ({"port": None, "identity": 2}, "port is a number from 0 to 65535, and is missing"),
@@ -119,12 +121,41 @@ def other_sides_of_queries(wrong):
     for name, number in (("n1", 1), ("n2", 6)):
         given = [NAMESPACE, SERVICE, *PODS, {**node, "metadata": {"name": name}}]
         told(wrong, f"a further address of {name}", f',"identity":{number}}}' in call_with_query({"address": "203.0.113.9"}, given)[1].splitlines()[-1], True)
+    further_addresses(wrong)
     bad = {**node, "status": {"addresses": ["203.0.113.9"]}}
     told(wrong, "a bad address of a node", call("from-kubectl", [], [bad])[2], "from-kubectl: document 1, item 1: Node n2: status: addresses[0] is no object\n")
     without = call_with_query({"address": "203.0.113.9"}, [NAMESPACE, *PODS])
     told(wrong, "what is said without Services", without[2].splitlines()[-1], "from-kubectl: note: no Service is in the input, so that the ClusterIP of one would be taken for the world's")
     told(wrong, "what is said of no address", "no Service" in call_with_query({"identity": 2}, [NAMESPACE, *PODS])[2], False)
     told(wrong, "what is said with Services", "no Service" in asked({"address": "203.0.113.9"})[2], False)
+
+
+def further_addresses(wrong):
+    """A query by a further address of a pod or of a node is answered as one by the first."""
+    pods = json.loads(json.dumps(PODS))
+    pods[0]["status"].update(podIP="fd00::1", podIPs=[{"ip": "fd00::1"}, {"ip": "10.0.0.1"}], hostIPs=[{"ip": "192.168.0.1"}, {"ip": "FD01::1"}])
+    pods[1]["status"].update(podIPs=[{"ip": "10.0.0.2"}, {"ip": "fd00::2"}])
+    pods[3]["status"].update(hostIPs=[{"ip": "192.168.0.2"}, {"ip": "fd01::2"}])
+    dns = {**SERVICE, "spec": {"clusterIP": "10.96.0.10", "clusterIPs": ["10.96.0.10", "fd96::a"]}}
+    six = pod("shop", "six", "n1", "2001:db8:0:0:1:0:0:1", {"app": "six"})
+    six["status"]["podIPs"] = [{"ip": "2001:db8:0:0:1:0:0:1"}, {"ip": "2001:db8::7"}]
+    given = [NAMESPACE, dns, *pods, six]
+    for address, becomes in (
+        ("10.0.0.1", '"address":"10.0.0.1"'),
+        ("FD00:0::1", '"address":"10.0.0.1"'),
+        ("fd01::1", '"identity":1'),
+        ("fd01:0::2", '"identity":6'),
+        ("2001:db8::1:0:0:1", '"address":"2001:db8::1:0:0:1"'),
+        ("2001:db8::0007", '"address":"2001:db8::1:0:0:1"'),
+        ("2001:DB8::8", '"address":"2001:db8::8"'),
+    ):
+        status, out, _ = call_with_query({"address": address}, given)
+        told(wrong, f"the query by {address}", (status, f",{becomes}}}" in out.splitlines()[-1]), (0, True))
+    for address, what in (
+        ("fd00::2", 'fd00::2 is the address of shop/cart, which is no endpoint here: write "pod":"shop/cart" in its place'),
+        ("fd96::000a", "fd96::a is the ClusterIP of the Service shop/dns, which is a pod's address before policies are asked: name the pod"),
+    ):
+        told(wrong, f"the query by {address}", call_with_query({"address": address}, given), (1, "", f"from-kubectl: FILE, line 1: {what}\n"))
 
 
 OWN = {

@@ -4,16 +4,17 @@ from __future__ import annotations
 import typing
 
 from . import deciding, network, services, workloads
+from .addresses import address
 from .pods import SAME_ADDRESS, AnyOther, Pod
 from .policies import POLICY_KINDS, Policy
-from .reading import IPV4, Bad, labels_of, member, name_of, objects
+from .reading import Bad, labels_of, member, name_of, objects
 
 if typing.TYPE_CHECKING:
     from .labels import Filter
 
 ENDPOINTS_MOST = 256
 IDENTITIES_FROM, IDENTITIES_MOST = 256, 65_280
-HOST, WORLD, REMOTE_NODE, API_SERVER = 1, 2, 6, 7
+HOST, REMOTE_NODE, API_SERVER = 1, 6, 7
 NAMED_MOST = 4
 # The label of the API server's pods on the nodes that they run on, as kubeadm gives it.
 API_LABEL = ("component", "kube-apiserver")
@@ -86,6 +87,9 @@ class Cluster:
                 self.live.append(pod) if id(pod) in kept else self.leave_out(SAME_ADDRESS, pod.name)
         order = {id(it): at for at, it in enumerate(self.pods.values())}
         self.live.sort(key=lambda it: order[id(it)])
+        self.by_address = {it.address: it for it in self.live}
+        for it, further in ((it, further) for it in self.live for further in it.addresses):
+            self.by_address.setdefault(further, it)
         self.settle_coming([*coming, *(it for it in self.templates if it.comes())])
 
     def settle_coming(self, coming: typing.List[Pod]) -> None:
@@ -166,9 +170,9 @@ class Cluster:
         for number, it in enumerate(member(place, status, "addresses", list, [])):
             if not isinstance(it, dict):
                 raise Bad(f"{place}: addresses[{number}] is no object")
-            address = member(f"{place}: addresses[{number}]", it, "address", str, "")
-            if IPV4.fullmatch(address):
-                self.nodes[address] = name
+            found = address(member(f"{place}: addresses[{number}]", it, "address", str, ""))
+            if found:
+                self.nodes[found] = name
 
     def leave_out(self, reason: str, name: str) -> None:
         self.left_out.setdefault(reason, []).append(name)
@@ -177,11 +181,15 @@ class Cluster:
         """The identity of a node, for an endpoint of the node `local`."""
         return HOST if node == local else API_SERVER if node in self.api_nodes else REMOTE_NODE
 
-    def number_of(self, address: str, local: str) -> typing.Optional[int]:
+    def pod_at(self, found: str) -> typing.Optional[Pod]:
+        """The pod that has an address, its first one or a further one."""
+        return self.by_address.get(found)
+
+    def number_of(self, found: str, local: str) -> typing.Optional[int]:
         """The identity of a node's address, or of the API server's, for an endpoint of the node `local`; or None."""
-        if address in self.nodes:
-            return self.node_number(self.nodes[address], local)
-        return API_SERVER if address in self.api_addresses else None
+        if found in self.nodes:
+            return self.node_number(self.nodes[found], local)
+        return API_SERVER if found in self.api_addresses else None
 
 
 def counted(count: int, one: str, many: str) -> str:

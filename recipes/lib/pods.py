@@ -19,7 +19,7 @@ CORE_CLUSTER = "default"
 PORT_PREFIX, REQUIRED_KEY = "io.wenirako.port.", "io.wenirako.required"
 # Why a pod or a template is no end, in the words of standard error.
 ON_HOST = "pods on the host's network, which share the identity of their node"
-FINISHED, NO_ADDRESS = "pods that have finished", "pods without an IPv4 address"
+FINISHED, NO_ADDRESS = "pods that have finished", "pods without an address"
 LONG_NAME = "pods whose NAMESPACE/POD is no name for policyd: over 253 bytes, say"
 SAME_ADDRESS = "pods whose address another pod has, as one that is ending may"
 
@@ -43,7 +43,9 @@ class Pod:
             raise Bad(f"{place}: its namespace or its service account is no label's value")
         self.ports = ports_of(f"{place}: spec", spec)
         self.phase = member(f"{place}: status", status, "phase", str, "")
-        self.address = next(iter(addresses_of(f"{place}: status", status, "podIPs", "podIP")), "")
+        # The rules have one address an endpoint: that of IPv4 where there is one.
+        self.addresses = addresses_of(f"{place}: status", status, "podIPs", "podIP")
+        self.address = min(self.addresses, key=lambda it: ":" in it, default="")
         self.has_address = bool(self.address or status.get("podIP"))
         self.of_node = addresses_of(f"{place}: status", status, "hostIPs", "hostIP")
         # Why it stands for pods that come, such as `finished`; empty for a pod that is there.

@@ -4,7 +4,8 @@ from __future__ import annotations
 import json
 import typing
 
-from .reading import IPV4, Bad, line_of, text_of
+from .addresses import address as address_of
+from .reading import Bad, line_of, text_of
 from .script import numbers_of
 
 if typing.TYPE_CHECKING:
@@ -23,9 +24,7 @@ class Queries:
         self.cluster, self.node, self.numbers = cluster, node, numbers_of(cluster, pods)
         self.endpoints = {it.name: it for it in pods}
         # policyd knows the addresses of endpoints alone, and would take those of other pods for the world's
-        own = {it.address for it in pods}
-        self.others = {it.address: it.name for it in cluster.live if it.address not in own}
-        self.own, self.notes = own, []
+        self.notes: typing.List[str] = []
 
     def lines(self, name: str) -> typing.Iterator[typing.Tuple[str, str]]:
         """The query lines of a file, each with the name of its endpoint."""
@@ -74,17 +73,21 @@ class Queries:
         return "identity", self.numbers[pod.labels]
 
     def address(self, place: str, endpoint: Pod, address: str) -> typing.Tuple[str, typing.Union[int, str]]:
-        """What an address is: a node's is the node's identity, and that of a pod or a Service isn't the world's."""
-        if address in self.others:
-            pod = self.others[address]
-            raise Bad(f'{place}: {address} is the address of {pod}, which is no endpoint here: write "pod":"{pod}" in its place')
+        """What an address is: a node's is the node's identity, and that of a pod or a Service isn't the world's.
+
+        A pod's further addresses are answered as its first one, which alone policyd knows.
+        """
+        pod = self.cluster.pod_at(address_of(address))
+        if pod is not None and pod.name not in self.endpoints:
+            raise Bad(f'{place}: {address} is the address of {pod.name}, which is no endpoint here: write "pod":"{pod.name}" in its place')
+        address = pod.address if pod is not None else address_of(address)
         if address in self.cluster.services:
             service = self.cluster.services[address]
             raise Bad(f"{place}: {address} is the ClusterIP of the Service {service}, which is a pod's address before policies are asked: name the pod")
         number = self.cluster.number_of(address, endpoint.node)
         if number is not None:
             return "identity", number
-        if address not in self.own and not self.cluster.has_services:
+        if pod is None and not self.cluster.has_services:
             self.notes = ["note: no Service is in the input, so that the ClusterIP of one would be taken for the world's"]
         return "address", address
 
@@ -101,7 +104,7 @@ def checked(place: str, value: dict) -> None:
         ("direction", lambda it: it in DIRECTIONS, "ingress or egress"),
         ("pod", lambda it: isinstance(it, str), "a pod's name"),
         ("identity", lambda it: is_number(it, 0, 4_294_967_295), "a number from 0 to 4294967295"),
-        ("address", lambda it: isinstance(it, str) and IPV4.fullmatch(it), "an IPv4 address"),
+        ("address", lambda it: bool(address_of(it)), "an IP address"),
         ("protocol", lambda it: isinstance(it, str) and it.upper() in PROTOCOLS, "TCP, UDP or SCTP"),
         ("port", lambda it: is_number(it, 0, 65_535), "a number from 0 to 65535"),
         ("session", lambda it: is_number(it, 1, 8), "a number from 1 to 8"),

@@ -5,9 +5,9 @@ import json
 import re
 import typing
 
+from .addresses import address
+
 KEY, VALUE = re.compile(r"[!-<>-~]+"), re.compile(r"[!-~]*")
-BYTE = r"(0|[1-9]\d?|1\d\d|2[0-4]\d|25[0-5])"
-IPV4 = re.compile(rf"{BYTE}(\.{BYTE}){{3}}")
 YAML = re.compile(r"""\s*(%.*\n\s*|---\s+|#.*\n\s*|- +)*(["']?)[A-Za-z][A-Za-z0-9]*\2:(\s|$)""")
 AS_JSON = "kubectl patch --local --type=merge -p '{}' -o json -f FILE"
 # What kubectl says on standard error, where a shell has put that into the same file: a warning, or why it gave less.
@@ -175,7 +175,7 @@ def labels_of(place: str, metadata: dict) -> typing.Dict[str, str]:
 
 
 def addresses_of(place: str, value: dict, many: str, one: str) -> typing.List[str]:
-    """The IPv4 addresses among the objects `{"ip": ..}`, or texts, of a list, and then the one that stands alone."""
+    """The addresses among the objects `{"ip": ..}`, or texts, of a list, and then the one that stands alone."""
     texts = []
     for number, it in enumerate(member(place, value, many, list, [])):
         if isinstance(it, str) and many == "clusterIPs":
@@ -185,4 +185,4 @@ def addresses_of(place: str, value: dict, many: str, one: str) -> typing.List[st
         else:
             texts.append(member(f"{place}: {many}[{number}]", it, "ip", str, ""))
     texts.append(member(place, value, one, str, ""))
-    return [it for it in dict.fromkeys(texts) if IPV4.fullmatch(it)]
+    return [*dict.fromkeys(filter(None, map(address, texts)))]

@@ -1,25 +1,24 @@
-"""Addresses outside the cluster: the world, and the prefixes that policies name.
+"""Addresses outside the cluster: the worlds of both families, and the prefixes that policies name.
 
-A region is a prefix without the prefixes in it that are named too, and the world is the region of 0.0.0.0/0. Entries
-name whole prefixes, so all addresses of a region have the same verdicts, and one that is no pod's and no node's stands
-for it.
+A region is a prefix without the prefixes in it that are named too, and the world of a family is the region of 0.0.0.0/0 or
+of ::/0. Entries name whole prefixes, so all addresses of a region have the same verdicts, and one that is no pod's and no
+node's stands for it. Where both worlds are meant, they are told as one.
 """
 from __future__ import annotations
 
-import ipaddress
+import itertools
 import typing
 
-from .unread import prefix
+from .addresses import WORLDS, Network, is_world, lies_in, order, prefix
+from .addresses import written as text_of
 
-WORLD = ipaddress.IPv4Network("0.0.0.0/0")
-Network = ipaddress.IPv4Network
 # A region as a prefix and its exceptions.
 Joined = typing.Tuple[Network, typing.List[Network]]
 
 
 def named(entries: typing.Iterable[dict]) -> typing.Set[Network]:
-    """The prefixes that entries name, those of their exceptions too, and the world."""
-    found = {WORLD}
+    """The prefixes that entries name, those of their exceptions too, and the worlds."""
+    found = {*WORLDS}
     for entry in entries:
         found |= listed([entry])
         for it in sets(entry):
@@ -42,18 +41,18 @@ def sets(entry: dict) -> typing.List[dict]:
 
 def inside(whole: Network, prefixes: typing.Iterable[Network]) -> typing.List[Network]:
     """The widest of the prefixes that lie in another one."""
-    lying = [it for it in prefixes if it != whole and it.subnet_of(whole)]
-    return [it for it in lying if not any(it != other and it.subnet_of(other) for other in lying)]
+    lying = [it for it in prefixes if it != whole and lies_in(it, whole)]
+    return [it for it in lying if not any(it != other and lies_in(it, other) for other in lying)]
 
 
 def joined(regions: typing.Collection[Network], prefixes: typing.Iterable[Network]) -> typing.List[Joined]:
     """Regions as pairs of a prefix and its exceptions: a region in which another of them lies takes that one in."""
     found = []
-    for whole in sorted(regions):
-        above = [it for it in prefixes if it != whole and whole.subnet_of(it)]
+    for whole in sorted(regions, key=order):
+        above = [it for it in prefixes if it != whole and lies_in(whole, it)]
         nearest = max(above, key=lambda it: it.prefixlen, default=None)
         if nearest not in regions:
-            found.append((whole, sorted(missing(whole, regions, prefixes))))
+            found.append((whole, sorted(missing(whole, regions, prefixes), key=order)))
     return found
 
 
@@ -67,7 +66,17 @@ def missing(whole: Network, regions: typing.Collection[Network], prefixes: typin
 
 
 def written(pairs: typing.Iterable[Joined]) -> typing.Iterator[str]:
+    """Regions in words: first the worlds, those of both families as one, and then the others."""
+    pairs = list(pairs)
+    of_worlds = ([but for whole, but in pairs if whole == world] for world in WORLDS)
+    for each in itertools.zip_longest(*of_worlds):
+        names = [f"world-ipv{world.version}" for world, but in zip(WORLDS, each) if but is not None]
+        yield without("world" if len(names) == len(WORLDS) else names[0], [it for but in each for it in but or ()])
     for whole, but in pairs:
-        name = "world" if whole == WORLD else str(whole)
-        more = f" and {len(but) - 3} more" if len(but) > 3 else ""
-        yield name + (f" but for {', '.join(map(str, but[:3]))}{more}" if but else "")
+        if not is_world(whole):
+            yield without(text_of(whole), but)
+
+
+def without(name: str, but: typing.Sequence[Network]) -> str:
+    more = f" and {len(but) - 3} more" if len(but) > 3 else ""
+    return name + (f" but for {', '.join(map(text_of, but[:3]))}{more}" if but else "")

@@ -3,7 +3,8 @@ from __future__ import annotations
 
 import typing
 
-from .reading import IPV4, addresses_of, labels_of, member, name_of
+from .addresses import address
+from .reading import addresses_of, labels_of, member, name_of
 
 SLICES, ENDPOINTS = ("discovery.k8s.io/v1", "EndpointSlice"), ("v1", "Endpoints")
 SERVICE_LABEL = "kubernetes.io/service-name"
@@ -27,11 +28,11 @@ class Service:
         balancer = member(f"{place}: status", status, "loadBalancer", dict, {})
         self.outer = addresses_of(f"{place}: status.loadBalancer", balancer, "ingress", "ip")
         listed = member(f"{place}: spec", spec, "externalIPs", list, [])
-        self.outer += [it for it in listed if isinstance(it, str) and IPV4.fullmatch(it)]
+        self.outer += filter(None, map(address, listed))
 
 
 def slice_of(place: str, value: dict) -> typing.Tuple[str, typing.List[str]]:
-    """The Service of an EndpointSlice or of Endpoints, and its IPv4 addresses."""
+    """The Service of an EndpointSlice or of Endpoints, and its addresses."""
     metadata, name = name_of(place, value)
     namespace = member(f"{place}: metadata", metadata, "namespace", str, "default")
     found = []
@@ -42,8 +43,8 @@ def slice_of(place: str, value: dict) -> typing.Tuple[str, typing.List[str]]:
     else:
         for at, it in enumerate(member(place, value, "subsets", list, [])):
             listed = member(f"{place}: subsets[{at}]", it if isinstance(it, dict) else {}, "addresses", list, [])
-            found += [address.get("ip") for address in listed if isinstance(address, dict)]
-    return f"{namespace}/{name}", [it for it in found if isinstance(it, str) and IPV4.fullmatch(it)]
+            found += [one.get("ip") for one in listed if isinstance(one, dict)]
+    return f"{namespace}/{name}", [*filter(None, map(address, found))]
 
 
 def group_of(place: str, value: dict) -> typing.Tuple[str, typing.Dict[str, str], typing.List[str]]:

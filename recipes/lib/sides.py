@@ -20,5 +20,5 @@ def whose(cluster: Cluster, address: str) -> typing.Optional[str]:
         return "the address of the API server; name it by the entity `kube-apiserver`"
     if address in cluster.nodes:
         return f"the address of the node {cluster.nodes[address]}; name it by the entity `host` or `remote-node`"
-    pod = next((it for it in cluster.live if it.address == address), None)
+    pod = cluster.pod_at(address)
     return pod and f"the address of the pod {pod.name}; name it by its labels"

@@ -6,9 +6,10 @@ it with the answers of every case.
 """
 from __future__ import annotations
 
-import ipaddress
 import re
 import typing
+
+from .addresses import lies_in, prefix
 
 ANY, TEXT, NAME, NUMBER, BOOL = "any", "text", "name", "number", "bool"
 # The name of a shape of the table, of a text or a number, or a list of one: its items are of that.
@@ -51,7 +52,7 @@ LEFT_OUT = {
     "item": "rules terminatingTLS originatingTLS listener serverNames",
 }
 SECTIONS = ("ingress", "ingressDeny", "egress", "egressDeny")
-ENTITIES = "all world host remote-node kube-apiserver ingress init health unmanaged cluster".split()
+ENTITIES = "all world world-ipv4 world-ipv6 host remote-node kube-apiserver ingress init health unmanaged cluster".split()
 PROTOCOLS = ("", "TCP", "UDP", "SCTP", "ANY")
 
 
@@ -144,8 +145,6 @@ def leaf(value: object, shape: str, path: str) -> None:
         raise Unread("named-port", path)
     if shape == "protocol" and value.upper() in ("ICMP", "ICMPV6"):
         raise Unread("icmp", path)
-    if shape == "cidr" and ":" in value:
-        raise Unread("ipv6", path)
 
 
 # What its rules say.
@@ -188,7 +187,7 @@ def judge_entry(entry: dict, path: str) -> None:
     texts = [*listed, *(text for it in sets for text in [it["cidr"], *(it.get("except") or [])])]
     if any(prefix(it) is None for it in texts):
         raise Unread("bad-cidr", path)
-    if not all(prefix(text).subnet_of(prefix(it["cidr"])) for it in sets for text in it.get("except") or []):
+    if not all(lies_in(prefix(text), prefix(it["cidr"])) for it in sets for text in it.get("except") or []):
         raise Unread("except-outside", path)
     if any(it not in ENTITIES for it in peers(entry, "Entities")):
         raise Unread("unknown-entity", path)
@@ -249,20 +248,9 @@ def judge_network_entry(listed: typing.Sequence[dict], ports: typing.Sequence[di
 def judge_blocks(blocks: typing.Sequence[dict], path: str) -> None:
     if any(prefix(text) is None for it in blocks for text in [it["cidr"], *(it.get("except") or [])]):
         raise Unread("bad-cidr", path)
-    if not all(prefix(text).subnet_of(prefix(it["cidr"])) for it in blocks for text in it.get("except") or []):
+    if not all(lies_in(prefix(text), prefix(it["cidr"])) for it in blocks for text in it.get("except") or []):
         raise Unread("except-outside", path)
 
 
 def without_nulls(value: dict) -> dict:
     return {key: it for key, it in value.items() if it is not None}
-
-
-def prefix(text: str) -> typing.Optional[ipaddress.IPv4Network]:
-    """The prefix of a CIDR text, without its host bits, or None."""
-    octet = r"(?:0|[1-9]\d{0,2})"
-    if not re.fullmatch(rf"{octet}(\.{octet}){{3}}(/(0|[12]?[0-9]|3[0-2]))?", text, re.ASCII):
-        return None
-    try:
-        return ipaddress.ip_network(text, strict=False)
-    except ValueError:
-        return None

@@ -1,8 +1,8 @@
 """What policies mean for a packet, straight from the objects of a cluster, as the documentation of Cilium and Kubernetes
 says it: a small model that shares nothing with the recipes, rewrites nothing, and knows no policyd.
 
-The other end of a packet is ("pod", NAME), ("entity", NAME), ("address", TEXT), or ("name", TEXT): an address that a name
-has, and that lies in no prefix of a policy but those of all addresses.
+The other end of a packet is ("pod", NAME), ("entity", NAME), ("address", TEXT), or ("name", TEXT, FAMILY): an address that a
+name has, of family 4 or 6, and that lies in no prefix of a policy but those of all addresses.
 """
 import ipaddress
 import json
@@ -119,7 +119,7 @@ class World:
     def is_peer(self, namespace, selector, other):
         """Whether a peer selector means the other end. What is no pod has a reserved label alone; one that asks nothing
         means pods, and one of a namespaced policy those of its namespace, unless it says something of namespaces."""
-        labels = self.labels[other[1]] if other[0] == "pod" else {f"reserved:{other[1] if other[0] == 'entity' else 'world'}": ""}
+        labels = self.labels[other[1]] if other[0] == "pod" else {f"reserved:{other[1] if other[0] == 'entity' else world_of(other)}": ""}
         text = json.dumps(selector)
         says = NAMESPACE in text or f"{OWN}namespace.labels." in text or '"reserved:' in text
         if namespace is not None and not says:
@@ -133,7 +133,7 @@ class World:
         if other[0] == "pod":
             return name == "cluster"
         if other[0] in ("address", "name"):
-            return name == "world"
+            return name in ("world", world_of(other))
         return name == other[1] or name == "cluster" or name == "remote-node" and other[1] == "kube-apiserver"
 
     def prefixes(self, item):
@@ -222,11 +222,16 @@ def isolates(rule, direction):
     return bool(rule.get(direction) or rule.get(f"{direction}Deny")) if said is None else said
 
 
+def world_of(other):
+    """The world of an address, or of an address of a name."""
+    return f"world-ipv{other[2] if other[0] == 'name' else ipaddress.ip_address(other[1]).version}"
+
+
 def is_inside(text, out, other):
     """Whether an address lies in a prefix and in none of its exceptions; that of a name lies in those of all addresses."""
     if other[0] == "name":
-        return text == "0.0.0.0/0"
-    if other[0] != "address" or ":" in text:
+        return text == {4: "0.0.0.0/0", 6: "::/0"}[other[2]]
+    if other[0] != "address":
         return False
     address = ipaddress.ip_address(other[1])
     return address in ipaddress.ip_network(text, strict=False) and not any(address in ipaddress.ip_network(it) for it in out)

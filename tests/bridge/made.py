@@ -6,7 +6,7 @@ policies that operators write, names, Services, ports by name and rules of layer
 import json
 import sys
 
-from .objects import app, behind, deployment, group, namespace, network, pod, policy, ports, service
+from .objects import app, behind, deployment, dual, group, namespace, network, pod, policy, ports, service
 
 # The pods, the teams with a namespace each, and the nodes of a cluster.
 SIZES = {25: (2, 3), 160: (6, 5), 1000: (20, 12)}
@@ -28,17 +28,11 @@ def ports_of(name, team):
     return {"web": [("http", number_of_http(team))], "api": [("http", number_of_http(team))], "db": [("pg", 5432)]}.get(name, [])
 
 
-def dual(one, number):
-    """A pod with an address of each family."""
-    one["status"]["podIPs"].append({"ip": f"fd00::{number:x}"})
-    return one
-
-
 def system(nodes):
     """What runs beside the teams: DNS, an agent on each node, the API server on the first."""
     found = [namespace("kube-system"), namespace("default")]
     for at in range(2):
-        found.append(dual(pod(f"kube-system/dns-5d4-{at}", {"k8s-app": "kube-dns", "pod-template-hash": "5d4"}, f"n{at + 1}", f"10.200.0.{at + 1}", [("dns", 53, "UDP")], ("ReplicaSet", "dns-5d4")), at + 1))
+        found.append(dual(pod(f"kube-system/dns-5d4-{at}", {"k8s-app": "kube-dns", "pod-template-hash": "5d4"}, f"n{at + 1}", f"10.200.0.{at + 1}", [("dns", 53, "UDP")], ("ReplicaSet", "dns-5d4")), f"fd00::{at + 1:x}"))
     found += [pod(f"kube-system/agent-{at}", {"k8s-app": "agent"}, f"n{at}", f"192.168.0.{at}", owner=("DaemonSet", "agent"), hostNetwork=True) for at in range(1, nodes + 1)]
     found.append(pod("kube-system/kube-apiserver-n1", {"component": "kube-apiserver"}, "n1", "192.168.0.1", hostNetwork=True))
     found += [service("kube-system/dns", {"k8s-app": "kube-dns"}, "10.96.0.10"), service("default/kubernetes", None, "10.96.0.1"), behind("default/kubernetes", "192.168.0.1")]
@@ -55,7 +49,7 @@ def team_of(team, replicas, nodes):
             short, owner = (f"db-{at}", ("StatefulSet", "db")) if name == "db" else (f"{name}-7f-{at}", ("ReplicaSet", f"{name}-7f"))
             labels = {"app": name, **({} if name == "db" else {"pod-template-hash": "7f"})}
             one = pod(f"{space}/{short}", labels, f"n{number % nodes + 1}", f"10.{team}.0.{number + 1}", ports_of(name, team), owner)
-            found.append(dual(one, 4096 + team * 256 + number))
+            found.append(dual(one, f"fd00::{4096 + team * 256 + number:x}"))
     found.append(pod(f"{space}/report-1-x", {"app": "report"}, "n1", f"10.{team}.0.1", owner=("Job", "report-1"), phase="Succeeded"))
     found += [deployment(f"{space}/batch", {"app": "batch"}), deployment(f"{space}/web", {"app": "web"})]
     found += [service(f"{space}/web", {"app": "web"}, f"10.96.{team + 1}.1", type="LoadBalancer"), service(f"{space}/api", {"app": "api"}, f"10.96.{team + 1}.2")]

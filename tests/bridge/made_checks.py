@@ -66,7 +66,7 @@ def of_size(size):
         told("by name", shown(rows), [(pods(items, 0, "web"), pods(items, 1, "web"), tcp(number_of_http(1)), "denied-by-default", "allowed", [])])
         gone = ("CiliumNetworkPolicy", "team0", "default-deny")
         rows = compared(told, "a default deny that goes", items, judged.changed(state, (), ["cnp/team0/default-deny"]), [], [gone])
-        froms = sorted(["kube-system/dns-5d4-0", "kube-system/dns-5d4-1", "any other pod of default", "any other pod of kube-system", "0.0.0.0/0", *ENTITIES])
+        froms = sorted(["kube-system/dns-5d4-0", "kube-system/dns-5d4-1", "any other pod of default", "any other pod of kube-system", "0.0.0.0/0", "::/0", *ENTITIES])
         froms.remove("any other pod of default")
         tos = sorted([*pods(items, 0, "worker"), "any other pod of team0", "team0/batch", "team0/report-1-x"])
         told("a default deny that goes", shown(rows), [(froms, tos, EVERY, "denied-by-default", "allowed", [])])

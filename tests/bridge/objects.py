@@ -17,6 +17,12 @@ def pod(name, labels=None, node="n1", address=None, ports=(), owner=None, phase=
     return {"apiVersion": "v1", "kind": "Pod", "metadata": metadata, "spec": whole, "status": status}
 
 
+def dual(one, address):
+    """A pod with one more address."""
+    one["status"]["podIPs"].append({"ip": address})
+    return one
+
+
 def policy(name, *rules, kind="CiliumNetworkPolicy"):
     """A policy `NAMESPACE/NAME`, or cluster-wide where it has no namespace."""
     space, _, short = name.rpartition("/")
@@ -39,8 +45,9 @@ def service(name, selector=None, address="None", labels=None, **spec):
 def behind(name, *addresses):
     """The EndpointSlice of a Service."""
     space, short = name.split("/")
-    metadata = {"name": f"{short}-x", "namespace": space, "labels": {"kubernetes.io/service-name": short}}
-    return {"apiVersion": "discovery.k8s.io/v1", "kind": "EndpointSlice", "metadata": metadata, "addressType": "IPv4", "endpoints": [{"addresses": list(addresses)}]}
+    family = "IPv6" if ":" in addresses[0] else "IPv4"
+    metadata = {"name": f"{short}-{family.lower()}", "namespace": space, "labels": {"kubernetes.io/service-name": short}}
+    return {"apiVersion": "discovery.k8s.io/v1", "kind": "EndpointSlice", "metadata": metadata, "addressType": family, "endpoints": [{"addresses": list(addresses)}]}
 
 
 def group(name, *prefixes, **labels):

@@ -14,24 +14,25 @@ import sys
 from . import judged
 from .cilium import World
 from lib import lint
-from .objects import behind, group, namespace, network, pod, policy, service
+from .objects import behind, dual, group, namespace, network, pod, policy, service
 
 SPACES = ["a", "b"]
 PACKETS = 60
 ENTITIES = ["host", "remote-node", "kube-apiserver", "ingress", "health"]
 NAMES = ["example.com", "*.example.org"]
-ADDRESSES = ["8.8.8.8", "10.8.1.1", "10.9.1.1", "10.9.7.1", "172.16.0.9", "203.0.113.9"]
+ADDRESSES = ["8.8.8.8", "10.8.1.1", "10.9.1.1", "10.9.7.1", "172.16.0.9", "203.0.113.9", "2606:4700::9", "fd00:8::1", "fd00:9::1", "fd00:9:8000::1", "2001:db8::9"]
 NUMBERS = [53, 80, 443, 8080, 9090]
 
 
 def cluster(pick):
-    """Two namespaces with eight pods, whose ports by name differ; Services, a group of prefixes, addresses behind one."""
+    """Two namespaces with eight pods, some with an address of each family, whose ports by name differ; Services, a group of prefixes, addresses behind one."""
     found = [namespace(it, team=f"t{it}") for it in SPACES]
     for at in range(8):
         listed = [("http", pick.choice([8080, 9090])), ("dns", 53, "UDP")][: pick.randrange(3)]
-        found.append(pod(f"{SPACES[at % 2]}/p{at}", {"app": f"app{at % 4}", "tier": f"t{at % 3}"}, f"n{at % 2 + 1}", f"10.1.0.{at + 1}", listed))
+        found.append(pod(f"{SPACES[at % 2]}/p{at}", {"app": f"app{at % 4}", "tier": f"t{at % 3}"}, f"n{at % 2 + 1}", f"10.1.0.{at + 1}" if at else "fd00:1::1", listed))
+        found[-1] = dual(found[-1], f"fd00:1::{at + 1:x}") if at % 2 else found[-1]
     found += [service("a/apps", {"app": "app0"}, labels={"kind": "apps"}), service("b/apps", {"app": "app1"}, labels={"kind": "apps"})]
-    found += [service("a/outer"), behind("a/outer", "203.0.113.9"), group("partners", "10.9.0.0/16", "fd00::/8", kind="outer"), group("more", "172.16.0.0/12")]
+    found += [service("a/outer"), behind("a/outer", "203.0.113.9"), behind("a/outer", "2001:db8::9"), group("partners", "10.9.0.0/16", "fd00::/8", kind="outer"), group("more", "172.16.0.0/12")]
     return found
 
 
@@ -56,13 +57,15 @@ def ports(pick, denies):
 
 def entry(pick, word, denies):
     """An entry of any kind that is rewritten, or of one that isn't."""
-    prefix = lambda: f"10.{pick.randrange(8, 10)}.0.0/{pick.randrange(12, 17)}"
+    prefix = lambda: pick.choice([f"10.{pick.randrange(8, 10)}.0.0/{pick.randrange(12, 17)}", f"fd00:{pick.randrange(8, 10)}::/{pick.randrange(28, 34)}", "0.0.0.0/0", "::/0"])
     kinds = [
         lambda: {f"{word}Endpoints": [selector(pick)]},
         lambda: {f"{word}Endpoints": [selector(pick), selector(pick)]},
-        lambda: {f"{word}Entities": [pick.choice(["all", "world", "cluster", *ENTITIES])]},
-        lambda: {f"{word}CIDR": [prefix(), "fd00::/8"]},
+        lambda: {f"{word}Entities": [pick.choice(["all", "world", "world-ipv4", "world-ipv6", "cluster", *ENTITIES])]},
+        lambda: {f"{word}CIDR": [prefix()]},
+        lambda: {f"{word}CIDR": [prefix(), prefix()]},
         lambda: {f"{word}CIDRSet": [{"cidr": "10.8.0.0/13", "except": ["10.9.0.0/16"]}]},
+        lambda: {f"{word}CIDRSet": [{"cidr": pick.choice(["::/0", "fd00::/16"]), "except": ["fd00:9::/32", "fd00:8::0.0.0.1"]}]},
         lambda: {f"{word}CIDRSet": [pick.choice([{"cidrGroupRef": "partners"}, {"cidrGroupSelector": {"matchLabels": {"kind": "outer"}}}, {"cidrGroupRef": "lost"}])]},
         lambda: {f"{word}Nodes": [{"matchLabels": {"x": "y"}}]},
         lambda: {"icmps": [{"fields": [{"type": 8}]}]},
@@ -96,7 +99,7 @@ def rule(pick):
 
 def made(pick, name):
     if pick.random() < 0.25:
-        peers = [{"podSelector": {"matchLabels": {"tier": "t1"}}}, {"namespaceSelector": {"matchLabels": {"team": "tb"}}}, {"ipBlock": {"cidr": "fd00::/8"}}, {"ipBlock": {"cidr": "10.8.0.0/13"}}]
+        peers = [{"podSelector": {"matchLabels": {"tier": "t1"}}}, {"namespaceSelector": {"matchLabels": {"team": "tb"}}}, {"ipBlock": {"cidr": "fd00::/8", "except": ["fd00:9::/33"]}}, {"ipBlock": {"cidr": "10.8.0.0/13"}}, {"ipBlock": {"cidr": "::/0"}}]
         one = lambda word: {word: pick.sample(peers, pick.randrange(3)), "ports": [{"port": pick.choice(["http", 80, 8080])}][: pick.randrange(2)]}
         spec = {"podSelector": {"matchLabels": {"app": f"app{pick.randrange(4)}"}}, "policyTypes": ["Ingress", "Egress"][: pick.randrange(1, 3)], "ingress": [one("from")], "egress": [one("to")]}
         return network(f"{pick.choice(SPACES)}/{name}", spec)
@@ -105,8 +108,8 @@ def made(pick, name):
 
 
 def end(pick, pods):
-    kind = pick.choice(["pod", "pod", "pod", "entity", "address", "name"])
-    return kind, pick.choice({"pod": pods, "entity": ENTITIES, "address": ADDRESSES, "name": NAMES}[kind])
+    kind = pick.choice(["pod", "pod", "pod", "entity", "address", "address", "name"])
+    return (kind, pick.choice({"pod": pods, "entity": ENTITIES, "address": ADDRESSES, "name": NAMES}[kind]), *([pick.choice([4, 6])] if kind == "name" else []))
 
 
 def packet(pick, pods):
@@ -118,18 +121,18 @@ def packet(pick, pods):
 
 
 def has(row, sent, worlds):
-    """Whether a row is of a packet. A name's addresses are the world's where no policy of the pod names it."""
+    """Whether a row is of a packet. A name's addresses are those of its family's world where no policy of the pod names it."""
     source, target, protocol, port = sent
     if target[0] == "name" and not any(it.mentions(source[1], target[1]) for it in worlds):
-        target = ("address", "198.51.100.1")
+        target = ("address", {4: "198.51.100.1", 6: "2606:4700::1"}[target[2]])
     at_port = any(protocol in it["protocols"] and any(low <= port <= high for low, high in it["ranges"]) for it in row["ports"])
     return at_port and is_end(row["from"], source) and is_end(row["to"], target)
 
 
 def is_end(rows, one):
-    kind, value = one
+    kind, value, *family = one
     if kind != "address":
-        return {kind: value} in rows
+        return {kind: value} in rows or bool(family) and {kind: value, "family": f"IPv{family[0]}"} in rows
     of = lambda text: ipaddress.ip_address(value) in ipaddress.ip_network(text)
     return any("cidr" in it and of(it["cidr"]) and not any(map(of, it["except"])) for it in rows)
 

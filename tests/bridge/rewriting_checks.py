@@ -97,16 +97,21 @@ LINES = {
     "ICMP that is denied": ({"endpointSelector": {}, "ingressDeny": [{"icmps": [{"fields": [{"type": 8}]}]}]}, {"endpointSelector": {}, "ingressDeny": [{}]}),
     "ICMP as a protocol": (ingress({"toPorts": [{"ports": [{"port": "8", "protocol": "ICMP"}, {"port": "80"}]}]}), ingress({"toPorts": [{"ports": [{"port": "80"}]}]})),
     "ICMP as the protocol": (ingress({"toPorts": ports(8, protocol="icmpv6")}), ingress({})),
-    "a group of prefixes": (egress({"toCIDRSet": [{"cidrGroupRef": "partners", "except": ["10.1.0.0/16"]}]}), egress({"toCIDRSet": [{"cidr": "198.51.100.0/24"}, {"cidr": "10.0.0.0/8", "except": ["10.1.0.0/16"]}]})),
-    "a group that an exception has all of": (ingress({"fromCIDRSet": [{"cidrGroupRef": "partners", "except": ["0.0.0.0/0"]}]}), ingress({"fromCIDRSet": []})),
-    "groups of prefixes by labels": (ingress({"fromCIDRSet": [{"cidrGroupSelector": {"matchLabels": {"kind": "outer"}}}]}), ingress({"fromCIDRSet": [{"cidr": "198.51.100.0/24"}, {"cidr": "10.0.0.0/8"}]})),
+    "a group of prefixes": (egress({"toCIDRSet": [{"cidrGroupRef": "partners", "except": ["10.1.0.0/16"]}]}), egress({"toCIDRSet": [{"cidr": "198.51.100.0/24"}, {"cidr": "fd00::/8"}, {"cidr": "10.0.0.0/8", "except": ["10.1.0.0/16"]}]})),
+    "a group that an exception has all of, of one family": (ingress({"fromCIDRSet": [{"cidrGroupRef": "partners", "except": ["0.0.0.0/0"]}]}), ingress({"fromCIDRSet": [{"cidr": "fd00::/8"}]})),
+    "a group that exceptions have all of": (ingress({"fromCIDRSet": [{"cidrGroupRef": "partners", "except": ["0.0.0.0/0", "fc00::/7"]}]}), ingress({"fromCIDRSet": []})),
+    "groups of prefixes by labels": (ingress({"fromCIDRSet": [{"cidrGroupSelector": {"matchLabels": {"kind": "outer"}}}]}), ingress({"fromCIDRSet": [{"cidr": "198.51.100.0/24"}, {"cidr": "fd00::/8"}, {"cidr": "10.0.0.0/8"}]})),
     "a group that isn't there": (ingress({"fromCIDRSet": [{"cidrGroupRef": "lost"}], "toPorts": PORT}), ingress({"fromCIDRSet": [], "toPorts": PORT})),
     "nodes": (ingress({"fromNodes": [{"matchLabels": {"zone": "a"}}]}), ingress({"fromEntities": ["host", "remote-node", "kube-apiserver"]})),
     "the entity of other nodes": (egress({"toEntities": ["world", "remote-node"]}), egress({"toEntities": ["world", "remote-node", "kube-apiserver"]})),
     "the entity of nobody": (egress({"toEntities": ["none"], "toPorts": PORT}, {"toEntities": ["none", "host"]}), egress({"toEntities": [], "toPorts": PORT}, {"toEntities": ["host"]})),
     "a protocol without ports": (egress({"toPorts": ports(0, protocol="VRRP")}), egress({})),
-    "a prefix of IPv6 beside others": (egress({"toCIDR": ["10.0.0.0/8", "fd00::/8"]}, {"toCIDRSet": [{"cidr": "::/0", "except": ["fd00::/8"]}, {"cidr": "0.0.0.0/0"}]}), egress({"toCIDR": ["10.0.0.0/8"]}, {"toCIDRSet": [{"cidr": "0.0.0.0/0"}]})),
-    "prefixes of IPv6 alone": (egress({"toCIDR": ["::/0"], "toPorts": PORT}), egress({"toCIDR": [], "toPorts": PORT})),
+    "prefixes of both families": (egress({"toCIDR": ["10.0.0.0/8", "FD00::/8"]}, {"toCIDRSet": [{"cidr": "::/0", "except": ["fd00::/8"]}, {"cidr": "0.0.0.0/0"}]}), SAME),
+    "the entities of both worlds": (egress({"toEntities": ["world-ipv4"]}, {"toEntities": ["world-ipv6"]}), SAME),
+    "an IPv4 address at the end": (
+        egress({"toCIDR": ["::ffff:1.2.3.4/128", "1:2:3:4:5:6:10.0.0.1", "::1.2.3.4"]}, {"toCIDRSet": [{"cidr": "64:ff9b::0.0.0.0/96", "except": ["64:ff9b::10.0.0.0/104"]}]}),
+        egress({"toCIDR": ["::ffff:102:304/128", "1:2:3:4:5:6:a00:1", "::102:304"]}, {"toCIDRSet": [{"cidr": "64:ff9b::0:0/96", "except": ["64:ff9b::a00:0/104"]}]}),
+    ),
     "what isolates": (ingress({}, enableDefaultDeny={"ingress": False}), SAME),
     "a description and labels": (ingress({}, description="x", labels=[{"key": "a"}]), SAME),
     "a requirement without peers": (ingress({"fromRequires": [app("web")], "toPorts": PORT}), None),
@@ -191,7 +196,7 @@ def the_clusters_own_name(told):
 
 
 def network_policies(told):
-    """One with a port by name or a prefix of IPv6 is given as a policy of Cilium's; every other one as it stands."""
+    """One with a port by name is given as a policy of Cilium's; every other one as it stands."""
     plain = network("pay/plain", {"podSelector": {}, "ingress": [{}]})
     peers = [{"podSelector": {"matchLabels": {"app": "web"}}}, {"namespaceSelector": {"matchLabels": {"team": "finance"}}, "podSelector": {}}, {"ipBlock": {"cidr": "10.0.0.0/8"}}, {"ipBlock": {"cidr": "fd00::/8"}}]
     mixed = network("pay/mixed", {"podSelector": {"matchLabels": {"app": "web"}}, "policyTypes": ["Ingress", "Egress"], "ingress": [{"from": peers, "ports": [{"port": "http"}]}, {}], "egress": []})
@@ -204,11 +209,16 @@ def network_policies(told):
         {"matchLabels": {"k8s:io.cilium.k8s.namespace.labels.team": "finance"}, "matchExpressions": [ANY_POD]},
     ]
     web = {"matchLabels": {"k8s:app": "web"}}
-    asked = lambda number: {"endpointSelector": {**web, "matchExpressions": [HAS(number)]}, "ingress": [{"fromEndpoints": pods, "toPorts": ports(number)}, {"fromCIDRSet": [{"cidr": "10.0.0.0/8"}], "toPorts": ports(number)}]}
+    asked = lambda number: {"endpointSelector": {**web, "matchExpressions": [HAS(number)]}, "ingress": [{"fromEndpoints": pods, "toPorts": ports(number)}, {"fromCIDRSet": [{"cidr": "10.0.0.0/8"}, {"cidr": "fd00::/8"}], "toPorts": ports(number)}]}
     told("the rules", rules_of(found), [{"endpointSelector": web, "ingress": [{"fromEntities": ["all"]}], "egress": [{}]}, asked(8080), asked(9090)])
     told("its places", {*found.places.values()}, {"pay/networkpolicy/mixed#0.ingress[0]", "pay/networkpolicy/mixed#0.ingress[1]", "pay/networkpolicy/mixed#0.egress[0]"})
     told("its name", found.parts[0].name, "pay/networkpolicy..mixed")
-    told("what is counted", dict(found.counted), {"prefixes of IPv6": 1})
+    both = network("pay/both", {"podSelector": {}, "ingress": [{"from": [{"ipBlock": {"cidr": "::/0", "except": ["fd00::/8"]}}, {"ipBlock": {"cidr": "0.0.0.0/0"}}]}]})
+    state = read(both)
+    told("of both families", state.rewritten["NetworkPolicy", "pay", "both"].parts, [state.policies["NetworkPolicy", "pay", "both"]])
+    ending = network("pay/ending", {"podSelector": {}, "ingress": [{"from": [{"ipBlock": {"cidr": "64:ff9b::10.0.0.0/104", "except": ["64:ff9b::10.1.0.0/112"]}}]}]})
+    found = read(ending).rewritten["NetworkPolicy", "pay", "ending"]
+    told("with an IPv4 address at the end", rules_of(found), [{"endpointSelector": {}, "ingress": [{"fromCIDRSet": [{"cidr": "64:ff9b::a00:0/104", "except": ["64:ff9b::a01:0/112"]}]}]}])
 
 
 def what_is_lacking(told):
@@ -233,6 +243,8 @@ REFUSED = {
     "combining toEndpoints and toServices at spec.egress[0]": egress({"toServices": [{"k8sService": {"serviceName": "web"}}], "toEndpoints": [{}]}),
     "combining icmps and toPorts at spec.ingress[0]": ingress({"icmps": [{"fields": []}], "toPorts": PORT}),
     "bad-cidr at spec.ingress[0]": ingress({"fromCIDR": ["10.0.0.0/33"]}),
+    "bad-cidr at spec.egress[0]": egress({"toCIDR": ["1::2::3/64"]}),
+    "except-outside at spec.egress[0]": egress({"toCIDRSet": [{"cidr": "10.0.0.0/8", "except": ["fd00::/8"]}]}),
     "except-outside at spec.ingress[0]": ingress({"fromCIDRSet": [{"cidr": "10.0.0.0/8", "except": ["11.0.0.0/8"]}]}),
     "unknown-entity at spec.ingress[0]": ingress({"fromEntities": ["everybody"]}),
     "too-many-ports at spec.ingress[0]": ingress({"toPorts": ports(*range(1, 42))}),

@@ -53,7 +53,7 @@ def pods_that_come(told):
     told("the account of a manifest's pod", [it for it in judged.read([*TWO, bare]).cluster.coming[0].labels if "account" in it], ["k8s:io.cilium.k8s.policy.serviceaccount=default"])
     left = list(clusters.left_out(state.cluster, come=True))
     told("what is left out", left, ["left out: pods that have finished: 1 (pay/once)", "left out: pods on the host's network, which share the identity of their node: 1 (pay/agent)"])
-    told("what a script leaves out", [it for it in clusters.left_out(state.cluster) if "IPv4" in it], ["left out: pods without an IPv4 address: 1 (pay/waits)"])
+    told("what a script leaves out", [it for it in clusters.left_out(state.cluster) if "without an address" in it], ["left out: pods without an address: 1 (pay/waits)"])
 
 
 def how_ends_that_come_are_written(told):
@@ -152,7 +152,7 @@ def names_of_addresses(told):
     """What names open is a row of its own, and rows of the world end in them."""
     free = policy("pay/free", {"endpointSelector": app("web"), "egress": [{"toFQDNs": [{"matchName": "a.example"}], "toPorts": ports(443)}]})
     shown = lambda rows: [(row["to"], row["before"], row["after"], row.get("names")) for row in rows if any("cidr" in it or "name" in it for it in row["to"])]
-    world = [{"cidr": "0.0.0.0/0", "except": []}]
+    world = [{"cidr": "0.0.0.0/0", "except": []}, {"cidr": "::/0", "except": []}]
     rows = judged.rows_of(judged.changed(TWO, [free]))
     told("where all was open", sorted(map(str, shown(rows))), sorted(map(str, [
         (world, "allowed", "denied-by-default", ["a.example"]),

@@ -3,8 +3,6 @@ from __future__ import annotations
 
 from typing import Callable, Iterable, Optional, Sequence
 
-from lib import regions
-
 from .connections import Stretch, open_stretches, stretches, wanted
 from .core import Core
 from .ends import End, Outside, Universe
@@ -122,6 +120,6 @@ class About:
     def names_beside(self, source: End, target: End, it: Stretch) -> tuple[str, ...]:
         """The names whose addresses are reached beside the world, where a connection is with the world."""
         halves = self.asked.halves
-        if not halves.beside.has_names or not any(isinstance(end, Outside) and end.kind == "region" and end.value == regions.WORLD for end in (source, target)):
+        if not halves.beside.has_names or not any(isinstance(end, Outside) and end.is_world for end in (source, target)):
             return ()
         return halves.beside.names_at((one[:3] for one in wanted(source, target, self.phase)), it.protocol, it.low)

@@ -7,7 +7,7 @@ from lib import ports as port_sets
 
 from .ends import ENTITIES, End, Group, Outside
 from .naming import ANY_OTHER, outer, workload_of
-from .rows import Line, Ports, Told, alike, written_ports
+from .rows import Line, Ports, Told, alike, with_one_world, written_ports
 
 # The pods of an end that stand under a name; of what is no pod, one that is none.
 Members = dict[str, frozenset]
@@ -49,7 +49,7 @@ def coarse(lines: list[Line], by: str, sources: Iterable[Group], targets: Iterab
     known: dict[End, Members] = {}
     between: dict[tuple[str, str], dict[tuple[End, End], list]] = {}
     doubts: dict[tuple[str, str], dict[str, None]] = {}
-    for line in lines:
+    for line in with_one_world(lines):
         for source in line.froms:
             for target in line.tos:
                 for end in (source, target):

@@ -11,7 +11,6 @@ from __future__ import annotations
 
 from typing import Callable, Iterable, NamedTuple, Optional
 
-from lib import regions
 from lib.reading import Bad
 
 from .connections import Wanted, pairs_with, profiles, wanted
@@ -247,6 +246,6 @@ class Diff:
     def names_beside(self, it: Stretch) -> tuple[str, ...]:
         """The names whose addresses are reached beside the world, where the connection is with the world."""
         sides = [half[0][3] for half in it.halves] if self.beside.has_names else []
-        if not any(isinstance(side, Outside) and side.kind == "region" and side.value == regions.WORLD for side in sides):
+        if not any(isinstance(side, Outside) and side.is_world for side in sides):
             return ()
         return self.beside.names_at((one[:3] for half in it.halves for one in half[:2]), it.protocol, it.low)

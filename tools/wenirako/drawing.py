@@ -8,7 +8,7 @@ from .core import ALLOWED
 from .ends import ENTITIES, End, Outside
 from .naming import outer, workload_of
 from .report import Report
-from .rows import Line, written_ports
+from .rows import Line, with_one_world, written_ports
 
 COLOURS = {"open": "#1f6feb", "opens": "#1a7f37", "shuts": "#cf222e", "unsure": "#6e7781"}
 PORTS_SHOWN = 60
@@ -32,7 +32,7 @@ def places_of(end: End) -> list[tuple[str, str]]:
 def edges(report: Report) -> dict[tuple, list]:
     """The ports of each arrow: by what its connections do and whether that is marked, from which workload and to which."""
     found: dict[tuple, list] = {}
-    for line in report.lines or []:
+    for line in with_one_world(report.lines or []):
         does = what(line, report.question == "diff"), bool(line.told.unsure)
         sources, targets = (sorted({it for end in ends for it in places_of(end)}) for ends in (line.froms, line.tos))
         for source in sources:

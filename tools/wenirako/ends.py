@@ -4,14 +4,15 @@ from __future__ import annotations
 import ipaddress
 from typing import Iterable, NamedTuple, Optional, Sequence, Union
 
-from lib import regions
+from lib import addresses, regions
+from lib.addresses import Address, Network
 from lib.rewriting import Unsure
 
 from .selecting import Half
 
 ENTITIES = {1: "host", 6: "remote-node", 7: "kube-apiserver", 8: "ingress", 4: "health", 5: "init", 3: "unmanaged"}
 # Addresses that stand for sets of labels whose pods have none of their own are taken from here.
-SPARE = int(ipaddress.ip_address("255.255.0.0"))
+SPARE = ipaddress.IPv4Address("255.255.0.0")
 
 
 class LabelSet(NamedTuple):
@@ -38,13 +39,18 @@ class Group:
 
 class Outside(NamedTuple):
     """What isn't a pod: an entity by its number, one address, the region of a prefix without those of `prefixes` in it, or
-    the unknown addresses of a name, which lie in the world's region among these prefixes."""
+    the unknown addresses of a name, which lie in the region of a family's world among these prefixes.
+
+    Where the worlds of both families are told as one they are an end of the kind `worlds`, and so is a name without a world.
+    """
 
     kind: str
     value: object
     prefixes: frozenset
+    # The world of a name's addresses.
+    world: Optional[Network] = None
 
-    def remote(self, taken: set[int]) -> Optional[tuple]:
+    def remote(self, taken: set[Address]) -> Optional[tuple]:
         """How a question names it, or None where no address is left of it but those that are taken."""
         if self.kind == "entity":
             return "identity", self.value
@@ -54,8 +60,13 @@ class Outside(NamedTuple):
         return None if address is None else ("address", address)
 
     @property
-    def region(self) -> ipaddress.IPv4Network:
-        return regions.WORLD if self.kind == "name" else self.value
+    def region(self) -> Network:
+        return self.world if self.kind == "name" else self.value  # type: ignore[return-value]
+
+    @property
+    def is_world(self) -> bool:
+        """Whether it is the region of a family's world."""
+        return self.kind == "region" and addresses.is_world(self.region)
 
 
 End = Union[Group, Outside]
@@ -69,7 +80,7 @@ class Universe:
         self.states, self.node = states, node
         self.sets: list[LabelSet] = []
         self.numbers: dict[tuple, int] = {}
-        self.taken = {number_of(it) for state in states for it in addresses(state)}
+        self.taken = {ipaddress.ip_address(it) for state in states for it in addresses_of(state)}
         self.groups: list[Group] = []
         # Pods that one of two states lacks, and whose workload gives no other pod in their place: by the state's number.
         self.alone: tuple[list, list] = ([], [])
@@ -79,7 +90,7 @@ class Universe:
         for pair in pairs:
             for pod in filter(None, pair):
                 self.add(pod, used)
-        self.taken |= set(map(number_of, used))
+        self.taken |= set(map(ipaddress.ip_address, used))
         self.group(pairs)
         self.of_set: tuple[dict, dict] = ({}, {})
         for it in self.groups:
@@ -91,7 +102,7 @@ class Universe:
         if pod.labels in self.numbers:
             return
         at = self.numbers[pod.labels] = len(self.sets)
-        address = pod.address if pod.address and pod.address not in used else str(ipaddress.ip_address(SPARE + at))
+        address = pod.address if pod.address and pod.address not in used else str(SPARE + at)
         used.add(address)
         self.sets.append(LabelSet(pod.labels, pod.namespace, address))
 
@@ -99,8 +110,8 @@ class Universe:
         """The number of a set of labels that no pod of the states has."""
         if labels not in self.numbers:
             at = self.numbers[labels] = len(self.sets)
-            self.sets.append(LabelSet(labels, namespace, str(ipaddress.ip_address(SPARE + at))))
-            self.taken.add(number_of(self.sets[at].address))
+            self.sets.append(LabelSet(labels, namespace, str(SPARE + at)))
+            self.taken.add(SPARE + at)
         return self.numbers[labels]
 
     def mistrust(self, policies: Iterable[tuple]) -> None:
@@ -123,38 +134,41 @@ class Universe:
 
     def outside(self, halves: Iterable[Half]) -> list[Outside]:
         """What isn't a pod at the other side of halves, as far as their entries tell it apart."""
-        return [*map(entity, ENTITIES), *inside(halves, regions.WORLD)]
+        return [*map(entity, ENTITIES), *inside(halves, *addresses.WORLDS)]
 
 
-def number_of(address: str) -> int:
-    return int(ipaddress.IPv4Address(address))
-
-
-def first_free(whole: ipaddress.IPv4Network, holes: Sequence[ipaddress.IPv4Network], taken: set[int]) -> Optional[str]:
+def first_free(whole: Network, holes: Sequence[Network], taken: set[Address]) -> Optional[str]:
     """The first address of a prefix that lies in no hole of it and isn't taken, or None."""
-    at, last = int(whole.network_address), int(whole.broadcast_address)
+    at, last, make = int(whole.network_address), int(whole.broadcast_address), type(whole.network_address)
     ends = sorted((int(it.network_address), int(it.broadcast_address)) for it in holes)
     while at <= last:
         behind = next((high for low, high in ends if low <= at <= high), None)
-        if behind is None and at not in taken:
-            return str(ipaddress.IPv4Address(at))
+        if behind is None and make(at) not in taken:
+            return addresses.written(make(at))
         at = (behind if behind is not None else at) + 1
     return None
+
+
+def of_both(end: End) -> Optional[Outside]:
+    """What stands for an end with that of the other family, where it is a world or the addresses of a name; or None."""
+    if isinstance(end, Outside) and end.is_world:
+        return Outside("worlds", None, end.prefixes)
+    return end._replace(world=None) if isinstance(end, Outside) and end.kind == "name" else None
 
 
 def entity(number: int) -> Outside:
     return Outside("entity", number, frozenset())
 
 
-def inside(halves: Iterable[Half], whole: ipaddress.IPv4Network) -> list[Outside]:
-    """The regions of a prefix, as far as the entries of halves tell them apart."""
-    prefixes = frozenset({*regions.named(entry for it in halves for entry in it.entries()), whole})
-    return [Outside("region", it, prefixes) for it in sorted(prefixes) if it.subnet_of(whole)]
+def inside(halves: Iterable[Half], *wholes: Network) -> list[Outside]:
+    """The regions of prefixes, as far as the entries of halves tell them apart."""
+    prefixes = frozenset({*regions.named(entry for it in halves for entry in it.entries()), *wholes})
+    return [Outside("region", it, prefixes) for it in sorted(prefixes, key=addresses.order) if any(addresses.lies_in(it, whole) for whole in wholes)]
 
 
-def addresses(state) -> Iterable[str]:
+def addresses_of(state) -> Iterable[str]:
     """The addresses that are inside a cluster: of pods, nodes and Services."""
-    yield from (it.address for it in state.ends if it.address)
+    yield from (it for pod in state.ends for it in pod.addresses)
     for listed in ("nodes", "services", "balancers", "api_addresses"):
         yield from getattr(state.cluster, listed)
 

@@ -8,12 +8,13 @@ from __future__ import annotations
 import json
 from typing import Iterable, NamedTuple, Optional
 
-from lib.reading import IPV4, Bad
+from lib.addresses import address as address_of
+from lib.reading import Bad
 
 from .ends import ENTITIES
 
 RESERVED = {f"reserved:{name}": number for number, name in ENTITIES.items()}
-WORLDS = ("reserved:world", "reserved:world-ipv4")
+WORLDS = ("reserved:world", "reserved:world-ipv4", "reserved:world-ipv6")
 
 
 class FlowEnd(NamedTuple):
@@ -99,8 +100,6 @@ def why_left_out(found: dict) -> Optional[str]:
         return "flows of layer 7"
     if not any(it in layer for it in ("TCP", "UDP", "SCTP")):
         return "flows that aren't of TCP, UDP or SCTP"
-    if ":" in str((found.get("IP") or {}).get("destination", "")):
-        return "flows of IPv6"
     return None
 
 
@@ -121,6 +120,7 @@ def end_of(value: object, address: str, place: str) -> FlowEnd:
     if not isinstance(labels, list) or not all(isinstance(it, str) for it in labels):
         raise Bad(f"{place}: labels is no list of texts")
     namespace, pod = (str(value.get(it) or "") for it in ("namespace", "pod_name"))
-    if not labels and not pod and not IPV4.fullmatch(address):
+    address = address_of(address)
+    if not labels and not pod and not address:
         raise Bad(f"{place} has neither labels nor a pod's name nor an address")
     return FlowEnd(f"{namespace}/{pod}" if pod else "", namespace, tuple(labels), address)

@@ -10,7 +10,7 @@ from __future__ import annotations
 
 from typing import Callable, Iterable, NamedTuple, Optional, Sequence, TypeVar, Union
 
-from lib import ports, regions
+from lib import ports
 from lib.label_index import LabelIndex
 
 from . import mentions
@@ -147,7 +147,7 @@ class Halves:
         """What the verdicts of a half depend on."""
         half = self.half(phase, at, direction)
         names = self.beside.names(phase, at, direction) if isinstance(side, Outside) and side.kind in ("name", "region") else []
-        # (the addresses of a name lie in the world's region, and are judged otherwise)
+        # (the addresses of a name lie in a world's region, and are judged otherwise)
         of_names = (side.kind, side.value, *((it.place, it.names) for it in names)) if names else ()
         return half, self.alike(half, side), of_names
 
@@ -160,7 +160,7 @@ class Halves:
             return found
         if side.kind == "name":
             return named(found, [it for it in entries if side.value in it.names])
-        return parted(found, entries) if side.kind == "region" and side.value == regions.WORLD else found
+        return parted(found, entries) if side.is_world else found
 
     def plain(self, asked: tuple, segment: Segment) -> Plain:
         """A half's verdict as far as doubts about it ask."""
@@ -270,9 +270,9 @@ class Halves:
             listed = inside(halves, within) if within is not None else self.universe.outside(halves)
             self.kept[key] = [it for it in listed if self.remote(it) is not None]
         found = self.kept[key]
-        world = next((it for it in found if it.kind == "region" and it.value == regions.WORLD), None)
-        names = self.beside.listed_names(asked) if world is not None else []
-        return [*found, *(world._replace(kind="name", value=name) for name in names)]
+        worlds = [it for it in found if it.is_world]
+        names = self.beside.listed_names(asked) if worlds else []
+        return [*found, *(it._replace(kind="name", value=name, world=it.region) for name in names for it in worlds)]
 
 
 def changing(before: Sequence, after: Sequence) -> list[str]:

@@ -5,8 +5,9 @@ Rows are worked out from what policyd says of the halves that may change. What o
 """
 from __future__ import annotations
 
-import ipaddress
 from typing import Iterable, NamedTuple, Optional, Sequence
+
+from lib.addresses import Network, lies_in, prefix
 
 from .connections import pairs_with
 from .core import ALLOWED, NoAnswer
@@ -80,14 +81,14 @@ class Held:
         listed = self.halves.outer(*((phase, half.at(phase), direction) for phase in (0, 1)))
         if key[0] == "reserved":
             return next((it for it in listed if self.places.of(it) == key), None)
-        return around(ipaddress.IPv4Network(key[1]), listed)
+        return around(prefix(key[1]), listed)
 
 
-def around(region: ipaddress.IPv4Network, listed: Iterable[Outside]) -> Optional[Outside]:
+def around(region: Network, listed: Iterable[Outside]) -> Optional[Outside]:
     """The nearest region around one, where it is listed: None where no packet is of it."""
     found = {it.value: it for it in listed if it.kind == "region"}
     prefixes = frozenset().union(*(it.prefixes for it in found.values()))
-    nearest = max((it for it in prefixes if region.subnet_of(it)), key=lambda it: it.prefixlen, default=None)
+    nearest = max((it for it in prefixes if lies_in(region, it)), key=lambda it: it.prefixlen, default=None)
     return found.get(nearest)
 
 

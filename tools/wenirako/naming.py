@@ -3,7 +3,7 @@ from __future__ import annotations
 
 from typing import Any, Iterable
 
-from lib import regions
+from lib import addresses, regions
 from lib.sides import ANY_OTHER
 
 from .ends import ENTITIES, End, Group, Outside
@@ -90,20 +90,25 @@ def outer(ends: Iterable[End]) -> list[str]:
     ends = list(ends)
     entities = {it.value for it in ends if isinstance(it, Outside) and it.kind == "entity"}
     listed = ", ".join(name for number, name in ENTITIES.items() if number in entities)
-    addresses = sorted(str(it.value) for it in ends if isinstance(it, Outside) and it.kind == "address")
-    names = ", ".join(of_names(ends))
-    return [*addresses, *regions.written(of_regions(ends)), *([listed] if listed else []), *([f"names: {names}"] if names else [])]
+    single = sorted(str(it.value) for it in ends if isinstance(it, Outside) and it.kind == "address")
+    names = ", ".join(f"{name} ({family})" if family else name for name, family in of_names(ends))
+    return [*single, *regions.written(of_regions(ends)), *([listed] if listed else []), *([f"names: {names}"] if names else [])]
 
 
-def of_names(ends: Iterable[End]) -> list[str]:
-    """The names whose unknown addresses are an end."""
-    return sorted(it.value for it in ends if isinstance(it, Outside) and it.kind == "name")
+def of_names(ends: Iterable[End]) -> list[tuple[str, str]]:
+    """The names whose unknown addresses are an end, each with their family, which is empty where both are meant."""
+    found: dict[str, set] = {}
+    for it in ends:
+        if isinstance(it, Outside) and it.kind == "name":
+            found.setdefault(str(it.value), set()).update(one.version for one in ([it.world] if it.world else addresses.WORLDS))
+    return sorted((name, "" if len(versions) == len(addresses.WORLDS) else f"IPv{min(versions)}") for name, versions in found.items())
 
 
 def of_regions(ends: Iterable[End]) -> list[tuple]:
     """The regions, joined, as pairs of a prefix and its exceptions."""
     by_prefixes: dict[frozenset, set] = {}
     for it in ends:
-        if isinstance(it, Outside) and it.kind == "region":
-            by_prefixes.setdefault(it.prefixes, set()).add(it.value)
-    return sorted(pair for prefixes, values in by_prefixes.items() for pair in regions.joined(values, prefixes))
+        if isinstance(it, Outside) and it.kind in ("region", "worlds"):
+            by_prefixes.setdefault(it.prefixes, set()).update([it.region] if it.kind == "region" else addresses.WORLDS)
+    pairs = [pair for prefixes, values in by_prefixes.items() for pair in regions.joined(values, prefixes)]
+    return sorted(pairs, key=lambda it: (addresses.order(it[0]), [*map(addresses.order, it[1])]))

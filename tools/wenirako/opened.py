@@ -5,11 +5,10 @@ both halves, so what only one half says is asked of policyd, as all is where the
 """
 from __future__ import annotations
 
-import ipaddress
 import json
 from typing import Callable, Iterable, Mapping, Optional, Sequence
 
-from lib import regions
+from lib import addresses, regions
 from lib.reading import line_of
 
 from . import children
@@ -114,8 +113,8 @@ class Places:
         kind, value = self.halves.remote(end) or ("", "")
         if kind == "identity":
             return "reserved", ENTITIES[value]
-        address = ipaddress.IPv4Network(value)
-        return "region", str(max((it for it in self.held if address.subnet_of(it)), key=lambda it: it.prefixlen))
+        address = addresses.prefix(value)
+        return "region", addresses.written(max((it for it in self.held if addresses.lies_in(address, it)), key=lambda it: it.prefixlen))
 
 
 def name_of(at: Optional[int]) -> str:

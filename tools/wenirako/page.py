@@ -7,7 +7,7 @@ from typing import Iterable
 
 from .drawing import name_of, places_of, what
 from .report import Report
-from .rows import Line, written_ports
+from .rows import Line, with_one_world, written_ports
 
 TEMPLATE = pathlib.Path(__file__).resolve().parent / "page.html"
 DATA, TITLE = "/*DATA*/", "<!--TITLE-->"
@@ -28,7 +28,7 @@ def escaped(text: str) -> str:
 def data(report: Report) -> dict:
     """What the page shows: its ends with their namespaces, and lines that name them by their numbers."""
     ends: dict[tuple[str, str], int] = {}
-    lines = [line_of(it, report, ends) for it in report.lines or []]
+    lines = [line_of(it, report, ends) for it in with_one_world(report.lines or [])]
     listed = [{"name": name_of(it), "namespace": it[0]} for it in ends]
     return {"question": report.question, "summary": report.summary, "ends": listed, "lines": lines, "notes": report.notes}
 

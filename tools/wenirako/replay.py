@@ -124,6 +124,7 @@ class Ends:
         self.asked, self.universe = asked, asked.universe
         self.group_of = {pod.name: it for it in asked.universe.groups for pod in it.pods}
         self.by_labels = {asked.universe.sets[it.at(phase)].labels: it for it in asked.universe.groups for phase in (0, 1) if it.at(phase) is not None}
+        self.by_address = {address: it for it in asked.universe.groups for pod in it.pods for address in pod.addresses}
         self.gone: dict[tuple, Group] = {}
 
     def of(self, end: FlowEnd) -> End:
@@ -134,7 +135,8 @@ class Ends:
         labels = tuple(sorted((it for it in end.labels if it.startswith("k8s:")), key=lambda it: it.partition("=")[0]))
         if labels and not end.is_world:
             return self.by_set(labels, end)
-        return Outside("address", end.address, frozenset())
+        of_pod = None if end.labels else self.by_address.get(end.address)
+        return of_pod or Outside("address", end.address, frozenset())
 
     def by_set(self, labels: tuple, end: FlowEnd) -> Group:
         """The group of pods with the labels, or one that stands for a pod that is gone."""

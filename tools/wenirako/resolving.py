@@ -1,15 +1,15 @@
 """Names of ends and of ports, as people write them.
 
 An end is `NAMESPACE/POD`, `NAMESPACE/WORKLOAD`, `NAMESPACE/*`, `NAMESPACE/KEY=VALUE`, `*` for every pod, a workload's name
-in whatever namespace, an entity such as `host`, `world`, an IPv4 address or a prefix.
+in whatever namespace, an entity such as `host`, `world`, `world-ipv4` or `world-ipv6`, an address or a prefix.
 """
 from __future__ import annotations
 
-import ipaddress
 import re
 from typing import Callable, Iterable, NamedTuple, Optional, Union
 
-from lib import ports, regions
+from lib import ports
+from lib.addresses import WORLDS, Network, is_one, parsed, prefix, written
 from lib.reading import Bad
 
 from .ends import ENTITIES, End, Group, Outside, Universe, entity
@@ -19,7 +19,9 @@ from .selecting import EGRESS, INGRESS
 
 NUMBERS = {name: number for number, name in ENTITIES.items()}
 # What isn't a pod, named: an entity, an address, or a prefix whose regions depend on the half at the other side.
-Outer = Union[Outside, ipaddress.IPv4Network]
+Outer = Union[Outside, Network]
+# The worlds by name.
+NAMED_WORLDS = {"world": [*WORLDS], **{f"world-ipv{it.version}": [it] for it in WORLDS}}
 
 
 class Named(NamedTuple):
@@ -39,15 +41,15 @@ class Named(NamedTuple):
 
 def everything(universe: Universe) -> Named:
     """Every end that there is."""
-    return Named("everything", universe.groups, [*map(entity, ENTITIES), regions.WORLD])
+    return Named("everything", universe.groups, [*map(entity, ENTITIES), *WORLDS])
 
 
 def named(universe: Universe, text: str, place: str) -> Named:
     """The ends that a text names; Bad where it names nothing."""
     if text in NUMBERS:
         return Named(text, [], [entity(NUMBERS[text])])
-    if text == "world":
-        return Named(text, [], [regions.WORLD])
+    if text in NAMED_WORLDS:
+        return Named(text, [], [*NAMED_WORLDS[text]])
     network = network_of(text)
     if network is not None:
         return of_addresses(universe, text, network, place)
@@ -68,19 +70,18 @@ def of_the_host(universe: Universe, text: str) -> str:
     return f"is on the host's network, so it stands with its node: name it `host` for the pods of {some(nodes, NAMED_MOST)}, and {' or '.join(f'`{it}`' for it in others)} for those of other nodes"
 
 
-def network_of(text: str) -> Optional[ipaddress.IPv4Network]:
-    try:
-        return ipaddress.IPv4Network(text) if re.fullmatch(r"[0-9./]+", text) else None
-    except ValueError:
-        return None
+def network_of(text: str) -> Optional[Network]:
+    """The prefix of a text that has no host bits."""
+    found = prefix(text)
+    return found if found is not None and found.network_address == parsed(text.partition("/")[0]) else None
 
 
-def of_addresses(universe: Universe, text: str, network: ipaddress.IPv4Network, place: str) -> Named:
+def of_addresses(universe: Universe, text: str, network: Network, place: str) -> Named:
     """A prefix, or an address, which may be a pod's or a node's."""
-    if network.prefixlen < 32:
+    if not is_one(network):
         return Named(text, [], [network])
-    address = str(network.network_address)
-    groups = restricted(universe.groups, lambda pod: pod.address == address)
+    address = written(network.network_address)
+    groups = restricted(universe.groups, lambda pod: address in pod.addresses)
     if groups:
         return Named(text, groups, [])
     cluster = universe.states[-1].cluster

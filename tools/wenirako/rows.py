@@ -1,12 +1,14 @@
 """Connections that are told alike, as few lines as may be."""
 from __future__ import annotations
 
+from collections import Counter
 from typing import Iterable, NamedTuple
 
 from lib import ports
+from lib.addresses import prefix, written
 
 from .core import ALLOWED
-from .ends import ENTITIES, End, Group, Outside
+from .ends import ENTITIES, End, Group, Outside, of_both
 from .naming import Names, of_names, of_regions
 
 # Protocols that have the same ranges of ports, with these.
@@ -68,6 +70,15 @@ class Rows:
         return sorted(made, key=lambda it: (names.side(it.tos, it.froms), names.side(it.froms, it.tos), it.ports, it.told))
 
 
+def with_one_world(lines: Iterable[Line]) -> list[Line]:
+    """Lines in which both families' worlds are one end, where no line has that of one family alone; and so with names."""
+    lines = list(lines)
+    counts = [Counter(filter(None, map(of_both, side))) for line in lines for side in (line.froms, line.tos)]
+    apart = {it for each in counts for it, count in each.items() if count == 1}
+    joint = lambda side: frozenset(it if both is None or both in apart else both for it in side for both in [of_both(it)])
+    return [it._replace(froms=joint(it.froms), tos=joint(it.tos)) for it in lines]
+
+
 def alike(stretches: dict[str, list]) -> Ports:
     """Protocols with the stretches that they have; those that have the same stand together."""
     found: dict[tuple, list[str]] = {}
@@ -93,8 +104,8 @@ def listed(ends: Iterable[End]) -> list[dict]:
     all_pods = [pod for it in ends if isinstance(it, Group) for pod in it.pods]
     pods = sorted(it.name for it in all_pods if not it.stands_for)
     others = sorted((it.name, it.stands_for) for it in all_pods if it.stands_for)
-    addresses = [{"cidr": f"{it.value}/32", "except": []} for it in ends if isinstance(it, Outside) and it.kind == "address"]
-    prefixes = [{"cidr": str(whole), "except": list(map(str, but))} for whole, but in of_regions(ends)]
+    addresses = [{"cidr": written(prefix(str(it.value))), "except": []} for it in ends if isinstance(it, Outside) and it.kind == "address"]
+    prefixes = [{"cidr": written(whole), "except": list(map(written, but))} for whole, but in of_regions(ends)]
     entities = sorted(it.value for it in ends if isinstance(it, Outside) and it.kind == "entity")
-    more = [*addresses, *prefixes, *({"entity": ENTITIES[it]} for it in entities), *({"name": it} for it in of_names(ends))]
+    more = [*addresses, *prefixes, *({"entity": ENTITIES[it]} for it in entities), *({"name": name, **({"family": family} if family else {})} for name, family in of_names(ends))]
     return [*({"pod": it} for it in pods), *({"pods": name, "stands_for": kind} for name, kind in others), *more]

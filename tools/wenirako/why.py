@@ -1,8 +1,9 @@
 """`why`: whether a packet passes, and what allows or denies each half of its connection."""
 from __future__ import annotations
 
-from .asked import Asked
-from .ends import End
+from .asked import About, Asked
+from .connections import Stretch
+from .ends import End, of_both
 from .report import Report
 from .resolving import Named, named, one_port, pairs
 from .rows import listed
@@ -27,13 +28,15 @@ def told(asked: Asked, ends: list[Named], ports, phase: int) -> Report:
     about = asked.about(listed_pairs, ports, phase)
     before = asked.about(listed_pairs, ports, 0) if phase else about
     asked.halves.explain((segment for pair in listed_pairs for it in about.stretches(*pair) for _, segment in it.halves), "asking for reasons")
-    seen: dict[tuple, list[tuple[End, End]]] = {}
+    seen: dict[tuple, list[tuple[Stretch, tuple[End, End]]]] = {}
     for pair in listed_pairs:
         for it in about.stretches(*pair):
             was = next(iter(before.stretches(*pair)), it).word if phase else it.word
-            seen.setdefault((it, was, about.unsure(*pair, it)), []).append(pair)
+            unsure = about.unsure(*pair, it)
+            seen.setdefault((told_as(asked, about, pair, it), was, unsure), []).append((it, pair))
     words, doubts = set(), [name for *_, unsure in seen for name in unsure]
-    for (it, was, unsure), alike in seen.items():
+    for (_, was, unsure), found in seen.items():
+        it, alike = found[0][0], [pair for _, pair in found]
         froms, tos = (frozenset(pair[at] for pair in alike) for at in (0, 1))
         halves = {direction: (segment, asked.why(asked.halves.half_of(segment), segment)) for direction, segment in it.halves}
         words.add(it.word)
@@ -46,6 +49,15 @@ def told(asked: Asked, ends: list[Named], ports, phase: int) -> Report:
         )
     status = UNSURE if doubts else NOTHING if words == {"allowed"} else TELLS
     return Report("why", summary(ends, ports, words), HEADS, cells, rows, asked.notes(), status)
+
+
+def told_as(asked: Asked, about: About, pair: tuple[End, End], it: Stretch) -> tuple:
+    """What tells a stretch of a connection from others: with the world of one family, its answer; else what was asked."""
+    both = [*map(of_both, pair)]
+    if not any(both):
+        return (it,)
+    halves = tuple((direction, segment.word, asked.why(asked.halves.half_of(segment), segment)) for direction, segment in it.halves)
+    return it.protocol, it.low, halves, *(one or kind for one, kind in zip(both, about.kind(*pair)))
 
 
 def of_whom(direction: str, written: list[str]) -> str:

@@ -5,8 +5,9 @@ import dataclasses
 import typing
 
 from .. import ports
+from ..addresses import lies_in, prefix
 from ..policies import requirements
-from ..unread import ENTITIES, SECTIONS, prefix
+from ..unread import ENTITIES, SECTIONS
 from .ground import Ground
 
 if typing.TYPE_CHECKING:
@@ -14,7 +15,8 @@ if typing.TYPE_CHECKING:
     from ..rewriting.results import Rewritten
 
 Found = typing.Iterator[typing.Tuple[str, str, str]]
-WORLD = "world"
+# What lies outside the cluster, by the family of its address; `world` is both.
+WORLD, FAMILIES = "world", {4: "world-ipv4", 6: "world-ipv6"}
 
 
 @dataclasses.dataclass
@@ -44,7 +46,7 @@ class Cover:
             return True
         if other.is_every or not (other.sets <= self.sets and other.entities <= self.entities):
             return False
-        return WORLD in self.entities or all(any(holds_prefix(one, it) for one in self.prefixes) for it in other.prefixes)
+        return all(FAMILIES[it[0].version] in self.entities or any(holds_prefix(one, it) for one in self.prefixes) for it in other.prefixes)
 
     def has_ports(self, other: "Cover") -> bool:
         for protocol in ports.PROTOCOLS:
@@ -58,7 +60,7 @@ def holds_prefix(mine: tuple, other: tuple) -> bool:
     """Whether a prefix without its exceptions has all of another one without its own."""
     whole, out = mine
     inner, inner_out = other
-    return inner.subnet_of(whole) and all(not it.overlaps(inner) or any(it.subnet_of(one) for one in inner_out) for it in out)
+    return lies_in(inner, whole) and all(not it.overlaps(inner) or any(lies_in(it, one) for one in inner_out) for it in out)
 
 
 def of_policy(ground: Ground, policy: Policy) -> Found:
@@ -125,12 +127,12 @@ def cover_of(ground: Ground, part: Policy, place: str, order: int, whole: Rewrit
     entities = value.get(f"{word}Entities") or []
     is_nothing = not peers and not value.get("toPorts")
     if "cluster" in entities:
-        sets, entities = frozenset(range(len(ground.sets))), [*entities, *(it for it in ENTITIES if it not in ("all", "world", "cluster"))]
+        sets, entities = frozenset(range(len(ground.sets))), [*entities, *(it for it in ENTITIES if it not in ("all", "cluster", WORLD, *FAMILIES.values()))]
     prefixes = [(prefix(it), ()) for it in value.get(f"{word}CIDR") or []]
     prefixes += [(prefix(it["cidr"]), tuple(map(prefix, it.get("except") or []))) for it in value.get(f"{word}CIDRSet") or []]
     ranges = ports.ranges(value) if value.get("toPorts") else {it: [(0, ports.LAST)] for it in ports.PROTOCOLS}
     is_every = "all" in entities or not peers and not is_nothing
-    named = frozenset(it for it in entities if it not in ("all", "cluster"))
+    named = frozenset(one for it in entities if it not in ("all", "cluster") for one in (FAMILIES.values() if it == WORLD else [it]))
     # (an entry that covers nothing is no slip here: it isolates)
     subject = frozenset() if is_nothing or not (is_every or sets or named or prefixes) else subject
     is_sure = not any(it.isolates for it in whole.unsure)

@@ -4,8 +4,8 @@ from __future__ import annotations
 import ipaddress
 import typing
 
+from ..addresses import Network, is_one, order, prefix, written
 from ..sides import whose
-from ..unread import prefix
 from .ground import Ground, Written
 
 if typing.TYPE_CHECKING:
@@ -19,11 +19,11 @@ WORDS = {"pods": ("pod", "pods"), "nodes": ("node's address", "nodes' addresses"
 
 def of_policy(ground: Ground, policy: Policy) -> Found:
     for entry in ground.entries(policy):
-        for whole, out in sorted(listed(entry), key=lambda it: it[0]):
+        for whole, out in sorted(listed(entry), key=lambda it: order(it[0])):
             text = told_of(ground, whole, out)
             if text:
-                front = policy.name if whole.prefixlen == 32 else entry.place
-                yield "prefix-means-none", entry.place, f"{front}: the prefix {whole} {text}"
+                front = policy.name if is_one(whole) else entry.place
+                yield "prefix-means-none", entry.place, f"{front}: the prefix {written(whole)} {text}"
 
 
 def listed(entry: Written) -> typing.Iterator[tuple]:
@@ -36,10 +36,10 @@ def listed(entry: Written) -> typing.Iterator[tuple]:
             yield prefix(it["cidr"]), [prefix(out) for out in it.get("except") or [] if isinstance(out, str) and prefix(out)]
 
 
-def told_of(ground: Ground, whole: ipaddress.IPv4Network, out: list) -> str:
+def told_of(ground: Ground, whole: Network, out: list) -> str:
     """What is said of a prefix, or nothing."""
-    if whole.prefixlen == 32:
-        found = whose(ground.cluster, str(whole.network_address))
+    if is_one(whole):
+        found = whose(ground.cluster, written(whole.network_address))
         return f"does nothing: it is {found}" if found else ""
     counts = {name: len(inside(addresses, whole, out)) for name, addresses in addresses_of(ground.cluster).items()}
     parts = [f"{count} {WORDS[name][count > 1]}" for name, count in counts.items() if count]
@@ -47,11 +47,11 @@ def told_of(ground: Ground, whole: ipaddress.IPv4Network, out: list) -> str:
 
 
 def addresses_of(cluster: Cluster) -> typing.Dict[str, typing.List[str]]:
-    pods = [it.address for it in cluster.live]
+    pods = [it for pod in cluster.live for it in pod.addresses]
     nodes = {*cluster.nodes, *cluster.api_addresses}
     return {"pods": pods, "nodes": sorted(nodes), "services": sorted(cluster.services), "balancers": sorted(cluster.balancers)}
 
 
-def inside(addresses: typing.Iterable[str], whole: ipaddress.IPv4Network, out: list) -> typing.List[str]:
+def inside(addresses: typing.Iterable[str], whole: Network, out: list) -> typing.List[str]:
     found = [(it, ipaddress.ip_address(it)) for it in addresses]
     return [text for text, it in found if it in whole and not any(it in one for one in out)]

@@ -9,12 +9,12 @@ import typing
 
 from .. import unread
 from ..unread import Unread
-from . import clusters, groups, icmp, ipv6, layer7, named_ports, names, nodes, refusals, requires, services, unknown
+from . import clusters, endings, groups, icmp, layer7, named_ports, names, nodes, refusals, requires, services, unknown
 from .work import Entry, Refused, Work
 
 NOTHING: dict = {}
 # (members that aren't the profile's are gone behind these, so that each later step sees those of the profile alone)
-STEPS = (layer7.rewrite, icmp.rewrite, names.rewrite, nodes.rewrite, requires.rewrite, services.rewrite, groups.rewrite, ipv6.rewrite, clusters.rewrite)
+STEPS = (layer7.rewrite, icmp.rewrite, names.rewrite, nodes.rewrite, requires.rewrite, services.rewrite, groups.rewrite, endings.rewrite, clusters.rewrite)
 
 
 def rewritten(work: Work, number: int, value: dict) -> typing.List[Entry]:

@@ -4,8 +4,8 @@ from __future__ import annotations
 import dataclasses
 import typing
 
+from ..addresses import lies_in, prefix
 from ..policies import holds, requirements
-from ..unread import prefix
 from .work import Entry, Work
 
 
@@ -40,6 +40,6 @@ def with_exceptions(text: str, rest: dict) -> typing.Iterator[dict]:
     whole, listed = prefix(text), rest.get("except") or []
     if whole is None or any(prefix(it) is None for it in listed):
         yield {**rest, "cidr": text}
-    elif not any(whole.subnet_of(prefix(it)) for it in listed):
-        inside = [it for it in listed if prefix(it).subnet_of(whole)]
+    elif not any(lies_in(whole, prefix(it)) for it in listed):
+        inside = [it for it in listed if lies_in(prefix(it), whole)]
         yield {**{key: it for key, it in rest.items() if key != "except"}, "cidr": text, **({"except": inside} if inside else {})}

@@ -1,4 +1,5 @@
-"""A NetworkPolicy as a policy of Cilium's, where it has what policyd doesn't read: a port by name, or a prefix of IPv6.
+"""A NetworkPolicy as a policy of Cilium's, where it has what policyd doesn't read: a port by name, or an address of IPv6
+that ends in one of IPv4.
 
 What it means is in docs/RULES.md, 'NetworkPolicies'; policyd reads all other NetworkPolicies as they are.
 """
@@ -10,7 +11,7 @@ from .. import unread
 from ..pods import OWN_PREFIX
 from ..policies import NAMESPACE_KEY
 from ..unread import Unread, why_unread
-from . import named_ports
+from . import endings, named_ports
 from .refusals import refused_by_cilium
 from .work import Refused, Work, with_expressions
 
@@ -76,6 +77,8 @@ def is_subject_read(work: Work, spec: dict) -> bool:
 
 def entries(work: Work, entry: dict, word: str) -> typing.List[dict]:
     """The entries of Cilium's that one of a NetworkPolicy means: one for its pods, and one for its prefixes."""
+    if isinstance(entry.get(word), list):
+        entry = {**entry, word: [{**it, "ipBlock": endings.block_of(it["ipBlock"])} if isinstance(it, dict) and "ipBlock" in it else it for it in entry[word]]}
     try:
         check(entry, word, work.path)
     except Unread as found:
@@ -95,22 +98,13 @@ def entries(work: Work, entry: dict, word: str) -> typing.List[dict]:
 
 
 def check(entry: dict, word: str, path: str) -> None:
-    """What policyd says of the entry without its ports by name and its prefixes of IPv6."""
+    """What policyd says of the entry without its ports by name."""
     number = lambda it: {**it, "port": 1} if isinstance(it, dict) and named_ports.is_named(it.get("port")) else it
     copy = dict(entry)
-    for name, keep in (("ports", number), (word, without_ipv6)):
-        if isinstance(entry.get(name), list):
-            copy[name] = [keep(it) for it in entry[name]]
+    if isinstance(entry.get("ports"), list):
+        copy["ports"] = [number(it) for it in entry["ports"]]
     unread.walk(copy, f"network {word}", path)
     unread.judge_network_entry(copy.get(word) or [], copy.get("ports") or [], path)
-
-
-def without_ipv6(peer: object) -> object:
-    """A peer with a prefix of IPv4 in the place of one of IPv6."""
-    block = peer.get("ipBlock") if isinstance(peer, dict) else None
-    if not isinstance(block, dict) or ":" not in str(block.get("cidr")):
-        return peer
-    return {**peer, "ipBlock": {**block, "cidr": "0.0.0.0/0", "except": []}}
 
 
 def port_of(value: dict) -> dict:

@@ -7,6 +7,7 @@ from __future__ import annotations
 import dataclasses
 import typing
 
+from ..addresses import prefix, written
 from ..policies import NAMESPACE_KEY, holds, requirements
 from ..unread import Unread
 from .work import Entry, Work
@@ -27,7 +28,7 @@ def rewrite(work: Work, entry: Entry, word: str) -> typing.List[Entry]:
     found = [it for one in listed for it in meant(work, one)]
     pods = [of_pods(it) for it in found if it.selector]
     behind = work.state.cluster.behind
-    addresses = [f"{one}/32" for it in found if not it.selector and not it.is_name for one in behind.get(it.name, [])]
+    addresses = [written(prefix(one)) for it in found if not it.selector and not it.is_name for one in behind.get(it.name, [])]
     for it in found:
         if not it.selector and not it.is_name and it.name not in behind:
             work.lacks(f"the Service {it.name} has no selector, and no EndpointSlice of it is in the state")
