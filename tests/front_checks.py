@@ -548,7 +548,7 @@ def one_formatter_lays_them_out(_, wrong):
 
 
 def random_changes_are_told(_, wrong):
-    for seed in (1, 2):
+    for seed in (3, 7):
         wrong += front_random.play(seed)[0]
 
 

@@ -20,12 +20,15 @@ PACKETS = 300
 NAMESPACES = ["a", "b", "c"]
 PORTS = [53, 80, 443, 5432, 8080]
 ENTITIES = {"host": 1, "unmanaged": 3, "health": 4, "init": 5, "remote-node": 6, "kube-apiserver": 7, "ingress": 8}
+ADDRESSES = ["8.8.8.8", "2606:4700::9", *(f"10.{it}.0.9" for it in range(8, 17)), *(f"2001:db8:{it:x}::9" for it in range(8, 17))]
 
 
 def pod(number):
     app = f"app{number % 8}"
     metadata = {"name": f"{app}-{number}", "namespace": NAMESPACES[number % 8 % 3], "labels": {"app": app, "tier": f"t{number % 2}"}}
-    status = {"phase": "Running", "hostIP": f"192.168.0.{number % 2}", "podIP": f"10.1.0.{number}"}
+    # (every fourth pod has an address of IPv6 alone, and others have one of each family)
+    addresses = [f"fd00::{number:x}"] if number % 4 == 0 else [f"10.1.0.{number}", f"fd00::{number:x}"][: 1 + number % 2]
+    status = {"phase": "Running", "hostIP": f"192.168.0.{number % 2}", "podIP": addresses[0], "podIPs": [{"ip": it} for it in addresses]}
     return {"apiVersion": "v1", "kind": "Pod", "metadata": metadata, "spec": {"nodeName": f"n{number % 2}"}, "status": status}
 
 
@@ -39,9 +42,11 @@ def selector(pick):
 def entry(pick, word):
     found = pick.choice([
         {f"{word}Endpoints": [selector(pick)]},
-        {f"{word}Entities": [pick.choice(["all", "world", "cluster", *ENTITIES])]},
+        {f"{word}Entities": [pick.choice(["all", "world", "world-ipv4", "world-ipv6", "cluster", *ENTITIES])]},
         {f"{word}CIDRSet": [{"cidr": f"10.{pick.randrange(8, 12)}.0.0/{pick.randrange(12, 17)}", "except": []}]},
         {f"{word}CIDRSet": [{"cidr": "10.8.0.0/13", "except": [f"10.{pick.randrange(8, 12)}.0.0/16"]}]},
+        {f"{word}CIDRSet": [{"cidr": f"2001:DB8:{pick.randrange(8, 12):x}::/{pick.randrange(44, 49)}", "except": []}]},
+        {f"{word}CIDRSet": [{"cidr": pick.choice(["::/0", "2001:db8:8::/45"]), "except": [f"2001:db8:{pick.randrange(8, 12):x}::/48"]}]},
         {},
     ])
     if pick.random() < 0.7:
@@ -69,7 +74,7 @@ def policy(number, pick):
 
 def end(pick, names):
     kind = pick.choice(["pod", "pod", "pod", "entity", "address"])
-    return kind, pick.choice({"pod": names, "entity": sorted(ENTITIES), "address": ["8.8.8.8", *(f"10.{it}.0.9" for it in range(8, 17))]}[kind])
+    return kind, pick.choice({"pod": names, "entity": sorted(ENTITIES), "address": ADDRESSES}[kind])
 
 
 def packet(pick, names):
