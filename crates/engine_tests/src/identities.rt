@@ -162,8 +162,24 @@ fn numbers_stand_under_headings(rt: HostRuntime) -> Result<(), Fail> {
     let all = [1, 2, 3, 4, 5, 6, 7, 8, 9, 10, 256, 16_777_217, 16_777_218];
     assert!(rt; have_label(rt.alloc(), &identities, "app", "1", [256].as_slice()));
     assert!(rt; have_label(rt.alloc(), &identities, "world", "", [2].as_slice()));
-    assert!(rt; stand_outside(rt.alloc(), &identities, Family::Ipv4, "world-ipv4", [9, 16_777_217].as_slice()));
-    assert!(rt; stand_outside(rt.alloc(), &identities, Family::Ipv6, "world-ipv6", [10, 16_777_218].as_slice()));
+    assert!(rt;
+        stand_outside(
+            rt.alloc(),
+            &identities,
+            Family::Ipv4,
+            "world-ipv4",
+            [9, 16_777_217].as_slice()
+        )
+    );
+    assert!(rt;
+        stand_outside(
+            rt.alloc(),
+            &identities,
+            Family::Ipv6,
+            "world-ipv6",
+            [10, 16_777_218].as_slice()
+        )
+    );
     assert!(rt; are_under(rt.alloc(), &identities, &HeadingRef::Any, all.as_slice()));
     Ok(())
 }

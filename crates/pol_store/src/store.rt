@@ -145,7 +145,10 @@ impl Store {
     {
         match self.endpoints.at_address(address) {
             Some(endpoint) => endpoint.identity,
-            None => self.numbers.number_at(address).unwrap_or(world_identity_of(address)),
+            None => self
+                .numbers
+                .number_at(address)
+                .unwrap_or(world_identity_of(address)),
         }
     }
 }
