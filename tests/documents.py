@@ -9,6 +9,7 @@ import subprocess
 
 import compare
 import definitions
+import families
 import kinds
 import layers
 import names
@@ -255,6 +256,7 @@ def checks():
     yield from definitions.checks()
     yield from kinds.checks()
     yield from names.checks()
+    yield from families.checks()
     for name in program.crates():
         yield f"readme crates/{name}", lambda name=name: introduced(name)
     yield "example examples/README.md", example
