@@ -1,5 +1,5 @@
 -- All addresses of a region have its number.
-use Rattle.std.proofs.Common.{◌≡◌, ℕ, ◌≤◌, nat_le, Bool, true, false, cond, List, [], ◌∷◌, ◌++◌, map, Option, None, Some, option_map, refl, sym, ap, subst, ◌∙◌, ◌⊎◌, inl, inr, arith}
+use Rattle.std.proofs.Common.{◌≡◌, ℕ, ◌≤◌, nat_le, Bool, true, false, cond, List, [], ◌∷◌, ◌++◌, drop, map, Option, None, Some, option_map, refl, sym, ap, subst, ◌∙◌, ◌⊎◌, inl, inr, arith}
 use Rattle.std.specs.BTreeSet.{insert_key}
 use Rattle.std.specs.List.{Contains}
 use Rattle.std.specs.Option.{option_map_or}
@@ -9,19 +9,25 @@ use Rattle.std.specs.declared.cmp.Ordering.TheVariants.{Less, Equal, Greater}
 use Rattle.std.proofs.lemmas.Bool.{cases_lt, le-leb, leb-true}
 use Rattle.std.proofs.lemmas.List.Elements.{Contains-append_left, Contains-append_right}
 use Rattle.pol_data.proofs.Members.{Contains-cases, Contains-here, Contains-later}
+use Rattle.pol_addr.specs.Address.{IsAddr, family_of}
 use Rattle.pol_addr.specs.declared.address.Addr.{Addr}
 use Rattle.pol_addr.specs.declared.network.Prefix.{Prefix}
 use Rattle.pol_addr.specs.Longest.{longer, longest_of}
 use Rattle.pol_addr.specs.Order.{prefix_cmp}
-use Rattle.pol_addr.specs.Prefix.{contains, covers}
+use Rattle.pol_addr.specs.Prefix.{contains, covers, world}
 use Rattle.pol_addr.specs.declared.family.Family.{Family}
+use Rattle.pol_addr.specs.declared.family.Family.TheVariants.{Ipv4, Ipv6}
 use Rattle.pol_addr.proofs.Containment.{contains-family, contains_through, covers_from_shared}
 use Rattle.pol_addr.proofs.Order.{prefix_cmp-IsAntisymmetric}
+use Rattle.pol_addr.proofs.World.{contains-world}
+use Rattle.pol_model.specs.declared.limits.TheConstants.{RESERVED_LAST}
 use Rattle.pol_model.specs.declared.row.Endpoint.{Endpoint}
 use Rattle.pol_model.specs.declared.row.IdentityRow.{IdentityRow}
 use Rattle.pol_model.specs.Remote.{endpoint_at, longest_at, number_at, numbered_prefixes}
 use Rattle.pol_model.specs.State.{State}
 use Rattle.pol_model.specs.Worlds.{world_around, world_in, world_of}
+use Rattle.pol_model_laws.specs.Keeps.{Keeps, KeepsRows}
+use Rattle.pol_model_laws.proofs.RowLedger.{begins}
 use Rattle.pol_connections.specs.Regions.{held_prefixes, longest_over, prefixes_in_order, region_number, region_of, regions_of}
 
 clash : (b : Bool) → b ≡ true → b ≡ false → ⊥
@@ -164,3 +170,32 @@ held_before s t p there = in_order (held_prefixes s.identities ++ held_prefixes 
 
 pub held_after : (s t : State) (p : Prefix) → Contains (held_prefixes t.identities) p → Contains (regions_of s.identities t.identities) p
 held_after s t p there = in_order (held_prefixes s.identities ++ held_prefixes t.identities) p (Contains-append_right (held_prefixes s.identities) (held_prefixes t.identities) p there)
+
+-- ---- each address has a region
+-- the rows of both worlds are always there
+pub worlds_held : (rows : List IdentityRow) → KeepsRows rows → (family : Family) → Contains (held_prefixes rows) (world family)
+worlds_held rows keeps family = subst (λ (held : List Prefix). Contains held (world family)) (sym (ap held_prefixes (begins keeps))) (by family)
+  where
+    rest : List Prefix
+    rest = held_prefixes (drop RESERVED_LAST rows)
+
+    by : (f : Family) → Contains (world Ipv4 ∷ world Ipv6 ∷ rest) (world f)
+    by Ipv4 = Contains-here (world Ipv4) (world Ipv6 ∷ rest)
+    by Ipv6 = Contains-later (world Ipv4) (world Ipv6 ∷ rest) (world Ipv6) (Contains-here (world Ipv6) rest)
+
+pub each_world : (s : State) (family : Family) → Keeps s → Contains (held_prefixes s.identities) (world family)
+each_world s family keeps = worlds_held s.identities keeps.identities family
+
+abbrev HasRegion : Addr → List Prefix → Type 0
+HasRegion a regions = (region : Prefix) × (region_of a regions ≡ Some region) × (family_of region.addr ≡ family_of a)
+
+has_region : (a : Addr) (regions : List Prefix) → IsAddr a → Contains regions (world (family_of a)) → HasRegion a regions
+has_region a regions small there = by (longest_of a (map (λ p. (p, 0)) regions)) (longest_is a (map (λ p. (p, 0)) regions)) refl
+  where
+    by : (o : Option (Prefix × ℕ)) → IsLongest a (map (λ p. (p, 0)) regions) o → longest_of a (map (λ p. (p, 0)) regions) ≡ o → HasRegion a regions
+    by None none is =
+        absurd (clash (contains (world (family_of a)) a) (contains-world a small) (none (world (family_of a), 0) (mapped (λ p. (p, 0)) regions (world (family_of a)) there)))
+    by (Some best) all is = (best.0, ap (option_map (λ found. found.0)) is, sym (contains-family best.0 a all.0))
+
+pub each_region : (s t : State) (a : Addr) → Keeps s → IsAddr a → HasRegion a (regions_of s.identities t.identities)
+each_region s t a keeps small = has_region a (regions_of s.identities t.identities) small (held_before s t (world (family_of a)) (each_world s (family_of a) keeps))

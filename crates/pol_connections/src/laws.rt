@@ -1,15 +1,18 @@
 //! Laws of the definitions. Each function does nothing: its contract is the law.
 ghost use Rattle.std.specs.Prelude.{◌≡◌, ◌∷◌, ◌++◌, [], codes, filter, map, None, Some, List};
 ghost use Rattle.std.specs.List.{Contains};
+ghost use Rattle.pol_addr.specs.Address.{IsAddr, family_of};
 ghost use Rattle.pol_addr.specs.declared.address.Addr.{Addr};
 ghost use Rattle.pol_addr.specs.declared.address.Addr.TheVariants.{V4, V6};
 ghost use Rattle.pol_addr.specs.declared.network.Prefix.{Prefix as OnePrefix};
+ghost use Rattle.pol_addr.specs.declared.family.Family.{Family as OneFamily};
 ghost use Rattle.pol_addr.specs.declared.family.Family.TheVariants.{Ipv4, Ipv6};
 ghost use Rattle.pol_addr.specs.Prefix.{world};
 ghost use Rattle.pol_mapkey.specs.declared.Word.TheVariants.{Allowed, DeniedByDefault, DeniedByRule};
 ghost use Rattle.pol_model.specs.After.{state_of};
 ghost use Rattle.pol_model.specs.Remote.{endpoint_at, number_at};
 ghost use Rattle.pol_model.specs.State.{State};
+ghost use Rattle.pol_model_laws.specs.Keeps.{Keeps};
 ghost use Rattle.pol_model_laws.specs.WorkedMaps.{ordinary};
 ghost use Rattle.pol_ports.specs.declared.Proto.TheVariants.{Tcp};
 ghost use Rattle.pol_rule.specs.declared.policy.Entity.TheVariants as entity;
@@ -28,6 +31,13 @@ pub fn regions_have_one_number()
         → number_at address s.endpoints s.identities ≡ region_number region s.identities }
     ensures before { (s t : State) (prefix : OnePrefix) → Contains (held_prefixes s.identities) prefix → Contains (regions_of s.identities t.identities) prefix }
     ensures after { (s t : State) (prefix : OnePrefix) → Contains (held_prefixes t.identities) prefix → Contains (regions_of s.identities t.identities) prefix }
+{}
+
+/// 0.0.0.0/0 and ::/0 are regions of each state that keeps what states keep, and so each address has a region, of its own family.
+pub fn each_address_has_a_region()
+    ensures worlds { (s : State) (family : OneFamily) → Keeps s → Contains (held_prefixes s.identities) (world family) }
+    ensures region { (s t : State) (address : Addr) → Keeps s → IsAddr address
+        → (region : OnePrefix) × (region_of address (regions_of s.identities t.identities) ≡ Some region) × (family_of region.addr ≡ family_of address) }
 {}
 
 /// A change that opens both halves on one port alone opens the connection on that port; one that opens a half alone opens none.
