@@ -1,6 +1,6 @@
 """Slips: one case for each, and none where there is no slip."""
 from . import judged
-from .objects import app, behind, deployment, namespace, network, pod, policy, ports, service
+from .objects import app, behind, deployment, dual, namespace, network, pod, policy, ports, service
 from lib import lint
 
 STATE = [
@@ -88,6 +88,14 @@ def prefixes_of_what_is_inside(told):
         ({"toCIDR": ["172.16.0.0/12", "198.51.100.10/32"]}, []),
     ):
         told(entry, [text for kind, text in slips(to(entry)) if kind == "prefix-means-none"], wanted)
+    both = [dual(pod("pay/both", {"app": "both"}, "n1", "10.0.0.9"), "fd00::9"), pod("pay/six", {"app": "six"}, "n1", "fd00:1::6"), service("pay/six", {"app": "six"}, "fd96::a")]
+    for entry, wanted in (
+        ({"toCIDR": ["fd00::/32"]}, ["pay/p#0.egress[0]: the prefix fd00::/32 holds 1 pod, and doesn't mean it"]),
+        ({"toCIDRSet": [{"cidr": "FD00::/8", "except": ["fd00:1::/32"]}]}, ["pay/p#0.egress[0]: the prefix fd00::/8 holds 1 pod, 1 ClusterIP, and doesn't mean them"]),
+        ({"toCIDR": ["fd00::9"]}, ["pay/p: the prefix fd00::9/128 does nothing: it is the address of the pod pay/both; name it by its labels"]),
+        ({"toCIDR": ["2001:db8::/32"]}, []),
+    ):
+        told(entry, [it.text for it in lint.slips(judged.read([*both, to(entry)])) if it.kind == "prefix-means-none"], wanted)
 
 
 def rule(**sections):
@@ -106,6 +114,12 @@ def entries_that_change_nothing(told):
         ("a prefix in one", wide, rule(egress=[CART]), "pay/p#0.egress[0] changes nothing: pay/wide#0.egress[0] allows it already"),
         ("a prefix around one", wide, rule(egress=[{"toCIDR": ["172.0.0.0/8"]}]), None),
         ("of the world", policy("pay/wide", rule(egress=[{"toEntities": ["world"]}])), rule(egress=[CART]), "pay/p#0.egress[0] changes nothing: pay/wide#0.egress[0] allows it already"),
+        ("of the world of its family", policy("pay/wide", rule(egress=[{"toEntities": ["world-ipv4"]}])), rule(egress=[CART]), "pay/p#0.egress[0] changes nothing: pay/wide#0.egress[0] allows it already"),
+        ("of the other world", policy("pay/wide", rule(egress=[{"toEntities": ["world-ipv6"]}])), rule(egress=[CART]), None),
+        ("of both worlds", policy("pay/wide", rule(egress=[{"toEntities": ["world-ipv4", "world-ipv6"]}])), rule(egress=[{"toEntities": ["world"]}]), "pay/p#0.egress[0] changes nothing: pay/wide#0.egress[0] allows it already"),
+        ("of one of both worlds", policy("pay/wide", rule(egress=[{"toEntities": ["world-ipv4"]}])), rule(egress=[{"toEntities": ["world"]}]), None),
+        ("a prefix of the other family", policy("pay/wide", rule(egress=[{"toCIDR": ["0.0.0.0/0"]}])), rule(egress=[{"toCIDR": ["2001:db8::/32"]}]), None),
+        ("a prefix of IPv6 in one", policy("pay/wide", rule(egress=[{"toCIDR": ["2001::/16"]}])), rule(egress=[{"toCIDR": ["2001:db8::/32"]}]), "pay/p#0.egress[0] changes nothing: pay/wide#0.egress[0] allows it already"),
         ("without what an exception has", policy("pay/wide", rule(egress=[{"toCIDRSet": [{"cidr": "172.16.0.0/12", "except": ["172.16.1.0/24"]}]}])), rule(egress=[CART]), None),
         ("that is denied", policy("pay/wide", rule(ingressDeny=[{"fromEntities": ["all"]}])), rule(ingress=[TELLER]), "pay/p#0.ingress[0] changes nothing: pay/wide#0.ingressDeny[0] denies it already"),
         ("a deny beside an allow", wide, rule(ingressDeny=[{**TELLER, "toPorts": ports(8443)}]), None),

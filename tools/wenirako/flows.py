@@ -121,6 +121,6 @@ def end_of(value: object, address: str, place: str) -> FlowEnd:
         raise Bad(f"{place}: labels is no list of texts")
     namespace, pod = (str(value.get(it) or "") for it in ("namespace", "pod_name"))
     address = address_of(address)
-    if not labels and not pod and not address:
+    if not pod and not address and (not labels or any(it in WORLDS for it in labels)):
         raise Bad(f"{place} has neither labels nor a pod's name nor an address")
     return FlowEnd(f"{namespace}/{pod}" if pod else "", namespace, tuple(labels), address)
