@@ -49,10 +49,12 @@ impl Bits for u32 {
 
     ghost family = { Ipv4 };
 
+    #[inline(always)]
     fn family() -> Family {
         Family::Ipv4
     }
 
+    #[inline(always)]
     fn of(addr: Addr) -> u32 {
         match addr {
             Addr::V4(bits) => bits,
@@ -60,10 +62,12 @@ impl Bits for u32 {
         }
     }
 
+    #[inline(always)]
     fn addr(self) -> Addr {
         Addr::V4(self)
     }
 
+    #[inline(always)]
     fn high(self) -> u32 {
         self
     }
@@ -80,10 +84,12 @@ impl Bits for u128 {
 
     ghost family = { Ipv6 };
 
+    #[inline(always)]
     fn family() -> Family {
         Family::Ipv6
     }
 
+    #[inline(always)]
     fn of(addr: Addr) -> u128 {
         match addr {
             Addr::V4(_) => unreachable!(),
@@ -91,10 +97,12 @@ impl Bits for u128 {
         }
     }
 
+    #[inline(always)]
     fn addr(self) -> Addr {
         Addr::V6(self)
     }
 
+    #[inline(always)]
     fn high(self) -> u32 {
         (self >> 96) as u32
     }

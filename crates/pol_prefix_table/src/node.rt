@@ -17,6 +17,7 @@ pub(crate) struct PrefixNode {
 }
 
 /// The link to this key.
+#[inline(always)]
 fn link_of(key: Option<usize>) -> u32
     requires { IfSome key (λ k. k + 1 < 2 ^ 32) }
     ensures { result ≡ link_of key }
@@ -28,6 +29,7 @@ fn link_of(key: Option<usize>) -> u32
 }
 
 /// The key that a link has.
+#[inline(always)]
 fn key_of(link: u32) -> Option<usize>
     ensures key { result ≡ key_of link }
     ensures small { IfSome result (λ k. k + 1 < 2 ^ 32) }
@@ -74,6 +76,7 @@ impl PrefixNode {
     }
 
     /// The node with this key below it on this side.
+    #[inline(always)]
     pub(crate) fn with_child(self, high: bool, key: Option<usize>) -> PrefixNode
         requires small { IfSome key (λ k. k + 1 < 2 ^ 32) }
         ensures { result ≡ with_child self high key }
@@ -95,6 +98,7 @@ impl PrefixNode {
     }
 
     /// The key of the node below on this side.
+    #[inline(always)]
     pub(crate) fn child(&self, high: bool) -> Option<usize>
         ensures key { result ≡ child self.now high }
         ensures small { IfSome result (λ k. k + 1 < 2 ^ 32) }

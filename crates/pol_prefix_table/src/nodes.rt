@@ -63,6 +63,7 @@ impl<B: Bits> Nodes<B> {
     }
 
     /// Whether a node stands under this key.
+    #[inline(always)]
     pub(crate) fn contains(&self, key: usize) -> bool
         ensures { IsTrue result ↔ ContainsKey self.now key }
     {
@@ -73,6 +74,7 @@ impl<B: Bits> Nodes<B> {
     }
 
     /// The node under this key.
+    #[inline(always)]
     pub(crate) fn at(&self, key: usize) -> PrefixNode
         requires { ContainsKey self.now key }
         ensures node { get self.now key ≡ Some result }
@@ -120,6 +122,7 @@ impl<B: Bits> Nodes<B> {
     }
 
     /// Puts another node in the place of the one under this key.
+    #[inline(always)]
     pub(crate) fn set(&mut self, key: usize, node: PrefixNode)
         requires there { ContainsKey self.old key }
         requires family { family_of node.prefix.addr ≡ B.family }

@@ -40,6 +40,7 @@ impl<B: Bits> NodeSlot<B> {
     }
 
     /// The slot of this node.
+    #[inline(always)]
     pub(crate) fn of(node: PrefixNode) -> NodeSlot<B>
         requires family { family_of node.prefix.addr ≡ B.family }
         ensures entry { entry_of B.seen result ≡ Occupied node }
@@ -56,6 +57,7 @@ impl<B: Bits> NodeSlot<B> {
     }
 
     /// The node that is here.
+    #[inline(always)]
     pub(crate) fn node(&self) -> PrefixNode
         requires there { IsSome (node_in B.seen self.now) }
         requires valid { IsValid B.seen self.now }
@@ -92,6 +94,7 @@ impl<B: Bits> NodeSlot<B> {
     }
 
     /// Whether it has a node.
+    #[inline(always)]
     pub(crate) fn is_taken(&self) -> bool
         ensures { result ≡ is_some (node_in B.seen self.now) }
     {

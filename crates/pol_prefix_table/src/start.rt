@@ -34,6 +34,7 @@ impl<B: Bits> Model for Start<B> {
 
 impl<B: Bits> Start<B> {
     /// The start of this walk.
+    #[inline(always)]
     pub(crate) fn of(walk: Reached) -> Start<B>
         requires { family_of walk.to.addr ≡ B.family }
         ensures { result ≡ walk }
@@ -48,6 +49,7 @@ impl<B: Bits> Start<B> {
     }
 
     /// The walk that begins here.
+    #[inline(always)]
     pub(crate) fn reached(&self) -> Reached
         ensures walk { result ≡ self.now }
         ensures family { family_of result.to.addr ≡ B.family }

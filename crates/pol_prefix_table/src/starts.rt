@@ -83,6 +83,7 @@ fn fill<B: Bits>(nodes: &Nodes<B>, starts: &mut Vec<Start<B>>, bits: u8) -> Resu
 }
 
 /// The start once more, where the prefix covers the start's.
+#[inline(always)]
 fn renewed<B: Bits>(nodes: &Nodes<B>, over: &Prefix, start: Reached) -> Reached
     requires trie { IsTrie B.family nodes.now }
     requires rooted { HasRoot B.family (get nodes.now) }
@@ -115,11 +116,13 @@ pub(crate) fn renew<B: Bits>(nodes: &Nodes<B>, starts: &mut Vec<Start<B>>, over:
 }
 
 /// Where the start of an address with these first 32 bits stands among so many.
+#[inline(always)]
 fn place_of(high: u32, starts: usize) -> usize {
     ((starts as u64).wrapping_mul(u64::from(high)) >> 32) as usize
 }
 
 /// Where a walk may begin: at a start whose prefix covers its own, or else at the root.
+#[inline(always)]
 fn from_start<B: Bits>(nodes: &Nodes<B>, start: Reached, to: Prefix) -> Reached
     requires trie { IsTrie B.family nodes.now }
     requires rooted { HasRoot B.family (get nodes.now) }
@@ -141,6 +144,7 @@ fn from_start<B: Bits>(nodes: &Nodes<B>, start: Reached, to: Prefix) -> Reached
 }
 
 /// Where a walk to an address may begin.
+#[inline(always)]
 fn start_of<B: Bits>(nodes: &Nodes<B>, starts: &[Start<B>], bits: B) -> Reached
     requires trie { IsTrie B.family nodes.now }
     requires rooted { HasRoot B.family (get nodes.now) }
@@ -156,6 +160,7 @@ fn start_of<B: Bits>(nodes: &Nodes<B>, starts: &[Start<B>], bits: B) -> Reached
 }
 
 /// The number of the longest node that covers the address.
+#[inline(always)]
 pub(crate) fn longest_over<B: Bits>(nodes: &Nodes<B>, starts: &[Start<B>], bits: B) -> Option<u32>
     requires trie { IsTrie B.family nodes.now }
     requires starts { AreStarts nodes.now starts.now }

@@ -12,6 +12,7 @@ use crate::nodes::Nodes;
 use pol_addr::Prefix;
 
 /// The key of the node below that may cover the target: the one on the target's side.
+#[inline(always)]
 fn toward(node: &PrefixNode, target: &Prefix) -> Option<usize>
     ensures next { result ≡ child_toward node.now target.now }
     ensures valid { IsPrefix target.now }
@@ -24,6 +25,7 @@ fn toward(node: &PrefixNode, target: &Prefix) -> Option<usize>
 }
 
 /// The next node on the way to the target that covers it and is shorter than the limit.
+#[inline(always)]
 pub(crate) fn step<B: Bits>(
     nodes: &Nodes<B>,
     at: usize,
@@ -47,6 +49,7 @@ pub(crate) fn step<B: Bits>(
 }
 
 /// The key of the longest node that covers the target and is shorter.
+#[inline(always)]
 pub(crate) fn parent_of<B: Bits>(nodes: &Nodes<B>, target: &Prefix) -> usize
     requires trie { IsTrie B.family nodes.now }
     requires rooted { HasRoot B.family (get nodes.now) }
@@ -87,6 +90,7 @@ pub(crate) struct Reached {
 }
 
 /// At the root.
+#[inline(always)]
 pub(crate) fn at_root<B: Bits>(nodes: &Nodes<B>, to: Prefix) -> Reached
     requires trie { IsTrie B.family nodes.now }
     requires rooted { HasRoot B.family (get nodes.now) }
@@ -105,6 +109,7 @@ pub(crate) fn at_root<B: Bits>(nodes: &Nodes<B>, to: Prefix) -> Reached
 
 /// On to the longest node that covers the prefix. The walk comes by at most one node of each length: 33 of them, or 129 in the
 /// trie of IPv6.
+#[inline(always)]
 pub(crate) fn to_end<B: Bits>(nodes: &Nodes<B>, from: Reached) -> Reached
     requires trie { IsTrie B.family nodes.now }
     requires reached { HasReached nodes.now from }
