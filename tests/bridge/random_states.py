@@ -32,7 +32,7 @@ def cluster(pick):
         found.append(pod(f"{SPACES[at % 2]}/p{at}", {"app": f"app{at % 4}", "tier": f"t{at % 3}"}, f"n{at % 2 + 1}", f"10.1.0.{at + 1}" if at else "fd00:1::1", listed))
         found[-1] = dual(found[-1], f"fd00:1::{at + 1:x}") if at % 2 else found[-1]
     found += [service("a/apps", {"app": "app0"}, labels={"kind": "apps"}), service("b/apps", {"app": "app1"}, labels={"kind": "apps"})]
-    found += [service("a/outer"), behind("a/outer", "203.0.113.9"), behind("a/outer", "2001:db8::9"), group("partners", "10.9.0.0/16", "fd00::/8", kind="outer"), group("more", "172.16.0.0/12")]
+    found += [service("a/outer"), behind("a/outer", "203.0.113.9"), behind("a/outer", "2001:db8::9"), group("partners", "10.9.0.0/16", "fd00::0.0.0.0/8", kind="outer"), group("more", "172.16.0.0/12")]
     return found
 
 
@@ -66,7 +66,7 @@ def entry(pick, word, denies):
         lambda: {f"{word}CIDR": [prefix(), prefix()]},
         lambda: {f"{word}CIDRSet": [{"cidr": "10.8.0.0/13", "except": ["10.9.0.0/16"]}]},
         lambda: {f"{word}CIDRSet": [{"cidr": pick.choice(["::/0", "fd00::/16"]), "except": ["fd00:9::/32", "fd00:8::0.0.0.1"]}]},
-        lambda: {f"{word}CIDRSet": [pick.choice([{"cidrGroupRef": "partners"}, {"cidrGroupSelector": {"matchLabels": {"kind": "outer"}}}, {"cidrGroupRef": "lost"}])]},
+        lambda: {f"{word}CIDRSet": [pick.choice([{"cidrGroupRef": "partners", "except": ["fd00:9::0.0.0.0/33"]}, {"cidrGroupSelector": {"matchLabels": {"kind": "outer"}}}, {"cidrGroupRef": "lost"}])]},
         lambda: {f"{word}Nodes": [{"matchLabels": {"x": "y"}}]},
         lambda: {"icmps": [{"fields": [{"type": 8}]}]},
         lambda: {},

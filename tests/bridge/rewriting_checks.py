@@ -19,6 +19,7 @@ STATE = [
     behind("shop/outer", "203.0.113.7", "203.0.113.8"),
     service("shop/alias", None, "None", type="ExternalName"),
     group("partners", "198.51.100.0/24", "fd00::/8", "10.0.0.0/8", kind="outer"),
+    group("translated", "198.51.100.0/24", "64:ff9b::10.0.0.0/104", "64:ff9b::b00:0/104"),
 ]
 SAME, PORT = object(), ports(8080)
 HAS = lambda number, name="http", protocol="tcp": {"key": f"k8s:io.wenirako.port.{name}.{protocol}.{number}", "operator": "Exists"}
@@ -100,6 +101,10 @@ LINES = {
     "a group of prefixes": (egress({"toCIDRSet": [{"cidrGroupRef": "partners", "except": ["10.1.0.0/16"]}]}), egress({"toCIDRSet": [{"cidr": "198.51.100.0/24"}, {"cidr": "fd00::/8"}, {"cidr": "10.0.0.0/8", "except": ["10.1.0.0/16"]}]})),
     "a group that an exception has all of, of one family": (ingress({"fromCIDRSet": [{"cidrGroupRef": "partners", "except": ["0.0.0.0/0"]}]}), ingress({"fromCIDRSet": [{"cidr": "fd00::/8"}]})),
     "a group that exceptions have all of": (ingress({"fromCIDRSet": [{"cidrGroupRef": "partners", "except": ["0.0.0.0/0", "fc00::/7"]}]}), ingress({"fromCIDRSet": []})),
+    "a group and exceptions with an IPv4 address at the end": (
+        egress({"toCIDRSet": [{"cidrGroupRef": "translated", "except": ["64:ff9b::10.1.0.0/112", "64:ff9b::11.0.0.0/104"]}]}),
+        egress({"toCIDRSet": [{"cidr": "198.51.100.0/24"}, {"cidr": "64:ff9b::a00:0/104", "except": ["64:ff9b::a01:0/112"]}]}),
+    ),
     "groups of prefixes by labels": (ingress({"fromCIDRSet": [{"cidrGroupSelector": {"matchLabels": {"kind": "outer"}}}]}), ingress({"fromCIDRSet": [{"cidr": "198.51.100.0/24"}, {"cidr": "fd00::/8"}, {"cidr": "10.0.0.0/8"}]})),
     "a group that isn't there": (ingress({"fromCIDRSet": [{"cidrGroupRef": "lost"}], "toPorts": PORT}), ingress({"fromCIDRSet": [], "toPorts": PORT})),
     "nodes": (ingress({"fromNodes": [{"matchLabels": {"zone": "a"}}]}), ingress({"fromEntities": ["host", "remote-node", "kube-apiserver"]})),

@@ -4,7 +4,7 @@ from __future__ import annotations
 import dataclasses
 import typing
 
-from ..addresses import lies_in, prefix
+from ..addresses import Network, lies_in, prefix, without_ending
 from ..policies import holds, requirements
 from .work import Entry, Work
 
@@ -37,9 +37,14 @@ def prefixes(work: Work, item: dict) -> typing.List[dict]:
 
 def with_exceptions(text: str, rest: dict) -> typing.Iterator[dict]:
     """A prefix of a group with those of the exceptions that lie in it, or nothing where one of them has all of it."""
-    whole, listed = prefix(text), rest.get("except") or []
-    if whole is None or any(prefix(it) is None for it in listed):
+    whole, listed = read(text), rest.get("except") or []
+    if whole is None or any(read(it) is None for it in listed):
         yield {**rest, "cidr": text}
-    elif not any(lies_in(whole, prefix(it)) for it in listed):
-        inside = [it for it in listed if lies_in(prefix(it), whole)]
+    elif not any(lies_in(whole, read(it)) for it in listed):
+        inside = [it for it in listed if lies_in(read(it), whole)]
         yield {**{key: it for key, it in rest.items() if key != "except"}, "cidr": text, **({"except": inside} if inside else {})}
+
+
+def read(text: str) -> typing.Optional[Network]:
+    """The prefix of a text, which may end in an IPv4 address: that goes in a later step."""
+    return prefix(without_ending(text))
