@@ -333,6 +333,22 @@ def pods_of_both_families_are_ends(folder, wrong):
     told(wrong, "no text of an address", door.call("list", "--from", "fd00::7::1", *state)[0::2][0], 1)
 
 
+def live_pods_have_their_addresses(folder, wrong):
+    """An address that a finished pod had is that of the pod that has it now; where none has, it is the finished one's."""
+    door = Door(folder)
+    jobs = [pod("shop", name, "n1", address, {"app": name}) for name, address in (("job", "10.0.0.2"), ("other", "10.0.0.7"))]
+    for it in jobs:
+        it["metadata"]["ownerReferences"] = [{"apiVersion": "batch/v1", "kind": "Job", "name": it["metadata"]["name"], "controller": True}]
+        it["status"]["phase"] = "Succeeded"
+    entry = lambda name, port: {"fromEndpoints": [{"matchLabels": {"app": name}}], "toPorts": [{"ports": [{"port": port, "protocol": "TCP"}]}]}
+    shut = policy("shut", {"endpointSelector": {"matchLabels": {"app": "web"}}, "ingress": [entry("cart", "80"), entry("job", "81")]})
+    state = ["--state", door.write("state.json", listed(NAMESPACE, *jobs, *PODS, shut))]
+    told(wrong, "what is open", [it[::2] for it in stripped(door.call("list", "--from", "10.0.0.2", "--to", "shop/web", *state)[1])], [["shop/cart", "TCP 80"]])
+    sent = door.write("flows", "\n".join(flow(([], it), "shop/web", 80) for it in ("10.0.0.2", "10.0.0.7")))
+    status, out, _ = door.call("replay", sent, *state, "--format", "json")
+    told(wrong, "what is dropped", (status, [it["from"] for it in json.loads(out)["rows"]]), (3, [[{"pods": "shop/other", "stands_for": "finished"}]]))
+
+
 # Words.
 
 
@@ -567,7 +583,7 @@ def over_connections(check):
 
 def checks():
     found = (a_change_is_told, forms_agree, what_is_open, connections_are_asked, a_change_is_held, why_is_told, expectations_are_held, flows_are_replayed)
-    found += (two_states_are_compared, slips_are_asked_of_the_bridge, workloads_and_namespaces, names_are_ends, worlds_are_told_apart, names_of_each_family, pods_of_both_families_are_ends, words_agree, bash_completes, kubectl_is_asked)
+    found += (two_states_are_compared, slips_are_asked_of_the_bridge, workloads_and_namespaces, names_are_ends, worlds_are_told_apart, names_of_each_family, pods_of_both_families_are_ends, live_pods_have_their_addresses, words_agree, bash_completes, kubectl_is_asked)
     found += (children_end_too, other_programs_are_not_asked, progress_lives, ports_are_read, unions_and_flat_ranges)
     found += (forms_are_safe, flows_are_read, modules_are_small, one_formatter_lays_them_out, random_changes_are_told)
     asking = (a_change_is_told, forms_agree, what_is_open, expectations_are_held, two_states_are_compared, workloads_and_namespaces, names_are_ends, worlds_are_told_apart, names_of_each_family)

@@ -6,6 +6,7 @@ from typing import Iterable, NamedTuple, Optional, Sequence, Union
 
 from lib import addresses, regions
 from lib.addresses import Address, Network
+from lib.pods import Pod
 from lib.rewriting import Unsure
 
 from .selecting import Half
@@ -131,6 +132,16 @@ class Universe:
             key = (*(it and self.numbers[it.labels] for it in (before, after)), self.node is None or pod.node == self.node)
             found.setdefault(key, []).append(pod)
         self.groups = [Group(before, after, pods, is_local) for (before, after, is_local), pods in found.items()]
+
+    def by_address(self, phase: int) -> dict[str, Pod]:
+        """The pod that has each address: one that is there, of this phase before the other, else what stands for pods that come."""
+        found: dict[str, list] = {}
+        for pod in (pod for it in self.groups for pod in it.pods):
+            for address in pod.addresses:
+                found.setdefault(address, []).append(pod)
+        first, other = (self.states[at].cluster for at in ((-1, 0) if phase else (0, -1)))
+        rank = lambda address, it: (bool(it.stands_for), first.pod_at(address) is not it, other.pod_at(address) is not it)
+        return {address: min(pods, key=lambda it: rank(address, it)) for address, pods in found.items()}
 
     def outside(self, halves: Iterable[Half]) -> list[Outside]:
         """What isn't a pod at the other side of halves, as far as their entries tell it apart."""

@@ -124,7 +124,8 @@ class Ends:
         self.asked, self.universe = asked, asked.universe
         self.group_of = {pod.name: it for it in asked.universe.groups for pod in it.pods}
         self.by_labels = {asked.universe.sets[it.at(phase)].labels: it for it in asked.universe.groups for phase in (0, 1) if it.at(phase) is not None}
-        self.by_address = {address: it for it in asked.universe.groups for pod in it.pods for address in pod.addresses}
+        of_pod = {id(pod): it for it in asked.universe.groups for pod in it.pods}
+        self.by_address = {address: of_pod[id(pod)] for address, pod in asked.universe.by_address(0).items()}
         self.gone: dict[tuple, Group] = {}
 
     def of(self, end: FlowEnd) -> End:

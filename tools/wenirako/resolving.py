@@ -81,7 +81,8 @@ def of_addresses(universe: Universe, text: str, network: Network, place: str) ->
     if not is_one(network):
         return Named(text, [], [network])
     address = written(network.network_address)
-    groups = restricted(universe.groups, lambda pod: address in pod.addresses)
+    owner = universe.by_address(1).get(address)
+    groups = restricted(universe.groups, lambda pod: pod is owner)
     if groups:
         return Named(text, groups, [])
     cluster = universe.states[-1].cluster
