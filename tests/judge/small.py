@@ -2,7 +2,7 @@
 
 Each is a script in short forms and its answers. `E NAME` adds an endpoint, `R NAME` removes it, `I NAME` adds a named
 identity, `D NAME` denies all that comes in to every endpoint, `A NAME` allows it, `V NAME` asks for a verdict on what
-comes in from the world, `T NAME` for its trace, `S` is a sync, `P` ends a phase, and `X` is no JSON. A digit in front is
+comes in from identity 2, `T NAME` for its trace, `S` is a sync, `P` ends a phase, and `X` is no JSON. A digit in front is
 the session.
 """
 import json
