@@ -1,6 +1,6 @@
 //! Rows of the state that are made and copied, with ample memory.
 
-use pol_addr::{Addr, Prefix};
+use pol_addr::{Addr, Family, Prefix};
 use pol_data::{Items, Text};
 use pol_labels::LabelSet;
 use pol_model::{Endpoint, IdentityRow, NamedIdentity, Stamped, reserved_rows};
@@ -24,11 +24,20 @@ fn reserved_rows_have_their_names_and_the_world_its_prefix(rt: HostRuntime) -> R
         "remote-node",
         "kube-apiserver",
         "ingress",
+        "world-ipv4",
+        "world-ipv6",
     ];
     assert_eq!(rt; rows.len(), names.len());
     for (row, name) in rows.iter().zip(names) {
         assert!(rt; is_named(row, name), "{name}");
-        assert_eq!(rt; row.prefix == Some(Prefix::world()), name == "world");
+        assert_eq!(rt;
+            row.prefix == Some(Prefix::world(Family::Ipv4)),
+            name == "world-ipv4"
+        );
+        assert_eq!(rt;
+            row.prefix == Some(Prefix::world(Family::Ipv6)),
+            name == "world-ipv6"
+        );
     }
     Ok(())
 }
@@ -37,7 +46,7 @@ fn reserved_rows_have_their_names_and_the_world_its_prefix(rt: HostRuntime) -> R
 fn a_row_of_a_prefix_is_copied(rt: HostRuntime) -> Result<(), Fail> {
     let prefix = Prefix::parse("10.0.0.0/8").ok_or("no prefix")?;
     let row = IdentityRow::of_prefix(rt.alloc(), prefix, 16_777_217)?.copy(rt.alloc())?;
-    assert!(rt; is_named(&row, "world"));
+    assert!(rt; is_named(&row, "world-ipv4"));
     assert!(rt; row.prefix == Some(prefix));
     assert_eq!(rt; row.number, 16_777_217);
     Ok(())
