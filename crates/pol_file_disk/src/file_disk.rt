@@ -16,7 +16,8 @@ use std::os::unix::fs::FileExt;
 
 /// A file of the system, with a disk in memory that does each of its calls (profile). Reads are answered from memory.
 ///
-/// A contract sees the disk in memory, and the counts of calls and of faults: each error of the file is one. No contract of std tells
+/// A contract sees the disk in memory, and the counts of calls and of faults: each error of the file is one, and after the first each
+/// call fails. No contract of std tells
 /// what a file holds, so that the file keeps to what is done beside it is to be read in this code.
 #[derive(Drop)]
 pub struct FileDisk {
@@ -45,6 +46,12 @@ impl FileDisk {
             calls: 0,
             faults: 0,
         }
+    }
+
+    /// Whether a call has failed. The file may not hold then what is in memory, and a sync of the system may have dropped what it
+    /// couldn't write, so nothing more is done.
+    fn has_failed(&self) -> bool {
+        self.faults > 0
     }
 
     /// A call that did what it should.
@@ -99,6 +106,9 @@ impl Disk for FileDisk {
 
     /// What was written to the file is read from memory.
     fn read(&mut self, at: u64, into: &mut [u8]) -> Result<(), Failed> {
+        if self.has_failed() {
+            return self.failed();
+        }
         match self.mirror.read(at, into) {
             Err(Failed) => self.failed(),
             Ok(()) => self.passed(),
@@ -107,6 +117,9 @@ impl Disk for FileDisk {
 
     /// Written in memory, and then to the file.
     fn write_at(&mut self, at: u64, bytes: &[u8]) -> Result<(), Failed> {
+        if self.has_failed() {
+            return self.failed();
+        }
         match self.mirror.write_at(at, bytes) {
             Err(Failed) => self.failed(),
             Ok(()) => match self.file.write_all_at(bytes, at) {
@@ -118,6 +131,9 @@ impl Disk for FileDisk {
 
     /// Cut in memory, and then the file.
     fn cut(&mut self, len: u64) -> Result<(), Failed> {
+        if self.has_failed() {
+            return self.failed();
+        }
         match self.mirror.cut(len) {
             Err(Failed) => self.failed(),
             Ok(()) => match self.file.set_len(len) {
@@ -129,6 +145,9 @@ impl Disk for FileDisk {
 
     /// The file is synced (`fdatasync`), and then what is in memory.
     fn sync(&mut self) -> Result<(), Failed> {
+        if self.has_failed() {
+            return self.failed();
+        }
         match self.file.sync_data() {
             Err(_) => self.failed(),
             Ok(()) => match self.mirror.sync() {

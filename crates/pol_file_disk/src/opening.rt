@@ -9,7 +9,6 @@ use pol_disk::{Disk, MemDisk};
 use pol_streams::{Failed, Memory};
 use std::alloc::{AllocError, Global};
 use std::fs::{File, OpenOptions, TryLockError};
-use std::io::ErrorKind;
 use std::os::unix::fs::FileExt;
 use std::path::Path;
 use std::rt::Files;
@@ -59,21 +58,15 @@ fn mirror_of(alloc: Global, bytes: &[u8]) -> Result<MemDisk, Memory>
     }
 }
 
-/// The file of that name, and whether it was made.
-fn open_or_make<R: Files<File = File>>(rt: &R, path: &str) -> Result<(File, bool), OpenFileError> {
-    match OpenOptions::new().read(true).write(true).open(rt, path) {
-        Ok(file) => Ok((file, false)),
-        Err(error) if error.kind() == ErrorKind::NotFound => {
-            match OpenOptions::new()
-                .read(true)
-                .write(true)
-                .create_new(true)
-                .open(rt, path)
-            {
-                Ok(file) => Ok((file, true)),
-                Err(_) => Err(OpenFileError::NotOpened),
-            }
-        }
+/// The file of that name, which is made where it is missing.
+fn open_or_make<R: Files<File = File>>(rt: &R, path: &str) -> Result<File, OpenFileError> {
+    match OpenOptions::new()
+        .read(true)
+        .write(true)
+        .create(true)
+        .open(rt, path)
+    {
+        Ok(file) => Ok(file),
         Err(_) => Err(OpenFileError::NotOpened),
     }
 }
@@ -137,14 +130,13 @@ pub fn open_file<R: Files<File = File>>(
     ensures only { IfOk result (λ disk. Only (bytes_in disk.mirror) (IsImage (held disk.mirror.past))) }
     ensures counts { IfOk result (λ disk. (disk.calls ≡ 0) × (disk.faults ≡ 0)) }
 {
-    let (file, made) = open_or_make(rt, path)?;
+    let file = open_or_make(rt, path)?;
     let len = held_len(&file)?;
     if file.sync_all().is_err() {
         return Err(OpenFileError::Failed);
     }
-    if made {
-        sync_folder(rt, path)?;
-    }
+    // Whoever made the file may have died before its name was on the disk.
+    sync_folder(rt, path)?;
     let bytes = bytes_of(alloc, &file, len)?;
     match mirror_of(alloc, bytes.as_slice()) {
         Ok(mirror) => Ok(FileDisk::over(file, mirror)),
