@@ -1,5 +1,5 @@
 -- Faults of a chain of tests: the first that holds, and what none means.
-use Rattle.std.proofs.Common.{◌≡◌, ℕ, ◌&&◌, Bool, true, false, not, nat_le, if◌then◌else◌, ◌||◌, Bor, List, [], ◌∷◌, length, find, Option, None, Some, is_some, is_none, refl, ap, ◌∙◌}
+use Rattle.std.proofs.Common.{◌≡◌, ℕ, ◌&&◌, Bool, true, false, not, nat_le, if◌then◌else◌, ◌||◌, Bor, List, [], ◌∷◌, length, find, Option, None, Some, is_some, is_none, option_map, refl, ap, ◌∙◌}
 use Rattle.std.specs.List.{list_any}
 use Rattle.std.specs.Option.{option_copied}
 use Rattle.pol_addr.specs.declared.address.Addr.{Addr}
@@ -107,6 +107,24 @@ may_be_named s name labels none =
     let second = no_fault_if (is_some (named_of name s.named)) fault.DuplicateIdentityName _ first.1 in
     let third = no_fault_if (is_exhausted labels s.identities) fault.IdentitiesExhausted None second.1 in
     record { allowed = first.0; new_name = not_some (named_of name s.named) second.0; room = third.0 }
+
+-- whether a name holds a number
+pub some_number : (o : Option NamedIdentity) → is_some (option_map (λ identity. identity.number) o) ≡ is_some o
+some_number None = refl
+some_number (Some identity) = refl
+
+-- a name that is taken, and numbers that ran out
+module _ (s : State) (name : List ℕ) (labels : List Label) (allowed : has_reserved labels ≡ false) where
+  pub name_taken : is_some (named_of name s.named) ≡ true → fault_of s (AddIdentity name labels) ≡ Some fault.DuplicateIdentityName
+  name_taken taken =
+      ap (λ b. fault_if b fault.ReservedLabel (fault_if (is_some (named_of name s.named)) fault.DuplicateIdentityName (fault_if (is_exhausted labels s.identities) fault.IdentitiesExhausted None))) allowed
+      ∙ ap (λ b. fault_if b fault.DuplicateIdentityName (fault_if (is_exhausted labels s.identities) fault.IdentitiesExhausted None)) taken
+
+  pub name_exhausted : is_some (named_of name s.named) ≡ false → is_exhausted labels s.identities ≡ true → fault_of s (AddIdentity name labels) ≡ Some fault.IdentitiesExhausted
+  name_exhausted fresh full =
+      ap (λ b. fault_if b fault.ReservedLabel (fault_if (is_some (named_of name s.named)) fault.DuplicateIdentityName (fault_if (is_exhausted labels s.identities) fault.IdentitiesExhausted None))) allowed
+      ∙ ap (λ b. fault_if b fault.DuplicateIdentityName (fault_if (is_exhausted labels s.identities) fault.IdentitiesExhausted None)) fresh
+      ∙ ap (λ b. fault_if b fault.IdentitiesExhausted None) full
 
 -- what goes is there
 pub endpoint_there : (s : State) (name : List ℕ) → fault_of s (RemoveEndpoint name) ≡ None → (endpoint : Endpoint) × (endpoint_of name s.endpoints ≡ Some endpoint)
