@@ -14,7 +14,8 @@ fn below(group: u16) -> Addr {
 }
 
 fn ipv6(group: u16, len: u8) -> Prefix {
-    Prefix::new(below(group), len.min(128))
+    let addr = below(group);
+    Prefix::new(addr, len.min(addr.family().width()))
 }
 
 /// 10.0.0.0/8 as 1, 10.1.0.0/16 as 2, 2001:db8::/32 as 3, and 2001:db8:1::/48 as 4.
