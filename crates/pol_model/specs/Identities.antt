@@ -7,7 +7,8 @@ use Rattle.pol_labels.specs.Same.{same_labels}
 use Rattle.pol_model.specs.declared.limits.TheConstants.{CLUSTER_FIRST, LOCAL_FIRST, RESERVED_LAST}
 use Rattle.pol_model.specs.declared.row.IdentityRow.{IdentityRow}
 use Rattle.pol_model.specs.Numbers.{least_free, placed_by}
-use Rattle.pol_model.specs.Worlds.{reserved_label, prefix_of_reserved}
+use Rattle.pol_addr.specs.declared.family.Family.TheVariants.{Ipv4, Ipv6}
+use Rattle.pol_model.specs.Worlds.{either_world, named_world, prefix_of_reserved, reserved_label, world_in}
 
 -- the reserved numbers are allocated from the start and for ever
 abbrev pub is_reserved : ℕ → Bool
@@ -21,19 +22,23 @@ abbrev pub reserved_row : ℕ → List ℕ → IdentityRow
 reserved_row number name =
     record { number = number; labels = reserved_label name ∷ []; prefix = prefix_of_reserved number; holders = 1 }
 
+-- the row of what lies outside the cluster
+abbrev pub world_row : ℕ × List ℕ → IdentityRow
+world_row w = reserved_row w.0 w.1
+
 -- the identities before the first request
 abbrev pub reserved_identities : List IdentityRow
 reserved_identities =
     reserved_row 1 (codes "host")
-    ∷ reserved_row 2 (codes "world")
+    ∷ world_row either_world
     ∷ reserved_row 3 (codes "unmanaged")
     ∷ reserved_row 4 (codes "health")
     ∷ reserved_row 5 (codes "init")
     ∷ reserved_row 6 (codes "remote-node")
     ∷ reserved_row 7 (codes "kube-apiserver")
     ∷ reserved_row 8 (codes "ingress")
-    ∷ reserved_row 9 (codes "world-ipv4")
-    ∷ reserved_row 10 (codes "world-ipv6")
+    ∷ world_row (named_world (world_in Ipv4))
+    ∷ world_row (named_world (world_in Ipv6))
     ∷ []
 
 -- the row, or the row with this count where its number is this one and isn't reserved

@@ -2,6 +2,7 @@
 use Rattle.std.specs.Prelude.{ℕ, ◌==◌, ◌&&◌, ◌||◌, not, nat_le, Bool, true, false, List, codes, map, filter, Option}
 use Rattle.std.specs.List.{list_any}
 use Rattle.std.specs.Option.{option_map_or}
+use Rattle.pol_addr.specs.declared.family.Family.TheVariants.{Ipv4, Ipv6}
 use Rattle.pol_addr.specs.declared.network.Prefix.{Prefix}
 use Rattle.pol_addr.specs.Prefix.{covers}
 use Rattle.pol_labels.specs.declared.label.Label.{Label}
@@ -12,7 +13,7 @@ use Rattle.pol_rule.specs.declared.policy.Peer.{Peer}
 use Rattle.pol_rule.specs.declared.policy.Peer.TheVariants as peer
 use Rattle.pol_model.specs.declared.limits.TheConstants.{RESERVED_LAST}
 use Rattle.pol_model.specs.declared.row.IdentityRow.{IdentityRow}
-use Rattle.pol_model.specs.Worlds.{is_outside, outside, reserved_label}
+use Rattle.pol_model.specs.Worlds.{is_outside, outside, reserved_label, world_in}
 
 -- What is known of the other side of a connection: its labels; which prefixes it lies in; and whether it is
 -- one of the cluster's own reserved identities.
@@ -32,8 +33,8 @@ cluster_label = record { source = codes "k8s"; key = codes "io.cilium.k8s.policy
 abbrev pub entity_selects : Known → Entity → Bool
 entity_selects known entity.All = true
 entity_selects known entity.World = list_any (λ w. is_named known w.1) outside
-entity_selects known entity.WorldIpv4 = is_named known (codes "world-ipv4")
-entity_selects known entity.WorldIpv6 = is_named known (codes "world-ipv6")
+entity_selects known entity.WorldIpv4 = is_named known (world_in Ipv4).name
+entity_selects known entity.WorldIpv6 = is_named known (world_in Ipv6).name
 entity_selects known entity.Host = is_named known (codes "host")
 entity_selects known entity.RemoteNode = is_named known (codes "remote-node")
 entity_selects known entity.KubeApiserver = is_named known (codes "kube-apiserver")

@@ -1,6 +1,6 @@
--- The worlds: what lies outside the cluster, by the family of its address (Cilium, Terminology, "Special Identities"). All that
--- is said of them by number, name or prefix stands in these two tables.
-use Rattle.std.specs.Prelude.{ℕ, ◌==◌, Bool, List, [], ◌∷◌, codes, find, Option, option_map}
+-- The worlds: what lies outside the cluster, by the family of its address (Cilium, Terminology, "Special Identities"). Their
+-- numbers, names and prefixes stand here once; rows, entities and labels take them from here.
+use Rattle.std.specs.Prelude.{ℕ, ◌==◌, Bool, List, [], ◌∷◌, codes, find, map, Option, option_map}
 use Rattle.std.specs.List.{list_any}
 use Rattle.pol_addr.specs.declared.address.Addr.{Addr}
 use Rattle.pol_addr.specs.declared.network.Prefix.{Prefix}
@@ -47,9 +47,17 @@ world_labels w = reserved_label w.name ∷ []
 abbrev pub prefix_of_reserved : ℕ → Option Prefix
 prefix_of_reserved number = option_map (λ w. w.prefix) (find (λ w. w.identity == number) worlds)
 
+-- what lies outside the cluster whatever its family: a number and a name, without a prefix
+abbrev pub either_world : ℕ × List ℕ
+either_world = (WORLD_IDENTITY, codes "world")
+
+-- a family's world by number and name
+abbrev pub named_world : World → ℕ × List ℕ
+named_world w = (w.identity, w.name)
+
 -- the reserved identities of what lies outside the cluster, with their names: of either family, and of each
 abbrev pub outside : List (ℕ × List ℕ)
-outside = (WORLD_IDENTITY, codes "world") ∷ (WORLD_IPV4_IDENTITY, codes "world-ipv4") ∷ (WORLD_IPV6_IDENTITY, codes "world-ipv6") ∷ []
+outside = either_world ∷ map named_world worlds
 
 -- whether the number is one of theirs
 abbrev pub is_outside : ℕ → Bool

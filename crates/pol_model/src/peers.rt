@@ -8,7 +8,8 @@ ghost use Rattle.pol_model.specs.Worlds.{is_outside, reserved_label};
 
 use crate::limits::{RESERVED_LAST, WORLD_IDENTITY, WORLD_IPV4_IDENTITY, WORLD_IPV6_IDENTITY};
 use crate::row::IdentityRow;
-use pol_addr::Prefix;
+use crate::worlds::{either_world_name, world_name};
+use pol_addr::{Family, Prefix};
 use pol_labels::LabelSet;
 use pol_rule::{Entity, Peer};
 
@@ -41,9 +42,9 @@ pub fn is_core(number: u32) -> bool
 fn is_named_outside(labels: &LabelSet) -> bool
     ensures { result ≡ entity_selects (known_as 0 labels.now None) entity.World }
 {
-    is_reserved_as(labels, "world")
-        || is_reserved_as(labels, "world-ipv4")
-        || is_reserved_as(labels, "world-ipv6")
+    is_reserved_as(labels, either_world_name())
+        || is_reserved_as(labels, world_name(Family::Ipv4))
+        || is_reserved_as(labels, world_name(Family::Ipv6))
 }
 
 fn entity_selects(entity: Entity, number: u32, labels: &LabelSet) -> bool
@@ -52,8 +53,8 @@ fn entity_selects(entity: Entity, number: u32, labels: &LabelSet) -> bool
     match entity {
         Entity::All => true,
         Entity::World => is_named_outside(labels),
-        Entity::WorldIpv4 => is_reserved_as(labels, "world-ipv4"),
-        Entity::WorldIpv6 => is_reserved_as(labels, "world-ipv6"),
+        Entity::WorldIpv4 => is_reserved_as(labels, world_name(Family::Ipv4)),
+        Entity::WorldIpv6 => is_reserved_as(labels, world_name(Family::Ipv6)),
         Entity::Host => is_reserved_as(labels, "host"),
         Entity::RemoteNode => is_reserved_as(labels, "remote-node"),
         Entity::KubeApiserver => is_reserved_as(labels, "kube-apiserver"),

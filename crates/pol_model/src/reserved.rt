@@ -6,9 +6,9 @@ ghost use Rattle.pol_model.specs.Identities.{reserved_identities, reserved_row};
 ghost use Rattle.pol_model.specs.Prefixes.{prefix_row};
 ghost use Rattle.pol_model.specs.Worlds.{prefix_of_reserved, reserved_label};
 
-use crate::limits::{WORLD_IPV4_IDENTITY, WORLD_IPV6_IDENTITY};
+use crate::limits::{WORLD_IDENTITY, WORLD_IPV4_IDENTITY, WORLD_IPV6_IDENTITY};
 use crate::row::IdentityRow;
-use crate::worlds::world_name;
+use crate::worlds::{either_world_name, world_name};
 use pol_addr::{Family, Prefix};
 use pol_data::{Memory, Text};
 use pol_labels::{Label, LabelSet};
@@ -87,15 +87,15 @@ pub fn reserved_rows(alloc: Global) -> Result<Vec<IdentityRow>, Memory>
 {
     Ok(vec![in alloc;
         reserved_row(alloc, 1, "host")?,
-        reserved_row(alloc, 2, "world")?,
+        reserved_row(alloc, WORLD_IDENTITY, either_world_name())?,
         reserved_row(alloc, 3, "unmanaged")?,
         reserved_row(alloc, 4, "health")?,
         reserved_row(alloc, 5, "init")?,
         reserved_row(alloc, 6, "remote-node")?,
         reserved_row(alloc, 7, "kube-apiserver")?,
         reserved_row(alloc, 8, "ingress")?,
-        reserved_row(alloc, 9, "world-ipv4")?,
-        reserved_row(alloc, 10, "world-ipv6")?,
+        reserved_row(alloc, WORLD_IPV4_IDENTITY, world_name(Family::Ipv4))?,
+        reserved_row(alloc, WORLD_IPV6_IDENTITY, world_name(Family::Ipv6))?,
     ]?)
 }
 

@@ -1,6 +1,6 @@
 //! The worlds: what lies outside the cluster, by the family of its address.
 ghost use Rattle.std.specs.Prelude.{◌≡◌};
-ghost use Rattle.pol_model.specs.Worlds.{world_in, world_of};
+ghost use Rattle.pol_model.specs.Worlds.{either_world, world_in, world_of};
 
 use crate::limits::{WORLD_IPV4_IDENTITY, WORLD_IPV6_IDENTITY};
 use pol_addr::{Addr, Family};
@@ -31,4 +31,11 @@ pub(crate) fn world_name(family: Family) -> &'static str
         Family::Ipv4 => "world-ipv4",
         Family::Ipv6 => "world-ipv6",
     }
+}
+
+/// The name in the reserved label of what lies outside the cluster, whatever its family.
+pub(crate) fn either_world_name() -> &'static str
+    ensures { result.now ≡ either_world.1 }
+{
+    "world"
 }

@@ -56,7 +56,7 @@ pub fn revisions_are_kept()
 {}
 
 /// A policy holds each of its prefixes once. One that replaces another takes its prefixes first, so a prefix of both
-/// keeps its number, and a new one takes none that the other gives up. 0.0.0.0/0 takes no number.
+/// keeps its number, and a new one takes none that the other gives up. A world's prefix takes no number.
 pub fn prefixes_are_shared()
     ensures once { (options : AllOptions) → numbers_held (state_of options (Apply (lets_in (codes "p") (net 1 ∷ net 2 ∷ net 1 ∷ [])) ∷ [])).identities ≡ (16777217, 1) ∷ (16777218, 1) ∷ [] }
     ensures shared { (options : AllOptions) → numbers_held (state_of options (Apply (lets_in (codes "p") (net 1 ∷ net 2 ∷ [])) ∷ Apply (lets_in (codes "q") (net 2 ∷ [])) ∷ [])).identities ≡ (16777217, 1) ∷ (16777218, 2) ∷ [] }
