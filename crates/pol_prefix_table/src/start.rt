@@ -20,6 +20,8 @@ pub(crate) struct Start<B: Bits> {
 
 const _: () = prove!(size_of::<Start<u32>>() == 24);
 
+const _: () = prove!(size_of::<Start<u128>>() == 48);
+
 impl<B: Bits> Model for Start<B> {
     ghost use Rattle.pol_prefix_table.specs.declared.walk.Reached.{Reached};
 
@@ -46,6 +48,15 @@ impl<B: Bits> Start<B> {
             visits: walk.visits,
             bits: B::of(walk.to.network()),
         }
+    }
+
+    /// The prefix that it is of.
+    #[inline(always)]
+    pub(crate) fn to(&self) -> Prefix
+        ensures value { result ≡ self.now.to }
+        ensures family { family_of result.addr ≡ B.family }
+    {
+        Prefix::new(self.bits.addr(), self.len)
     }
 
     /// The walk that begins here.

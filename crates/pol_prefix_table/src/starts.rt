@@ -82,20 +82,18 @@ fn fill<B: Bits>(nodes: &Nodes<B>, starts: &mut Vec<Start<B>>, bits: u8) -> Resu
     Ok(())
 }
 
-/// The start once more, where the prefix covers the start's.
+/// Makes the start once more, where the prefix covers the start's.
 #[inline(always)]
-fn renewed<B: Bits>(nodes: &Nodes<B>, over: &Prefix, start: Reached) -> Reached
+fn renew_one<B: Bits>(nodes: &Nodes<B>, over: &Prefix, start: &mut Start<B>)
     requires trie { IsTrie B.family nodes.now }
     requires rooted { HasRoot B.family (get nodes.now) }
-    requires family { family_of start.to.addr ≡ B.family }
-    requires outside { covers over.now start.to ≡ false → HasReached nodes.now start }
-    ensures to { result.to ≡ start.to }
-    ensures reached { HasReached nodes.now result }
+    requires outside { covers over.now start.old.to ≡ false → HasReached nodes.now start.old }
+    ensures to { start.new.to ≡ start.old.to }
+    ensures reached { HasReached nodes.now start.new }
 {
-    if over.covers(&start.to) {
-        start_over(nodes, start.to)
-    } else {
-        start
+    let to = start.to();
+    if over.covers(&to) {
+        *start = Start::of(start_over(nodes, to));
     }
 }
 
@@ -110,8 +108,7 @@ pub(crate) fn renew<B: Bits>(nodes: &Nodes<B>, starts: &mut Vec<Start<B>>, over:
         return;
     }
     for i in 0..starts.len() {
-        let start = renewed(nodes, over, starts[i].reached());
-        starts[i] = Start::of(start);
+        renew_one(nodes, over, &mut starts[i]);
     }
 }
 
