@@ -69,18 +69,18 @@ pub(crate) fn comes_again<R: Print + AllocGlobal, L: Ledger>(
     steps: &mut Steps<L>,
 ) -> Result<()> {
     let alloc = rt.alloc();
-    let from_world = Remote::Identity(2);
+    let from_outside = Remote::Identity(2);
     commit(rt, machine, endpoint(alloc, "a"), steps)?;
     take(rt, machine, 0, steps)?;
     finish(rt, machine, 0, steps)?;
-    look(rt, machine, packet(alloc, "a", from_world), steps)?;
+    look(rt, machine, packet(alloc, "a", from_outside), steps)?;
     take(rt, machine, 0, steps)?;
     commit(rt, machine, no_endpoint(alloc, "a"), steps)?;
-    look(rt, machine, packet(alloc, "a", from_world), steps)?;
+    look(rt, machine, packet(alloc, "a", from_outside), steps)?;
     finish(rt, machine, 0, steps)?;
     take(rt, machine, 0, steps)?;
     commit(rt, machine, endpoint(alloc, "a"), steps)?;
-    look(rt, machine, packet(alloc, "a", from_world), steps)?;
+    look(rt, machine, packet(alloc, "a", from_outside), steps)?;
     take(rt, machine, 0, steps)?;
     commit(rt, machine, no_endpoint(alloc, "a"), steps)?;
     commit(rt, machine, endpoint(alloc, "a"), steps)?;
