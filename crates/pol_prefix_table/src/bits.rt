@@ -7,10 +7,11 @@ use pol_addr::{Addr, Family};
 
 /// The bits of an address of one family. Contracts see the address (`seen`).
 pub(crate) trait Bits: Copy {
-    ghost use Rattle.std.specs.Prelude.{◌≡◌, ◌≤◌, ◌<◌};
+    ghost use Rattle.std.specs.Prelude.{◌≡◌, ◌-◌, ◌*◌, ◌^◌, ◌≤◌, ◌<◌, nat_lt};
     ghost use Rattle.pol_addr.specs.declared.family.Family.{Family};
     ghost use Rattle.pol_addr.specs.declared.address.Addr.{Addr};
-    ghost use Rattle.pol_addr.specs.Address.{family_of};
+    ghost use Rattle.pol_addr.specs.Families.{width};
+    ghost use Rattle.pol_addr.specs.Address.{addr_in, bits_of, family_of};
 
     /// The address with these bits.
     ghost seen: { Self → Addr };
@@ -35,11 +36,16 @@ pub(crate) trait Bits: Copy {
     /// The first 32 bits. No clause speaks of them: they say where a look-up is sought among the starts.
     fn high(self) -> u32;
 
-    /// An address that begins with the `len` last bits of `place`. No clause says that it does.
+    /// The address of the family whose first `len` bits are `place`, with zeros behind them.
     fn beginning(place: u32, len: u8) -> Addr
         requires some { 0 < len }
         requires few { len ≤ 32 }
-        ensures { family_of result ≡ family };
+        requires small { place < 2 ^ len }
+        ensures { result ≡ addr_in family (place * 2 ^ (width family - len)) };
+
+    /// Whether the address comes before the other.
+    fn is_below(self, other: Self) -> bool
+        ensures { result ≡ nat_lt (bits_of (seen self)) (bits_of (seen other)) };
 
     ghost of_family: { (x : Self) → family_of (seen x) ≡ family };
 }
@@ -76,6 +82,11 @@ impl Bits for u32 {
         Addr::V4(place << (32 - len))
     }
 
+    #[inline(always)]
+    fn is_below(self, other: u32) -> bool {
+        self < other
+    }
+
     ghost of_family = { λ x. refl };
 }
 
@@ -109,6 +120,11 @@ impl Bits for u128 {
 
     fn beginning(place: u32, len: u8) -> Addr {
         Addr::V6(u128::from(place) << (128 - len))
+    }
+
+    #[inline(always)]
+    fn is_below(self, other: u128) -> bool {
+        self < other
     }
 
     ghost of_family = { λ x. refl };

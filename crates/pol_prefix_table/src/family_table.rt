@@ -38,7 +38,7 @@ impl<B: Bits> Model for FamilyTable<B> {
 
     ghost view = { λ t. map_of t.nodes };
 
-    ghost invariant = { λ t. IsTrie B.family t.nodes × AreStarts t.nodes t.starts.items × IsTight t.nodes };
+    ghost invariant = { λ t. IsTrie B.family t.nodes × AreStarts B.family t.nodes t.starts.items × IsTight t.nodes };
 }
 
 impl<B: Bits> FamilyTable<B> {

@@ -1,6 +1,6 @@
 //! A start as it is kept, in 24 bytes for IPv4 and 48 for IPv6.
-ghost use Rattle.std.specs.Prelude.{◌≡◌};
-ghost use Rattle.pol_addr.specs.Address.{family_of};
+ghost use Rattle.std.specs.Prelude.{◌≡◌, nat_lt};
+ghost use Rattle.pol_addr.specs.Address.{bits_of, family_of};
 
 use crate::bits::Bits;
 use crate::walk::Reached;
@@ -57,6 +57,14 @@ impl<B: Bits> Start<B> {
         ensures family { family_of result.addr ≡ B.family }
     {
         Prefix::new(self.bits.addr(), self.len)
+    }
+
+    /// Whether its prefix begins before this address.
+    #[inline(always)]
+    pub(crate) fn is_below(&self, bits: B) -> bool
+        ensures { result ≡ nat_lt (bits_of self.now.to.addr) (bits_of (B.seen bits)) }
+    {
+        self.bits.is_below(bits)
     }
 
     /// The walk that begins here.

@@ -1,10 +1,11 @@
 //! Where look-ups start: the longest node over each prefix of a few bits.
-ghost use Rattle.std.specs.Prelude.{◌≡◌, ◌≤◌, ◌<◌, IfSome, IfNone, IfOk, false};
+ghost use Rattle.std.specs.Prelude.{◌≡◌, ◌≤◌, ◌<◌, ◌^◌, IfSome, IfNone, IfOk, false};
+ghost use Rattle.std.specs.List.Sorted.{IsNonDecreasingBy, IsPartitionPoint};
 ghost use Rattle.slab.specs.Slab.{get};
-ghost use Rattle.pol_addr.specs.Address.{family_of};
+ghost use Rattle.pol_addr.specs.Address.{bits_of, family_of};
 ghost use Rattle.pol_addr.specs.Prefix.{covers, host_prefix};
 ghost use Rattle.pol_prefix_table.specs.Trie.{IsTrie, HasRoot, IsNumberOver, NoNumberOver};
-ghost use Rattle.pol_prefix_table.specs.Starts.{HasReached, AreStarts, AreStartsOutside};
+ghost use Rattle.pol_prefix_table.specs.Starts.{HasReached, AreStarts, AreStartsOutside, beginning};
 
 use crate::bits::Bits;
 use crate::nodes::Nodes;
@@ -44,8 +45,8 @@ fn start_over<B: Bits>(nodes: &Nodes<B>, over: Prefix) -> Reached
 /// Makes starts for more bits, where the table has outgrown those that it has.
 pub(crate) fn grow<B: Bits>(nodes: &Nodes<B>, starts: &mut Vec<Start<B>>) -> Result<(), Memory>
     requires trie { IsTrie B.family nodes.now }
-    requires starts { AreStarts nodes.now starts.old.items }
-    ensures { AreStarts nodes.now starts.new.items }
+    requires starts { AreStarts B.family nodes.now starts.old.items }
+    ensures { AreStarts B.family nodes.now starts.new.items }
 {
     let Some(bits) = bits_for(nodes.len()) else {
         return Ok(());
@@ -56,11 +57,12 @@ pub(crate) fn grow<B: Bits>(nodes: &Nodes<B>, starts: &mut Vec<Start<B>>) -> Res
     fill(nodes, starts, bits)
 }
 
-/// The prefix of this length that begins with the last bits of `place`.
-fn beginning<B: Bits>(place: u32, bits: u8) -> Prefix
+/// The prefix of this length that begins with the bits of a place.
+fn prefix_at<B: Bits>(place: u32, bits: u8) -> Prefix
     requires some { 0 < bits }
     requires few { bits ≤ START_BITS }
-    ensures len { result.len ≡ bits }
+    requires small { place < 2 ^ bits }
+    ensures value { result ≡ beginning B.family bits place }
     ensures family { family_of result.addr ≡ B.family }
 {
     Prefix::new(B::beginning(place, bits), bits)
@@ -72,43 +74,57 @@ fn fill<B: Bits>(nodes: &Nodes<B>, starts: &mut Vec<Start<B>>, bits: u8) -> Resu
     requires rooted { HasRoot B.family (get nodes.now) }
     requires some { 0 < bits }
     requires few { bits ≤ START_BITS }
-    ensures { AreStarts nodes.now starts.new.items }
+    ensures { AreStarts B.family nodes.now starts.new.items }
 {
     starts.clear();
     for place in 0..1u32 << bits {
-        let start = start_over(nodes, beginning::<B>(place, bits));
+        let start = start_over(nodes, prefix_at::<B>(place, bits));
         starts.push(Start::of(start))?;
     }
     Ok(())
 }
 
-/// Makes the start once more, where the prefix covers the start's.
+/// Makes the start once more, where the prefix covers the start's. Whether it does.
 #[inline(always)]
-fn renew_one<B: Bits>(nodes: &Nodes<B>, over: &Prefix, start: &mut Start<B>)
+fn renew_one<B: Bits>(nodes: &Nodes<B>, over: &Prefix, start: &mut Start<B>) -> bool
     requires trie { IsTrie B.family nodes.now }
     requires rooted { HasRoot B.family (get nodes.now) }
     requires outside { covers over.now start.old.to ≡ false → HasReached nodes.now start.old }
+    ensures covered { result ≡ covers over.now start.old.to }
     ensures to { start.new.to ≡ start.old.to }
     ensures reached { HasReached nodes.now start.new }
 {
     let to = start.to();
-    if over.covers(&to) {
-        *start = Start::of(start_over(nodes, to));
+    if !over.covers(&to) {
+        return false;
     }
+    *start = Start::of(start_over(nodes, to));
+    true
 }
 
-/// Makes the starts of all prefixes that this one covers once more.
+/// How many starts are of prefixes that begin before this address.
+fn starts_below<B: Bits>(starts: &[Start<B>], bits: B) -> usize
+    requires rise { IsNonDecreasingBy (λ r. bits_of r.to.addr) starts.now }
+    ensures { IsPartitionPoint (λ r. bits_of r.to.addr < bits_of (B.seen bits)) (λ r. bits_of (B.seen bits) ≤ bits_of r.to.addr) starts.now result }
+{
+    starts.partition_point(|start| start.is_below(bits))
+}
+
+/// Makes the starts of all prefixes that this one covers once more. They stand side by side.
 pub(crate) fn renew<B: Bits>(nodes: &Nodes<B>, starts: &mut Vec<Start<B>>, over: &Prefix)
     requires trie { IsTrie B.family nodes.now }
     requires rooted { HasRoot B.family (get nodes.now) }
-    requires outside { AreStartsOutside nodes.now over.now starts.old.items }
-    ensures { AreStarts nodes.now starts.new.items }
+    requires family { family_of over.now.addr ≡ B.family }
+    requires outside { AreStartsOutside B.family nodes.now over.now starts.old.items }
+    ensures { AreStarts B.family nodes.now starts.new.items }
 {
     if over.len() > START_BITS {
         return;
     }
-    for i in 0..starts.len() {
-        renew_one(nodes, over, &mut starts[i]);
+    for i in starts_below(starts.as_slice(), B::of(over.network()))..starts.len() {
+        if !renew_one(nodes, over, &mut starts[i]) {
+            return;
+        }
     }
 }
 
@@ -145,7 +161,7 @@ fn from_start<B: Bits>(nodes: &Nodes<B>, start: Reached, to: Prefix) -> Reached
 fn start_of<B: Bits>(nodes: &Nodes<B>, starts: &[Start<B>], bits: B) -> Reached
     requires trie { IsTrie B.family nodes.now }
     requires rooted { HasRoot B.family (get nodes.now) }
-    requires starts { AreStarts nodes.now starts.now }
+    requires starts { AreStarts B.family nodes.now starts.now }
     ensures to { result.to ≡ host_prefix (B.seen bits) }
     ensures reached { HasReached nodes.now result }
 {
@@ -160,7 +176,7 @@ fn start_of<B: Bits>(nodes: &Nodes<B>, starts: &[Start<B>], bits: B) -> Reached
 #[inline(always)]
 pub(crate) fn longest_over<B: Bits>(nodes: &Nodes<B>, starts: &[Start<B>], bits: B) -> Option<u32>
     requires trie { IsTrie B.family nodes.now }
-    requires starts { AreStarts nodes.now starts.now }
+    requires starts { AreStarts B.family nodes.now starts.now }
     ensures found { IfSome result (IsNumberOver nodes.now (host_prefix (B.seen bits))) }
     ensures none { IfNone result (NoNumberOver nodes.now (host_prefix (B.seen bits))) }
 {

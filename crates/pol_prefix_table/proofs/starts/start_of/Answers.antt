@@ -9,4 +9,4 @@ from_start-requires-clause-start g c =
     let starts = c.args.starts.now in
     let found = c.in-Some.ensures.lookup in
     let is = slice_get_read starts (length starts) c.place_of.result start refl found.3.0 found.1 in
-    subst (HasReached c.args.nodes.now) (sym c.reached.ensures.walk) (c.requires.starts c.place_of.result start is).0
+    subst (HasReached c.args.nodes.now) (sym c.reached.ensures.walk) (c.requires.starts.each c.place_of.result start is).0

@@ -11,7 +11,7 @@ invariant_of-result g c =
     let copy = c.in_ok-copy.field-0 in
     let same = c.in_ok-copy.ensures in
     let trie = IsTrie-room nodes copy same c.self.invariant.0 in
-    (trie, subst (AreStarts copy) (sym (c.in_ok-copied.ensures ∙ c.as_slice.ensures.value)) (starts_room nodes copy same c.self.invariant.0 trie c.self.inside.starts.items c.self.invariant.1), tight_room nodes copy same c.self.invariant.2)
+    (trie, subst (AreStarts g.B.Bits.family copy) (sym (c.in_ok-copied.ensures ∙ c.as_slice.ensures.value)) (starts_room nodes copy same c.self.invariant.0 trie c.self.inside.starts.items c.self.invariant.1), tight_room nodes copy same c.self.invariant.2)
 
 pub returns : goal.returns
 returns g c = ap map_of c.in_ok-copy.ensures ∙ c.self.view_is

@@ -5,7 +5,7 @@ use Rattle.pol_prefix_table.proofs.Maps.{found_by, none_by}
 use Rattle.pol_prefix_table.proofs.family_table.FamilyTable.find.Goals as goal
 
 pub longest_over-requires-clause-starts : goal.longest_over-requires-clause-starts
-longest_over-requires-clause-starts g c = subst (AreStarts c.self.inside.nodes) (sym c.as_slice.ensures.value) c.self.invariant.1
+longest_over-requires-clause-starts g c = subst (AreStarts g.B.Bits.family c.self.inside.nodes) (sym c.as_slice.ensures.value) c.self.invariant.1
 
 pub returns-clause-found : goal.returns-clause-found
 returns-clause-found g c =

@@ -1,5 +1,6 @@
-use Rattle.std.proofs.Common.{Some, ap, ◌∙◌}
+use Rattle.std.proofs.Common.{Some, sym, ap, ◌∙◌}
 use Rattle.std.specs.FinMap as map
+use Rattle.pol_addr.proofs.Containment.{covers-family}
 use Rattle.pol_prefix_table.proofs.Maps.{IsTrie-room, tight_room, numbers_room, numbers_after, map_of-insert}
 use Rattle.pol_prefix_table.proofs.StartLists.{starts_room, starts_outside, all_outside}
 use Rattle.pol_prefix_table.proofs.family_table.FamilyTable.insert.Goals as goal
@@ -31,6 +32,9 @@ put-over-requires-clause-trie g c = IsTrie-room c.self.inside.nodes c.reserve.ne
 pub put-over-requires-clause-tight : goal.put-over-requires-clause-tight
 put-over-requires-clause-tight g c = tight_room c.self.inside.nodes c.reserve.new.self c.reserve.ensures.rest_kept c.self.invariant.2
 
+pub renew-requires-clause-family : goal.renew-requires-clause-family
+renew-requires-clause-family g c = sym (covers-family c.put-over.result c.args.prefix c.put-over.ensures.over) ∙ c.requires
+
 pub renew-requires-clause-outside : goal.renew-requires-clause-outside
 renew-requires-clause-outside g c =
     let room = c.reserve.new.self in
@@ -38,7 +42,7 @@ renew-requires-clause-outside g c =
     let over = c.put-over.result in
     let trie = IsTrie-room c.self.inside.nodes room c.reserve.ensures.rest_kept c.self.invariant.0 in
     let trie' = c.put-over.ensures.trie in
-    starts_outside room new trie.tree trie'.tree over c.args.prefix (Some c.args.number) c.put-over.ensures.over (all_outside room new over c.put-over.ensures.kept) c.put-over.ensures.numbers c.grow.new.starts.items c.grow.ensures
+    starts_outside g.B.Bits.family room new trie.tree trie'.tree over c.args.prefix (Some c.args.number) c.put-over.ensures.over (all_outside room new over c.put-over.ensures.kept) c.put-over.ensures.numbers c.grow.new.starts.items c.grow.ensures
 
 pub returns-clause-ok : goal.returns-clause-ok
 returns-clause-ok g c =
