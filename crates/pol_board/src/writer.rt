@@ -23,7 +23,7 @@ use left_right::{Absorb, WriteHandle};
 use pol_board_view::{Face, FaceChange, FaceOp};
 use pol_data::{Memory, Text};
 use pol_history::LastReport;
-use pol_history_log::{Book, NodeName, Seen};
+use pol_history_log::{Book, NextMap, NodeName, Seen};
 use pol_map_changes::ChangeList;
 use pol_model::{Committed, Request};
 use pol_taken::Taken;
@@ -241,13 +241,8 @@ impl<N: NodeName, R: Wait + Drop> BoardWriter<N, R> {
             return Err(Memory);
         }
         let change = published_change(alloc, taken, changes)?;
+        let longer = self.with_map(taken, changes)?;
         self.spent = true;
-        let longer = self.seen.publish(
-            &self.book,
-            &taken.endpoint.name,
-            taken.endpoint.added,
-            taken.revision,
-        );
         let seen = append(&mut self.board, longer, change)?;
         self.spent = false;
         pass.shown(&seen);
@@ -293,6 +288,27 @@ impl<N: NodeName, R: Wait + Drop> BoardWriter<N, R> {
         pass.shown(&seen);
         self.seen = seen;
         Ok(())
+    }
+
+    /// The history with the publication of what the changes make of the map that is shown. It takes no memory; the one error is
+    /// that want of memory has cut off a change of that map, and then nothing was added.
+    fn with_map(&self, taken: &Taken, changes: &ChangeList) -> Result<Option<Seen<N>>, Memory>
+        requires room { length self.now.seen < 2 ^ 62 }
+        requires may { PublishMayFollow N.options self.now.seen (endpoint_id taken.now.endpoint) taken.now.revision (table_at N.options self.now.seen (endpoint_id taken.now.endpoint) taken.now.revision) }
+        requires leads { Leads changes.now (table_shown N.options self.now.seen taken.now.endpoint.name) (table_at N.options self.now.seen (endpoint_id taken.now.endpoint) taken.now.revision) }
+        ensures { IfOk result (λ longer. IfSome longer (λ l. l ≡ self.now.seen ++ event.Publish (endpoint_id taken.now.endpoint) taken.now.revision (table_at N.options self.now.seen (endpoint_id taken.now.endpoint) taken.now.revision) ∷ [])) }
+    {
+        let endpoint = &taken.endpoint;
+        let last = self.board.published().last_map(&endpoint.name)?;
+        let map = NextMap::of(last, changes);
+        let longer = self.seen.publish(
+            &self.book,
+            &endpoint.name,
+            endpoint.added,
+            taken.revision,
+            &map,
+        );
+        Ok(longer)
     }
 
     /// The last report of a live endpoint. It takes no memory.

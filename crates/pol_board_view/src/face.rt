@@ -1,5 +1,7 @@
 //! What readers of a board see.
-ghost use Rattle.std.specs.Prelude.{◌≡◌, ◌+◌, ◌<◌, ◌≤◌, [], length, IfNone, IfSome, IsErrOf};
+ghost use Rattle.std.specs.Prelude.{◌≡◌, ◌+◌, ◌<◌, ◌≤◌, [], length, IfNone, IfOk, IfSome, IsErrOf};
+ghost use Rattle.std.specs.FinMap as finite;
+ghost use Rattle.std.specs.Option.{option_copied};
 ghost use mathlib.Core.List.{IsPrefix};
 ghost use Rattle.pol_history.specs.Commits.{Lives, state_now};
 ghost use Rattle.pol_history.specs.Content.{content_of};
@@ -8,18 +10,21 @@ ghost use Rattle.pol_history.specs.LookIn.{look_in};
 ghost use Rattle.pol_history.specs.Reports.{last_report};
 ghost use Rattle.pol_history_log.specs.Asked.{id_of};
 ghost use Rattle.pol_board_view.specs.Answers.{IsLookOf};
+ghost use Rattle.pol_history_log.specs.NextMap.{map_before};
+ghost use Rattle.pol_board_view.specs.Changes.{table_shown};
 ghost use Rattle.pol_board_view.specs.Room.{IsLimited};
 
 use crate::answer::{LookError, Verdict};
 use crate::change::{commits_of, take_in};
 use crate::op::FaceOp;
-use crate::row::{Rows, look_in_rows};
+use crate::row::{Rows, look_in_rows, whole_map};
 use indexmap::IndexMap;
 use left_right::Absorb;
-use pol_data::{Steps, Text};
+use pol_data::{Memory, Steps, Text};
 use pol_history::{HistoryEvent, LastReport};
 use pol_history_log::{NodeName, Seen};
 use pol_model::Query;
+use pol_trie::PolicyTrie;
 use std::alloc::{AllocError, Global};
 use std::collections::LinkedList;
 use std::marker::Model;
@@ -87,6 +92,17 @@ impl<N: NodeName> Face<N> {
         match self.rows.get(name) {
             None => None,
             Some(row) => row.report,
+        }
+    }
+
+    /// The last published map of the endpoint of that name, if there is one. It takes no memory; the one error is that want of
+    /// memory has cut a change of the map off.
+    pub fn last_map(&self, name: &Text) -> Result<Option<&PolicyTrie>, Memory>
+        ensures { IfOk result (λ last. finite.entries (map_before (option_copied last)) ≡ table_shown N.options self.now name.now) }
+    {
+        match self.rows.get(name) {
+            None => Ok(None),
+            Some(row) => whole_map(&row.map),
         }
     }
 

@@ -2,11 +2,13 @@
 ghost use Rattle.std.specs.Prelude.{◌≡◌, ◌+◌, ◌≤◌, ℕ, List, None, Some, Option, IfOk, IsErrOf, OnOk, OnErr};
 ghost use Rattle.std.specs.Arc.{arc_value};
 ghost use Rattle.std.specs.FinMap as finite;
+ghost use Rattle.std.specs.Option.{option_copied};
 ghost use Rattle.pol_mapkey.specs.Entries.{read_map};
 ghost use Rattle.pol_history.specs.Content.{BoardRow, PublishedMap};
 ghost use Rattle.pol_history.specs.LookIn.{look_map, look_row};
 ghost use Rattle.pol_board_view.specs.Answers.{IsLookOf};
-ghost use Rattle.pol_board_view.specs.Rows.{ChangesMap, HasRoom, Holds, HoldsMap, IsShownFirst, IsShownLess, IsShownMore, number_then};
+ghost use Rattle.pol_history_log.specs.NextMap.{map_before};
+ghost use Rattle.pol_board_view.specs.Rows.{ChangesMap, HasRoom, Holds, HoldsMap, IsShownFirst, IsShownLess, IsShownMore, number_then, table_in};
 
 use crate::answer::{LookError, Verdict};
 use indexmap::IndexMap;
@@ -113,6 +115,19 @@ pub(crate) fn look_in_rows<L: Ledger>(
         None => Err(LookError::NoEndpoint { revision: commits }),
         Some(row) => look_at_map(commits, &row.map, query, steps),
     }
+}
+
+/// The map, where it is whole. It takes no memory.
+pub(crate) fn whole_map(map: &Option<FaceMap>) -> Result<Option<&PolicyTrie>, Memory>
+    ensures { (held : Option PublishedMap) → HoldsMap map.now held → IfOk result (λ last. finite.entries (map_before (option_copied last)) ≡ table_in held) }
+{
+    let Some(shown) = map else {
+        return Ok(None);
+    };
+    if !shown.whole {
+        return Err(Memory);
+    }
+    Ok(Some(&shown.trie))
 }
 
 /// The map after changes.

@@ -12,9 +12,11 @@
 mod book;
 mod history;
 mod name;
+mod next_map;
 mod seen;
 
 pub use book::{Book, NewBook};
 pub use history::SeenHistory;
 pub use name::NodeName;
+pub use next_map::NextMap;
 pub use seen::Seen;

@@ -4,10 +4,11 @@ ghost use mathlib.Core.List.{IsPrefix};
 ghost use Rattle.pol_history.specs.declared.event.HistoryEvent.TheVariants as event;
 ghost use Rattle.pol_history.specs.Legal.{IsLegal};
 ghost use Rattle.pol_history.specs.MayFollow.{BlockedMayFollow, CommitMayFollow, MayFollow, PublishMayFollow};
-ghost use Rattle.pol_history_log.specs.Asked.{id_of, table_at};
+ghost use Rattle.pol_history_log.specs.Asked.{id_of};
 
 use crate::book::{Add, Book, Law, Nothing};
 use crate::name::NodeName;
+use crate::next_map::NextMap;
 use logbook::{Offer, Plain, Seen as Reached};
 use pol_data::Text;
 use pol_history::HistoryEvent;
@@ -51,21 +52,21 @@ impl<'a> Plain<Committing<'a>, HistoryEvent, u64> for Add {
     ghost state = { λ asked. None };
 }
 
-/// A published map that is added. Its entries are those of the canonical map, so no table is made.
+/// A published map that is added.
 #[derive(Drop)]
-struct Publishing<'a, N: NodeName> {
-    seen: &'a Seen<N>,
+struct Publishing<'a> {
     name: &'a Text,
     added: u64,
     revision: u64,
+    map: &'a NextMap<'a>,
 }
 
-impl<'a, N: NodeName> Plain<Publishing<'a, N>, HistoryEvent, u64> for Add {
+impl<'a> Plain<Publishing<'a>, HistoryEvent, u64> for Add {
     ghost use Rattle.std.specs.Prelude.{None};
     ghost use Rattle.pol_history.specs.declared.event.HistoryEvent.TheVariants as event;
-    ghost use Rattle.pol_history_log.specs.Asked.{id_of, table_at};
+    ghost use Rattle.pol_history_log.specs.Asked.{id_of};
 
-    ghost ask = { λ asked. event.Publish (id_of asked.name.now asked.added) asked.revision (table_at N.options asked.seen.now (id_of asked.name.now asked.added) asked.revision) };
+    ghost ask = { λ asked. event.Publish (id_of asked.name.now asked.added) asked.revision asked.map.now };
 
     ghost state = { λ asked. None };
 }
@@ -197,19 +198,26 @@ impl<N: NodeName> Seen<N> {
         )
     }
 
-    /// Adds that the endpoint's canonical map at the revision was published.
-    pub fn publish(&self, book: &Book<N>, name: &Text, added: u64, revision: u64) -> Option<Seen<N>>
+    /// Adds that this map was published, which is the endpoint's canonical map at the revision.
+    pub fn publish(
+        &self,
+        book: &Book<N>,
+        name: &Text,
+        added: u64,
+        revision: u64,
+        map: &NextMap<'_>,
+    ) -> Option<Seen<N>>
         requires room { length self.now < 2 ^ 62 }
-        requires may { PublishMayFollow N.options self.now (id_of name.now added) revision (table_at N.options self.now (id_of name.now added) revision) }
-        ensures { IfSome result (λ longer. longer ≡ self.now ++ event.Publish (id_of name.now added) revision (table_at N.options self.now (id_of name.now added) revision) ∷ []) }
+        requires may { PublishMayFollow N.options self.now (id_of name.now added) revision map.now }
+        ensures { IfSome result (λ longer. longer ≡ self.now ++ event.Publish (id_of name.now added) revision map.now ∷ []) }
     {
         self.add(
             book,
             &Publishing {
-                seen: self,
                 name,
                 added,
                 revision,
+                map,
             },
         )
     }
