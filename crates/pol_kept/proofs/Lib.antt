@@ -4,3 +4,4 @@ pub mod Others
 pub mod Asked
 pub mod Disks
 pub mod Openings
+mod Plans

@@ -2,10 +2,12 @@
 use Rattle.std.proofs.Common.{◌≡◌, ⊎_elim, ◌<◌, ◌≤◌, ◌+◌, ℕ, nat_le, Bool, true, if◌then◌else◌, List, [], ◌∷◌, length, take, slice_index, Ok, refl, sym, ap, ◌∙◌, subst, arith}
 use Rattle.std.proofs.lemmas.Bool.Decides.{nat_tests}
 use Rattle.pol_disk.specs.Images.{CutShort, LeavesOnly, Only}
-use Rattle.pol_disk.proofs.Moments.{started}
+use Rattle.pol_disk.proofs.Moments.{joined, started, widened}
 use Rattle.pol_history.specs.Machine.{machine_start}
 use Rattle.pol_journal.specs.Journal.{IsJournal, commits, journal_of}
-use Rattle.pol_kept.specs.Keeps.{IsKept, IsOpened, IsReplayed, SameJournal, machine_of, requests_in}
+use Rattle.pol_kept.specs.Keeps.{HoldsStill, HoldsUnlessFailed, IsKept, IsOpened, IsReplayed, SameJournal, machine_of, requests_in}
+use Rattle.pol_kept.specs.declared.error.OpenError.{OpenError}
+use Rattle.pol_kept.specs.declared.error.OpenError.TheVariants as opened
 use Rattle.pol_kept.proofs.Disks.{on_disk}
 use Rattle.pol_kept.proofs.Records.{closed_kept, ended, kept_journal}
 use Rattle.pol_machine.specs.Stands.{Stands, Stored, options_in}
@@ -83,3 +85,22 @@ module _ {D : Type 0} (may_leave : D → List ℕ → Type 0) (options : Options
   pub still_same : (moment : D → ℕ) (left_since : D → ℕ → List ℕ → Type 0) → ((c : List ℕ) → left_since disk (moment disk) c → may_leave disk c)
       → LeavesOnly moment left_since disk disk (SameJournal options bytes)
   still_same moment left_since only_now = started moment left_since disk (SameJournal options bytes) (λ c left. left_same c (only_now c left))
+
+-- ---- an opening that failed behind a sync
+
+module _ {D : Type 0} (seen : D → List ℕ) (may_leave : D → List ℕ → Type 0) (moment : D → ℕ) (left_since : D → ℕ → List ℕ → Type 0)
+    (old between new : D) (there : IsOnDisk seen may_leave between (seen old)) (stay : may_leave old (seen old)) (leaves : LeavesOnly moment left_since old between (may_leave old)) where
+  holds_still : HoldsStill seen may_leave moment left_since between new → HoldsStill seen may_leave moment left_since old new
+  holds_still holds = record {
+    same = holds.same ∙ there.read;
+    any_moment =
+        joined moment left_since old between new (may_leave old) leaves
+        (widened moment left_since between new (may_leave between) (may_leave old) holds.any_moment
+        (λ c left. subst (may_leave old) (sym (there.only c left)) stay));
+  }
+
+  -- the disk holds what it held before the sync
+  pub holds_behind : (why : OpenError) → HoldsUnlessFailed seen may_leave moment left_since between why new → HoldsUnlessFailed seen may_leave moment left_since old why new
+  holds_behind (opened.Damaged at) holds = holds_still holds
+  holds_behind opened.Disk holds = holds
+  holds_behind opened.Memory holds = holds_still holds

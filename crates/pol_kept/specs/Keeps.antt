@@ -1,6 +1,6 @@
 -- A machine and the disk with its journal.
 use Rattle.std.specs.Prelude.{◌≡◌, ◌⊎◌, ℕ, ◌<◌, Bool, false, true, List, [], ◌∷◌, ◌++◌, length, map, take, None, Some, is_some, Result, Ok, Err}
-use Rattle.pol_disk.specs.Images.{Only}
+use Rattle.pol_disk.specs.Images.{LeavesOnly, Only}
 use Rattle.pol_history.specs.declared.machine.Event.{Event}
 use Rattle.pol_history.specs.declared.machine.Event.TheVariants as step
 use Rattle.pol_history.specs.declared.machine.Reply.{Reply}
@@ -55,6 +55,19 @@ abbrev pub TellsDamage : Options → List ℕ → OpenError → Type 0
 TellsDamage options bytes (opened.Damaged at) = journal_of options bytes ≡ Err at
 TellsDamage options bytes opened.Disk = Unit {0}
 TellsDamage options bytes opened.Memory = Unit {0}
+
+-- The disk holds what it held, and a crash since then leaves what it might have left before.
+pub record HoldsStill {D : Type 0} (seen : D → List ℕ) (may_leave : D → List ℕ → Type 0) (moment : D → ℕ)
+    (left_since : D → ℕ → List ℕ → Type 0) (old new : D) : Type 0 where
+  pub same : seen new ≡ seen old
+  pub any_moment : LeavesOnly moment left_since old new (may_leave old)
+
+-- so it does where a journal isn't opened, unless one of its calls failed
+abbrev pub HoldsUnlessFailed : {D : Type 0} → (D → List ℕ) → (D → List ℕ → Type 0) → (D → ℕ) → (D → ℕ → List ℕ → Type 0)
+    → D → OpenError → D → Type 0
+HoldsUnlessFailed seen may_leave moment left_since old (opened.Damaged at) new = HoldsStill seen may_leave moment left_since old new
+HoldsUnlessFailed seen may_leave moment left_since old opened.Disk new = Unit {0}
+HoldsUnlessFailed seen may_leave moment left_since old opened.Memory new = HoldsStill seen may_leave moment left_since old new
 
 -- a crash leaves a journal of the same requests, or one that is damaged at the same place
 abbrev pub SameJournal : Options → List ℕ → List ℕ → Type 0

@@ -1,3 +1,4 @@
 pub mod Errors
 pub mod Keeps
 pub mod Kept
+pub mod Calls

@@ -1,9 +1,11 @@
 //! A request is committed and kept.
 ghost use Rattle.std.specs.Prelude.{◌≡◌, ◌<◌, ◌≤◌, ◌^◌, ◌++◌, ◌∷◌, [], IfOk, IsErrOf, OnErr, OnOk, Some, false, length};
+ghost use Rattle.pol_disk.specs.Calls.{Runs, StopsIn};
 ghost use Rattle.pol_disk.specs.Images.{LeavesOnly};
 ghost use Rattle.pol_history.specs.Machine.{Machine as OneMachine};
 ghost use Rattle.pol_history.specs.declared.machine.Event.TheVariants as step;
 ghost use Rattle.pol_journal.specs.Journal.{IsJournalOrOneMore, asked_in};
+ghost use Rattle.pol_kept.specs.Calls.{calls_of_commit};
 ghost use Rattle.pol_kept.specs.Errors.{answered, loses};
 ghost use Rattle.pol_kept.specs.Keeps.{Commits, IsKept, requests_in};
 ghost use Rattle.pol_machine.specs.Cost.{Costs};
@@ -94,6 +96,8 @@ pub fn commit_over<D: Disk, L: Ledger>(
     // The machine.
     ensures options { options_in machine.new ≡ options_in machine.old }
     ensures machine { (m : OneMachine) → Stands machine.old m → Commits (options_in machine.old) m request machine.new result }
+    ensures accepted { OnOk result (requests_in machine.new ≡ requests_in machine.old ++ request ∷ []) }
+    ensures too_long { 2 ^ 32 ≤ length line.now → IsErrOf result KeptError.Memory }
     ensures cost { Costs (state_in machine.old.repo) (step.Commit request) steps.old steps.new }
 
     // The disk, which is lost where one of its calls failed.
@@ -104,7 +108,10 @@ pub fn commit_over<D: Disk, L: Ledger>(
     // A crash at any moment leaves a journal of the requests before, or of this one more.
     ensures any_moment { LeavesOnly D.moment D.left_since disk.old disk.new (IsJournalOrOneMore (options_in machine.old) (requests_in machine.old) request) }
 
-    // The counts.
+    // The calls, and the counts.
+    ensures calls { OnOk result (Runs D.does D.fails disk.old (calls_of_commit (D.seen disk.old) line.now) disk.new) }
+    ensures stops { IsErrOf result KeptError.Disk
+        → StopsIn D.does D.fails disk.old (calls_of_commit (D.seen disk.old) line.now) disk.new }
     ensures clock { OnOk result (D.clock disk.new ≡ calls_later 4 (D.clock disk.old)) }
     ensures never_falls { D.faults disk.old ≤ D.faults disk.new }
 {

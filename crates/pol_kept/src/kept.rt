@@ -1,11 +1,13 @@
 //! A machine with the disk on which its requests are kept.
-ghost use Rattle.std.specs.Prelude.{◌≡◌, ◌≤◌, ◌↔◌, IfErr, IfOk, IsErrOf, None, OnErr, OnOk, Some, false, length, true};
+ghost use Rattle.std.specs.Prelude.{◌≡◌, ◌≤◌, ◌↔◌, ◌^◌, ◌++◌, ◌∷◌, [], IfErr, IfOk, IsErrOf, None, OnErr, OnOk, Some, false, length, true};
+ghost use Rattle.pol_disk.specs.Calls.{Runs, StopsIn};
 ghost use Rattle.pol_disk.specs.Images.{LeavesOnly};
 ghost use Rattle.pol_history.specs.Machine.{Machine as OneMachine};
 ghost use Rattle.pol_history.specs.declared.machine.Event.TheVariants as step;
 ghost use Rattle.pol_journal.specs.Journal.{IsJournal, IsJournalOrOneMore, asked_in};
+ghost use Rattle.pol_kept.specs.Calls.{StopsOpening, calls_of_commit, calls_of_open};
 ghost use Rattle.pol_kept.specs.Errors.{loses};
-ghost use Rattle.pol_kept.specs.Keeps.{Commits, IsKept, IsOpened, KeepsJournal, TellsDamage, asks_other, is_other, options_of, requests_in};
+ghost use Rattle.pol_kept.specs.Keeps.{Commits, HoldsUnlessFailed, IsKept, IsOpened, KeepsJournal, TellsDamage, asks_other, is_other, options_of, requests_in};
 ghost use Rattle.pol_kept.specs.Kept.{disk_after};
 ghost use Rattle.pol_machine.specs.Cost.{Costs};
 ghost use Rattle.pol_machine.specs.Serial.{LedTo, SaidTo, events_of};
@@ -75,14 +77,19 @@ impl<D: Disk> Kept<D> {
         ensures images { IfOk result (λ kept. IsKept D.seen D.may_leave kept.disk kept.machine) }
         ensures lost { IfOk result (λ kept. kept.lost ≡ false) }
 
-        // On failure.
+        // On failure. The disk holds what it held, unless one of its calls failed.
         ensures damaged { IfErr result (λ closed. TellsDamage (options_of config) (D.seen disk) closed.why) }
         ensures failed { IfErr result (λ closed. closed.why ≡ OpenError.Disk → Rose (D.faults disk) (D.faults closed.disk)) }
+        ensures stays { IfErr result
+            (λ closed. HoldsUnlessFailed D.seen D.may_leave D.moment D.left_since disk closed.why closed.disk) }
 
         // A crash at any moment leaves what it might have left before, or a journal of the same requests.
         ensures any_moment { LeavesOnly D.moment D.left_since disk (disk_after result) (KeepsJournal (options_of config) (D.seen disk) (D.may_leave disk)) }
 
-        // The counts.
+        // The calls, and the counts.
+        ensures calls { IfOk result
+            (λ kept. Runs D.does D.fails disk (calls_of_open (D.seen disk) (length (D.seen kept.disk))) kept.disk) }
+        ensures stops { IfErr result (λ closed. StopsOpening D.does D.fails (D.seen disk) disk closed.why closed.disk) }
         ensures clock { length (D.seen disk) ≤ 1 → IfOk result (λ kept. D.clock kept.disk ≡ calls_later 3 (D.clock disk)) }
         ensures never_falls { D.faults disk ≤ D.faults (disk_after result) }
     {
@@ -122,6 +129,8 @@ impl<D: Disk> Kept<D> {
         // The machine.
         ensures options { options_in self.new.machine ≡ options_in self.old.machine }
         ensures machine { (m : OneMachine) → Stands self.old.machine m → Commits (options_in self.old.machine) m request self.new.machine result }
+        ensures accepted { OnOk result (requests_in self.new.machine ≡ requests_in self.old.machine ++ request ∷ []) }
+        ensures too_long { 2 ^ 32 ≤ length line.now → IsErrOf result KeptError.Memory }
         ensures cost { Costs (state_in self.old.machine.repo) (step.Commit request) steps.old steps.new }
 
         // The disk, which is lost where one of its calls failed.
@@ -134,7 +143,11 @@ impl<D: Disk> Kept<D> {
         ensures any_moment { LeavesOnly D.moment D.left_since self.old.disk self.new.disk
             (IsJournalOrOneMore (options_in self.old.machine) (requests_in self.old.machine) request) }
 
-        // The counts.
+        // The calls, and the counts.
+        ensures calls { OnOk result
+            (Runs D.does D.fails self.old.disk (calls_of_commit (D.seen self.old.disk) line.now) self.new.disk) }
+        ensures stops { IsErrOf result KeptError.Disk
+            → StopsIn D.does D.fails self.old.disk (calls_of_commit (D.seen self.old.disk) line.now) self.new.disk }
         ensures clock { OnOk result (D.clock self.new.disk ≡ calls_later 4 (D.clock self.old.disk)) }
         ensures never_falls { D.faults self.old.disk ≤ D.faults self.new.disk }
     {

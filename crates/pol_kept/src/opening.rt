@@ -1,11 +1,13 @@
 //! A journal is opened.
-ghost use Rattle.std.specs.Prelude.{◌≡◌, ◌<◌, ◌≤◌, Err, IfErr, IfOk, IsErr, IsErrOf, OnErr, OnOk, length};
+ghost use Rattle.std.specs.Prelude.{◌≡◌, ◌<◌, ◌≤◌, ◌∷◌, ℕ, [], Err, IfErr, IfOk, IsErr, IsErrOf, OnErr, OnOk, length};
+ghost use Rattle.pol_disk.specs.Calls.{Cuts, Makes, Reads, Runs, Syncs};
 ghost use Rattle.pol_disk.specs.Images.{LeavesOnly, Only};
 ghost use Rattle.pol_history.specs.Machine.{machine_start};
 ghost use Rattle.pol_journal.specs.Journal.{IsJournal};
-ghost use Rattle.pol_kept.specs.Keeps.{IsKept, IsOpened, KeepsJournal, SameJournal, TellsDamage, options_of, requests_in};
+ghost use Rattle.pol_kept.specs.Calls.{FailsToOpen, StopsOpening, calls_of_open, calls_of_synced};
+ghost use Rattle.pol_kept.specs.Keeps.{HoldsUnlessFailed, IsKept, IsOpened, KeepsJournal, SameJournal, TellsDamage, options_of, requests_in};
 ghost use Rattle.pol_machine.specs.Stands.{Stands, options_in};
-ghost use Rattle.pol_record_log.specs.Steps.{calls_later};
+ghost use Rattle.pol_record_log.specs.Steps.{calls_later, calls_of_start};
 ghost use Rattle.pol_streams.specs.Faults.{Rose};
 
 use crate::config::KeptConfig;
@@ -27,6 +29,7 @@ fn open_short<D: Disk>(disk: &mut D, machine: &Machine) -> Result<(), OpenError>
     ensures disk { OnErr result (result ≡ Err OpenError.Disk) }
     ensures failed { IsErr result → Rose (D.faults disk.old) (D.faults disk.new) }
     ensures any_moment { LeavesOnly D.moment D.left_since disk.old disk.new (SameJournal (options_in machine.now) (D.seen disk.old)) }
+    ensures calls { Makes D.does D.fails calls_of_start disk.old result disk.new }
     ensures clock { OnOk result (D.clock disk.new ≡ calls_later 2 (D.clock disk.old)) }
     ensures never_falls { D.faults disk.old ≤ D.faults disk.new }
 {
@@ -55,6 +58,9 @@ fn open_bytes<D: Disk>(
     ensures damaged { IfErr result (TellsDamage (options_in machine.old) (D.seen disk.old)) }
     ensures failed { IsErrOf result OpenError.Disk → Rose (D.faults disk.old) (D.faults disk.new) }
     ensures any_moment { LeavesOnly D.moment D.left_since disk.old disk.new (SameJournal (options_in machine.old) (D.seen disk.old)) }
+    ensures calls { OnOk result (Runs D.does D.fails disk.old (Cuts (length (D.seen disk.new)) ∷ Syncs ∷ []) disk.new) }
+    ensures stops { IfErr result (λ why. FailsToOpen D.does D.fails [] (λ end. Cuts end ∷ Syncs ∷ []) disk.old why disk.new) }
+    ensures stays { IfErr result (λ why. HoldsUnlessFailed D.seen D.may_leave D.moment D.left_since disk.old why disk.new) }
     ensures never_falls { D.faults disk.old ≤ D.faults disk.new }
 {
     match replay(alloc, machine, bytes) {
@@ -77,6 +83,11 @@ fn open_long<D: Disk>(alloc: Global, disk: &mut D, machine: &mut Machine) -> Res
     ensures damaged { IfErr result (TellsDamage (options_in machine.old) (D.seen disk.old)) }
     ensures failed { IsErrOf result OpenError.Disk → Rose (D.faults disk.old) (D.faults disk.new) }
     ensures any_moment { LeavesOnly D.moment D.left_since disk.old disk.new (SameJournal (options_in machine.old) (D.seen disk.old)) }
+    ensures calls { OnOk result (Runs D.does D.fails disk.old
+        (Reads 0 (length (D.seen disk.old)) ∷ Cuts (length (D.seen disk.new)) ∷ Syncs ∷ []) disk.new) }
+    ensures stops { IfErr result (λ why. FailsToOpen D.does D.fails (Reads 0 (length (D.seen disk.old)) ∷ [])
+        (λ end. Reads 0 (length (D.seen disk.old)) ∷ Cuts end ∷ Syncs ∷ []) disk.old why disk.new) }
+    ensures stays { IfErr result (λ why. HoldsUnlessFailed D.seen D.may_leave D.moment D.left_since disk.old why disk.new) }
     ensures never_falls { D.faults disk.old ≤ D.faults disk.new }
 {
     match read_bytes(alloc, disk) {
@@ -96,6 +107,11 @@ fn open_synced<D: Disk>(alloc: Global, disk: &mut D, machine: &mut Machine) -> R
     ensures damaged { IfErr result (TellsDamage (options_in machine.old) (D.seen disk.old)) }
     ensures failed { IsErrOf result OpenError.Disk → Rose (D.faults disk.old) (D.faults disk.new) }
     ensures any_moment { LeavesOnly D.moment D.left_since disk.old disk.new (SameJournal (options_in machine.old) (D.seen disk.old)) }
+    ensures calls { OnOk result
+        (Runs D.does D.fails disk.old (calls_of_synced (D.seen disk.old) (length (D.seen disk.new))) disk.new) }
+    ensures stops { IfErr result (λ why. FailsToOpen D.does D.fails (Reads 0 (length (D.seen disk.old)) ∷ [])
+        (calls_of_synced (D.seen disk.old)) disk.old why disk.new) }
+    ensures stays { IfErr result (λ why. HoldsUnlessFailed D.seen D.may_leave D.moment D.left_since disk.old why disk.new) }
     ensures clock { length (D.seen disk.old) ≤ 1 → OnOk result (D.clock disk.new ≡ calls_later 2 (D.clock disk.old)) }
     ensures never_falls { D.faults disk.old ≤ D.faults disk.new }
 {
@@ -119,6 +135,10 @@ fn open_with<D: Disk>(
     ensures damaged { IfErr result (TellsDamage (options_in machine) (D.seen disk.old)) }
     ensures failed { IsErrOf result OpenError.Disk → Rose (D.faults disk.old) (D.faults disk.new) }
     ensures any_moment { LeavesOnly D.moment D.left_since disk.old disk.new (KeepsJournal (options_in machine) (D.seen disk.old) (D.may_leave disk.old)) }
+    ensures calls { OnOk result
+        (Runs D.does D.fails disk.old (calls_of_open (D.seen disk.old) (length (D.seen disk.new))) disk.new) }
+    ensures stops { IfErr result (λ why. StopsOpening D.does D.fails (D.seen disk.old) disk.old why disk.new) }
+    ensures stays { IfErr result (λ why. HoldsUnlessFailed D.seen D.may_leave D.moment D.left_since disk.old why disk.new) }
     ensures clock { length (D.seen disk.old) ≤ 1 → OnOk result (D.clock disk.new ≡ calls_later 3 (D.clock disk.old)) }
     ensures never_falls { D.faults disk.old ≤ D.faults disk.new }
 {
@@ -149,14 +169,18 @@ pub fn open_over<D: Disk>(
     ensures journal { IfOk result (λ machine. IsJournal (options_of config) (requests_in machine) (D.seen disk.old)) }
     ensures kept { IfOk result (λ machine. IsKept D.seen D.may_leave disk.new machine) }
 
-    // On failure.
+    // On failure. The disk holds what it held, unless one of its calls failed.
     ensures damaged { IfErr result (TellsDamage (options_of config) (D.seen disk.old)) }
     ensures failed { IsErrOf result OpenError.Disk → Rose (D.faults disk.old) (D.faults disk.new) }
+    ensures stays { IfErr result (λ why. HoldsUnlessFailed D.seen D.may_leave D.moment D.left_since disk.old why disk.new) }
 
     // A crash at any moment leaves what it might have left before, or a journal of the same requests.
     ensures any_moment { LeavesOnly D.moment D.left_since disk.old disk.new (KeepsJournal (options_of config) (D.seen disk.old) (D.may_leave disk.old)) }
 
-    // The counts.
+    // The calls, and the counts.
+    ensures calls { OnOk result
+        (Runs D.does D.fails disk.old (calls_of_open (D.seen disk.old) (length (D.seen disk.new))) disk.new) }
+    ensures stops { IfErr result (λ why. StopsOpening D.does D.fails (D.seen disk.old) disk.old why disk.new) }
     ensures clock { length (D.seen disk.old) ≤ 1 → OnOk result (D.clock disk.new ≡ calls_later 3 (D.clock disk.old)) }
     ensures never_falls { D.faults disk.old ≤ D.faults disk.new }
 {

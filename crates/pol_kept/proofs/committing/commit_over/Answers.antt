@@ -4,6 +4,7 @@ use Rattle.pol_disk.proofs.Moments.{widened}
 use Rattle.pol_journal.specs.Journal.{IsJournalOrOneMore}
 use Rattle.pol_kept.specs.Keeps.{requests_in}
 use Rattle.pol_kept.proofs.Disks.{kept_more, kept_still, untouched, while_written}
+use Rattle.pol_kept.proofs.Machines.{committed}
 use Rattle.pol_machine.specs.Stands.{options_in}
 use Rattle.pol_record_log.specs.Records.{record_of}
 use Rattle.pol_record_log.specs.Steps.{IsAppended, IsOnDisk, before_gate}
@@ -62,3 +63,10 @@ returns-in-Ok-clause-kept g c = λ other.
     let stands = c.requires.kept.stands.stands in
     kept_still d.seen d.may_leave c.args.disk.now c.args.machine.now c.step.new.machine m c.args.request c.in-Err-step.why c.requires.kept stands c.step.ensures.options other
     (c.in-Err-step.ensures.machine m stands)
+
+pub returns-in-Ok-append-clause-accepted : goal.returns-in-Ok-append-clause-accepted
+returns-in-Ok-append-clause-accepted g c =
+    let old = c.args.machine.now in
+    let m = c.requires.kept.stands.machine in
+    let stands = c.requires.kept.stands.stands in
+    (committed (options_in old) m c.args.request old stands c.step.new.machine c.in-Ok-step.done (c.in-Ok-step.ensures.machine m stands)).requests_are

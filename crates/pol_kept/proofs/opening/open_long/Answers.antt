@@ -1,8 +1,12 @@
-use Rattle.std.proofs.Common.{◌<◌, ℕ, List, length, sym, ◌∙◌, subst}
+use Rattle.std.proofs.Common.{◌<◌, ℕ, List, [], ◌∷◌, length, sym, ◌∙◌, subst}
+use Rattle.std.proofs.lemmas.Result.{IfErr-weaker}
 use Rattle.pol_disk.proofs.Moments.{joined, widened}
 use Rattle.pol_kept.specs.Keeps.{SameJournal}
 use Rattle.pol_kept.proofs.Openings.{left_same}
 use Rattle.pol_machine.specs.Stands.{options_in}
+use Rattle.pol_disk.specs.Calls.{Cuts, Reads, Syncs}
+use Rattle.pol_kept.specs.Calls.{FailsToOpen}
+use Rattle.pol_kept.proofs.Plans.{fails_behind}
 use Rattle.pol_kept.proofs.opening.open_long.Goals as goal
 
 pub open_bytes-requires-clause-bytes : goal.open_bytes-requires-clause-bytes
@@ -41,3 +45,14 @@ returns-in-Err-Memory-clause-any_moment g c =
     let old = d.seen c.args.disk.now in
     widened d.moment d.left_since c.args.disk.now c.read_bytes.new.disk (d.may_leave c.args.disk.now) (SameJournal options old) c.read_bytes.ensures.any_moment
     (left_same d.may_leave options old c.args.disk.now c.requires.settled)
+
+pub returns-in-Ok-clause-stops : goal.returns-in-Ok-clause-stops
+returns-in-Ok-clause-stops g c =
+    let d = g.D.Disk in
+    let all = length (d.seen c.args.disk.now) in
+    let last = c.open_bytes.new.disk in
+    IfErr-weaker c.open_bytes.result
+    (λ why. FailsToOpen d.does d.fails [] (λ end. Cuts end ∷ Syncs ∷ []) c.read_bytes.new.disk why last)
+    (λ why. FailsToOpen d.does d.fails (Reads 0 all ∷ []) (λ end. Reads 0 all ∷ Cuts end ∷ Syncs ∷ []) c.args.disk.now why last)
+    (λ why. fails_behind d.does d.fails (Reads 0 all) [] (λ end. Cuts end ∷ Syncs ∷ []) why c.args.disk.now c.read_bytes.new.disk last c.in-Ok.ensures.calls)
+    c.open_bytes.ensures.stops
