@@ -4,6 +4,7 @@ use Rattle.std.specs.Io.KnownBytes.{Appends, Keeps}
 use Rattle.pol_answer.specs.Text.{texts_of}
 use Rattle.pol_answer.specs.declared.answer.Answer.{Answer}
 use Rattle.pol_journal.specs.Journal.{IsJournalOrOneMore, journal_of}
+use Rattle.pol_kept.specs.Keeps.{HoldsStill}
 use Rattle.pol_model.specs.Fault.{fault_of}
 use Rattle.pol_model.specs.declared.options.Options.{Options}
 use Rattle.pol_model.specs.declared.request.Request.{Request}
@@ -86,6 +87,13 @@ abbrev pub TellsGate : Options → List ℕ → ScriptError → Type 0
 TellsGate options bytes (error.Damaged at) = journal_of options bytes ≡ Err at
 TellsGate options bytes error.Disk = ⊤
 TellsGate options bytes error.Memory = ⊤
+
+-- then the disk holds what it held
+abbrev pub HoldsAtGate : {D : Type 0} → (D → List ℕ) → (D → List ℕ → Type 0) → (D → ℕ) → (D → ℕ → List ℕ → Type 0)
+    → D → ScriptError → D → Type 0
+HoldsAtGate seen may_leave moment left_since old (error.Damaged at) new = HoldsStill seen may_leave moment left_since old new
+HoldsAtGate seen may_leave moment left_since old error.Disk new = ⊤
+HoldsAtGate seen may_leave moment left_since old error.Memory new = ⊤
 
 -- they are a journal
 pub record IsSomeJournal (options : Options) (bytes : List ℕ) : Type 0 where

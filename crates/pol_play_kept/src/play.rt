@@ -2,7 +2,7 @@
 ghost use Rattle.std.specs.Prelude.{◌≡◌, ◌≤◌, ◌⊎◌, List, IfSome, IsSomeAnd, IsTrue, None, false, if◌then◌else◌, map, string_bytes, true};
 ghost use Rattle.std.specs.Io.KnownBytes.{Appends, IsAtEnd, Keeps};
 ghost use Rattle.pol_disk.specs.Images.{LeavesOnly};
-ghost use Rattle.pol_kept.specs.Keeps.{options_of};
+ghost use Rattle.pol_kept.specs.Keeps.{HoldsStill, options_of};
 ghost use Rattle.pol_model.specs.declared.request.Request.{Request as AnyRequest};
 ghost use Rattle.pol_play_kept.specs.Images.{AllAre, IsJournalWithin};
 ghost use Rattle.pol_play_kept.specs.Played.{IsDamaged, IsPlayed, IsSomeJournal};
@@ -97,6 +97,7 @@ fn play_bytes<K: Sink, D: Disk>(
     ensures damaged { result ≡ Status.Damaged → IsDamaged options (D.seen disk.old) }
     ensures journal { IsTrue (has_opened result) → IsSomeJournal options (D.seen disk.old) }
     ensures silent { IsTrue (is_silent result) → Keeps (K.written sink.old) (K.written sink.new) }
+    ensures damaged_stays { result ≡ Status.Damaged → HoldsStill D.seen D.may_leave D.moment D.left_since disk.old disk.new }
     ensures never_falls { D.faults disk.old ≤ D.faults disk.new }
 {
     let config = config_of(options);
@@ -139,6 +140,7 @@ fn play_source<S: Source, K: Sink, D: Disk>(
     ensures at_end { IsTrue (has_read_all result) → IsAtEnd (S.left source.new) }
     ensures silent { IsTrue (is_silent result) → Keeps (K.written sink.old) (K.written sink.new) }
     ensures untouched { (result ≡ Status.Read) ⊎ (result ≡ Status.TooLong) → disk.new ≡ disk.old }
+    ensures damaged_stays { result ≡ Status.Damaged → HoldsStill D.seen D.may_leave D.moment D.left_since disk.old disk.new }
     ensures never_falls { D.faults disk.old ≤ D.faults disk.new }
 {
     match read_script_bytes(alloc, source) {
@@ -195,6 +197,8 @@ pub fn play_kept<S: Source, K: Sink, D: Disk>(
     ensures at_end { IsTrue (has_read_all result) → IsAtEnd (S.left source.new) }
     ensures silent { IsTrue (is_silent result) → Keeps (K.written sink.old) (K.written sink.new) }
     ensures untouched { (result ≡ Status.Usage) ⊎ ((result ≡ Status.Read) ⊎ (result ≡ Status.TooLong)) → disk.new ≡ disk.old }
+    ensures misfit_untouched { plays_with (map string_bytes words.now) ≡ None → disk.new ≡ disk.old }
+    ensures damaged_stays { result ≡ Status.Damaged → HoldsStill D.seen D.may_leave D.moment D.left_since disk.old disk.new }
     ensures never_falls { D.faults disk.old ≤ D.faults disk.new }
 {
     match read_words(alloc, words) {

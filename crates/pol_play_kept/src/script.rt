@@ -5,7 +5,7 @@ ghost use Rattle.pol_kept.specs.Keeps.{IsKept, options_of, requests_in};
 ghost use Rattle.pol_machine.specs.Stands.{Stands, options_in};
 ghost use Rattle.pol_model.specs.declared.request.Request.{Request as AnyRequest};
 ghost use Rattle.pol_play_kept.specs.Images.{AllAre, IsJournalWithin};
-ghost use Rattle.pol_play_kept.specs.Played.{IsSomeJournal, IsWhole, StopsAt, TellsGate};
+ghost use Rattle.pol_play_kept.specs.Played.{HoldsAtGate, IsSomeJournal, IsWhole, StopsAt, TellsGate};
 ghost use Rattle.pol_run.specs.Run.{readings_of};
 ghost use Rattle.pol_serial_run.specs.Accepted.{accepted};
 ghost use Rattle.pol_serial_run.specs.SerialRun.{machine_of};
@@ -115,9 +115,10 @@ pub fn play_script<D: Disk>(
     ensures any_moment { (start : List AnyRequest) → AllAre (options_of config) start (D.may_leave disk.old)
         → LeavesOnly D.moment D.left_since disk.old disk.new (IsJournalWithin (options_of config) start (accepted (options_of config) start (readings_of script.now))) }
 
-    // Which bytes are opened.
+    // Which bytes are opened. A damaged journal stays as it was.
     ensures journal { OnOk result (IsSomeJournal (options_of config) (D.seen disk.old)) }
     ensures damaged { IfErr result (TellsGate (options_of config) (D.seen disk.old)) }
+    ensures damaged_stays { IfErr result (λ why. HoldsAtGate D.seen D.may_leave D.moment D.left_since disk.old why disk.new) }
 
     // The disk's faults.
     ensures failed { IsErrOf result ScriptError.Disk → Rose (D.faults disk.old) (D.faults disk.new) }
