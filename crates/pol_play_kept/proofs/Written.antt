@@ -1,5 +1,5 @@
 -- What is written, and the status with it.
-use Rattle.std.proofs.Common.{◌≡◌, ◌⊎◌, inl, inr, ℕ, Bool, true, false, if◌then◌else◌, List, IfSome, IsTrue, Option, None, Some, refl, sym, ap, ◌∙◌, subst}
+use Rattle.std.proofs.Common.{◌≡◌, ◌⊎◌, inl, inr, ℕ, Bool, true, false, if◌then◌else◌, List, [], IfSome, IsTrue, Option, None, Some, refl, sym, ap, ◌∙◌, subst}
 use Rattle.std.specs.Io.KnownBytes.{Appends, Keeps}
 use Rattle.pol_model.specs.declared.options.Options.{Options}
 use Rattle.pol_model.specs.declared.request.Request.{Request}
@@ -8,6 +8,7 @@ use Rattle.pol_status.specs.Ends.{is_answered, status_number}
 use Rattle.pol_status.specs.declared.status.Status.{Status}
 use Rattle.pol_status.specs.declared.status.Status.TheVariants.{Clean, Marked, Usage, Read, Write, Memory, TooLong, Disk, Damaged}
 use Rattle.pol_streams.specs.Bytes.{AppendsPart}
+use Rattle.pol_play_kept.specs.Images.{OfScript}
 use Rattle.pol_play_kept.specs.Played.{IsAllowed, IsPlayed, IsWhole, StopsAt}
 
 -- nothing was written
@@ -60,9 +61,13 @@ pub if_known : (known : Option (List ℕ)) (bytes : List ℕ) (P : List ℕ → 
 if_known None bytes P is holds = tt
 if_known (Some script) bytes P is holds = subst P is holds
 
-pub if_any : (known : Option (List ℕ)) (P : List ℕ → Type 0) → ((script : List ℕ) → P script) → IfSome known P
+pub if_any : {X : Type 0} (known : Option X) (P : X → Type 0) → ((x : X) → P x) → IfSome known P
 if_any None P holds = tt
-if_any (Some script) P holds = holds script
+if_any (Some x) P holds = holds x
+
+pub of_any : (known : Option (List ℕ)) (P : List ℕ → Type 0) → ((script : List ℕ) → P script) → OfScript known P
+of_any None P holds = record { script = []; was_left = tt; holds = holds [] }
+of_any (Some script) P holds = record { script = script; was_left = refl; holds = holds script }
 
 -- the script wasn't read
 pub unread : (options : Options) (start : List Request) (script : List ℕ) (may_leave : List ℕ → Type 0) (known : Option (List ℕ)) (status : Status)

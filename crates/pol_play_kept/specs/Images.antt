@@ -1,5 +1,5 @@
 -- What a crash may leave while a script is played.
-use Rattle.std.specs.Prelude.{◌⊎◌, ℕ, List, ◌++◌}
+use Rattle.std.specs.Prelude.{◌≡◌, ◌⊎◌, ℕ, List, ◌++◌, Option, IfSome}
 use mathlib.Core.List.{IsPrefix}
 use Rattle.pol_journal.specs.Journal.{IsJournal}
 use Rattle.pol_model.specs.declared.options.Options.{Options}
@@ -18,3 +18,9 @@ pub record IsJournalWithin (options : Options) (start accepted : List Request) (
 -- a journal of these requests, or of these with what one line accepts
 abbrev pub IsJournalOrMore : Options → List Request → List Request → List ℕ → Type 0
 IsJournalOrMore options requests more c = IsJournal options requests c ⊎ IsJournal options (requests ++ more) c
+
+-- this holds of the script that was read, which is what was left in the source, where it tells that
+pub record OfScript (left : Option (List ℕ)) (P : List ℕ → Type 0) : Type 0 where
+  pub script : List ℕ
+  pub was_left : IfSome left (λ bytes. script ≡ bytes)
+  pub holds : P script

@@ -4,7 +4,7 @@ ghost use Rattle.std.specs.Io.KnownBytes.{Appends, IsAtEnd, Keeps};
 ghost use Rattle.pol_disk.specs.Images.{LeavesOnly};
 ghost use Rattle.pol_kept.specs.Keeps.{HoldsStill, options_of};
 ghost use Rattle.pol_model.specs.declared.request.Request.{Request as AnyRequest};
-ghost use Rattle.pol_play_kept.specs.Images.{AllAre, IsJournalWithin};
+ghost use Rattle.pol_play_kept.specs.Images.{AllAre, IsJournalWithin, OfScript};
 ghost use Rattle.pol_play_kept.specs.Played.{IsDamaged, IsPlayed, IsSomeJournal};
 ghost use Rattle.pol_play_kept.specs.Words.{playing, plays_with};
 ghost use Rattle.pol_run.specs.Run.{readings_of};
@@ -122,7 +122,7 @@ fn play_source<S: Source, K: Sink, D: Disk>(
     // Where each image was a journal of the same requests.
     ensures played { (start : List AnyRequest) → AllAre options start (D.may_leave disk.old) → IfSome (S.left source.old) (λ script.
         IsPlayed options start script (D.may_leave disk.new) (K.written sink.old) (K.written sink.new) result) }
-    ensures any_moment { (start : List AnyRequest) → AllAre options start (D.may_leave disk.old) → IfSome (S.left source.old) (λ script.
+    ensures any_moment { (start : List AnyRequest) → AllAre options start (D.may_leave disk.old) → OfScript (S.left source.old) (λ script.
         LeavesOnly D.moment D.left_since disk.old disk.new (IsJournalWithin options start (accepted options start (readings_of script)))) }
 
     // Causes.
@@ -166,12 +166,12 @@ pub fn play_kept<S: Source, K: Sink, D: Disk>(
     disk: &mut D,
 ) -> Status
     // Where each image that a crash might leave was a journal of the same requests: what was written and what a crash may leave, by the
-    // status, and at every moment.
+    // status, and at every moment. The moments speak of the script that was read, also where the source doesn't tell its bytes.
     ensures played { IfSome (plays_with (map string_bytes words.now)) (λ options.
         (start : List AnyRequest) → AllAre options start (D.may_leave disk.old) → IfSome (S.left source.old) (λ script.
         IsPlayed options start script (D.may_leave disk.new) (K.written sink.old) (K.written sink.new) result)) }
     ensures any_moment { IfSome (plays_with (map string_bytes words.now)) (λ options.
-        (start : List AnyRequest) → AllAre options start (D.may_leave disk.old) → IfSome (S.left source.old) (λ script.
+        (start : List AnyRequest) → AllAre options start (D.may_leave disk.old) → OfScript (S.left source.old) (λ script.
         LeavesOnly D.moment D.left_since disk.old disk.new (IsJournalWithin options start (accepted options start (readings_of script))))) }
 
     // Causes.
