@@ -9,7 +9,8 @@ use Rattle.pol_history.proofs.Cuts.{commits-append}
 use Rattle.pol_kept.specs.Errors.{answered, is_committed, is_disk}
 use Rattle.pol_kept.specs.declared.error.KeptError.{KeptError}
 use Rattle.pol_kept.specs.declared.error.KeptError.TheVariants as kept
-use Rattle.pol_kept.specs.Keeps.{Commits, CommitsAgain, Replies, machine_of, requests_in}
+use Rattle.pol_kept.specs.Keeps.{Commits, CommitsAgain, Replies, requests_in}
+use Rattle.pol_machine.specs.Serial.{machine_of}
 use Rattle.pol_machine.specs.Stands.{Stands, Stored, options_in}
 use Rattle.pol_model.specs.After.{state_of}
 use Rattle.pol_model.specs.Fault.{fault_of}

@@ -5,11 +5,12 @@ use Rattle.pol_disk.specs.Images.{CutShort, LeavesOnly, Only}
 use Rattle.pol_disk.proofs.Moments.{joined, started, widened}
 use Rattle.pol_history.specs.Machine.{machine_start}
 use Rattle.pol_journal.specs.Journal.{IsJournal, commits, journal_of}
-use Rattle.pol_kept.specs.Keeps.{HoldsStill, HoldsUnlessFailed, IsKept, IsOpened, IsReplayed, SameJournal, machine_of, requests_in}
+use Rattle.pol_kept.specs.Keeps.{HoldsStill, HoldsUnlessFailed, IsKept, IsOpened, IsReplayed, SameJournal, requests_in}
 use Rattle.pol_kept.specs.declared.error.OpenError.{OpenError}
 use Rattle.pol_kept.specs.declared.error.OpenError.TheVariants as opened
 use Rattle.pol_kept.proofs.Disks.{on_disk}
 use Rattle.pol_kept.proofs.Records.{closed_kept, ended, kept_journal}
+use Rattle.pol_machine.specs.Serial.{machine_of}
 use Rattle.pol_machine.specs.Stands.{Stands, Stored, options_in}
 use Rattle.pol_model.specs.After.{start}
 use Rattle.pol_model.specs.declared.options.Options.{Options}

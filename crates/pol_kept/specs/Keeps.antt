@@ -1,17 +1,18 @@
 -- A machine and the disk with its journal.
-use Rattle.std.specs.Prelude.{◌≡◌, ◌⊎◌, ℕ, ◌<◌, Bool, false, true, List, [], ◌∷◌, ◌++◌, length, map, take, None, Some, is_some, Result, Ok, Err}
+use Rattle.std.specs.Prelude.{◌≡◌, ◌⊎◌, ℕ, ◌<◌, Bool, false, true, List, [], ◌∷◌, ◌++◌, length, take, None, Some, is_some, Result, Ok, Err}
 use Rattle.pol_disk.specs.Images.{LeavesOnly, Only}
 use Rattle.pol_history.specs.declared.machine.Event.{Event}
 use Rattle.pol_history.specs.declared.machine.Event.TheVariants as step
 use Rattle.pol_history.specs.declared.machine.Reply.{Reply}
 use Rattle.pol_history.specs.declared.machine.Reply.TheVariants as reply
-use Rattle.pol_history.specs.Machine.{Machine, machine_after, step_of}
+use Rattle.pol_history.specs.Machine.{Machine, step_of}
 use Rattle.pol_journal.specs.Journal.{commits, journal_of}
 use Rattle.pol_kept.specs.declared.config.KeptConfig.{KeptConfig}
 use Rattle.pol_kept.specs.declared.error.KeptError.{KeptError}
 use Rattle.pol_kept.specs.declared.error.KeptError.TheVariants as kept
 use Rattle.pol_kept.specs.declared.error.OpenError.{OpenError}
 use Rattle.pol_kept.specs.declared.error.OpenError.TheVariants as opened
+use Rattle.pol_machine.specs.Serial.{machine_of}
 use Rattle.pol_machine.specs.declared.asked.Asked.{Asked}
 use Rattle.pol_machine.specs.declared.asked.Asked.TheVariants as question
 use Rattle.pol_machine.specs.Stands.{Stands, StandsForSome, Stored, kept_of, options_in}
@@ -29,10 +30,6 @@ options_of config = record { mode = config.mode; localhost = config.localhost; m
 -- the requests that the machine has committed
 abbrev pub requests_in : Stored → List Request
 requests_in s = s.repo.journal
-
--- the machine that committed these requests, one after another, and did nothing else
-abbrev pub machine_of : Options → List Request → Machine
-machine_of options requests = machine_after options (map step.Commit requests)
 
 -- Between two calls: the machine stands for one of the definitions, the bytes on the disk are the records of its requests and a
 -- closed gate behind them, and a crash leaves nothing else.

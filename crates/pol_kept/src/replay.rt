@@ -1,7 +1,8 @@
 //! The requests of a journal are committed one after another.
 ghost use Rattle.std.specs.Prelude.{◌≡◌, ◌≢◌, ◌+◌, ◌<◌, IfErr, IfOk, IsErrOf, drop, length, slice_index};
 ghost use Rattle.pol_kept.specs.Errors.{is_committed};
-ghost use Rattle.pol_kept.specs.Keeps.{CommitsAgain, IsReplayed, TellsDamage, machine_of, requests_in};
+ghost use Rattle.pol_kept.specs.Keeps.{CommitsAgain, IsReplayed, TellsDamage, requests_in};
+ghost use Rattle.pol_machine.specs.Serial.{machine_of};
 ghost use Rattle.pol_machine.specs.Stands.{Stands, options_in};
 
 use crate::error::OpenError;

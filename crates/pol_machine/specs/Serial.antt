@@ -1,5 +1,5 @@
 -- The serial run: what one session asks, one after another, and what the machine answers to it.
-use Rattle.std.specs.Prelude.{◌≡◌, ⊤, ℕ, List, [], ◌∷◌, Option, None, Some, Result, Ok, Err}
+use Rattle.std.specs.Prelude.{◌≡◌, ⊤, ℕ, List, [], ◌∷◌, map, Option, None, Some, Result, Ok, Err}
 use Rattle.std.specs.List.{filter_map, flat_map}
 use Rattle.std.specs.List.Sorted.{IsPermutation}
 use mathlib.Core.List.{IsPrefix}
@@ -10,13 +10,14 @@ use Rattle.pol_history.specs.declared.machine.Event.{Event}
 use Rattle.pol_history.specs.declared.machine.Event.TheVariants as step
 use Rattle.pol_history.specs.declared.machine.Reply.TheVariants as reply
 use Rattle.pol_history.specs.Commits.{revision_of, state_now}
-use Rattle.pol_history.specs.Machine.{Machine, endpoint_id, machine_from, step_of}
+use Rattle.pol_history.specs.Machine.{Machine, endpoint_id, machine_after, machine_from, step_of}
 use Rattle.pol_history.specs.Reports.{last_report, size_at}
 use Rattle.pol_model.specs.Explain.{explain_of}
 use Rattle.pol_model.specs.declared.answer.FullSlot.{FullSlot}
 use Rattle.pol_model.specs.declared.answer.Trace.{Trace}
 use Rattle.pol_model.specs.declared.options.Options.{Options}
 use Rattle.pol_model.specs.declared.request.Query.{Query}
+use Rattle.pol_model.specs.declared.request.Request.{Request}
 use Rattle.pol_model.specs.declared.row.Endpoint.{Endpoint}
 use Rattle.pol_model.specs.FullRows.{FullRowsAscend}
 use Rattle.pol_machine.specs.Full.{row_told}
@@ -92,6 +93,12 @@ IsSaid options m (Explain query) said = IsExplained options m.history query (exp
 abbrev pub SaidTo : {E : Type 0} → Options → Machine → Asked → Result SerialAnswer E → Type 0
 SaidTo options m asked (Ok said) = IsSaid options m asked said
 SaidTo options m asked (Err error) = ⊤
+
+-- ---- after requests
+
+-- the machine that committed these requests, one after another, and did nothing else
+abbrev pub machine_of : Options → List Request → Machine
+machine_of options requests = machine_after options (map step.Commit requests)
 
 -- ---- what is left after want of memory
 

@@ -11,6 +11,7 @@ use Rattle.pol_history.specs.Commits.{commits_in, state_now}
 use Rattle.pol_history.specs.Machine.{Machine}
 use Rattle.pol_journal.specs.Journal.{IsJournalOrOneMore}
 use Rattle.pol_kept.specs.Keeps.{IsKept, requests_in}
+use Rattle.pol_machine.specs.Serial.{machine_of}
 use Rattle.pol_machine.specs.Stands.{Stands, Stored, options_in}
 use Rattle.pol_model.specs.declared.options.Options.{Options}
 use Rattle.pol_model.specs.declared.request.Request.{Request}
@@ -20,7 +21,7 @@ use Rattle.pol_script.specs.Lines.{lines_of}
 use Rattle.pol_script.specs.declared.command.Command.TheVariants as command
 use Rattle.pol_script.specs.Reading.{reading_of}
 use Rattle.pol_serial_run.specs.Accepted.{accepted, accepted_by, accepted_from}
-use Rattle.pol_serial_run.specs.SerialRun.{IsLineAnswer, machine_after_lines, machine_of, machine_then, phase_after_lines}
+use Rattle.pol_serial_run.specs.SerialRun.{IsLineAnswer, machine_after_lines, machine_then, phase_after_lines}
 use Rattle.pol_serial_run.proofs.Going.{accepted_both, accepted_more, commits_after, machine_more, phase_more, serial_more}
 use Rattle.pol_play_kept.specs.Images.{IsJournalOrMore, IsJournalWithin}
 use Rattle.pol_play_kept.specs.Answering.{IsAccepted, IsAnswered, IsSoFar, PlaysLine, StopsHere, phase_told}

@@ -7,13 +7,13 @@ use Rattle.pol_history.specs.Commits.{commits_in}
 use Rattle.pol_journal.specs.Journal.{IsJournal, journal_of}
 use Rattle.pol_kept.specs.Keeps.{IsKept, IsOpened, KeepsJournal, requests_in}
 use Rattle.pol_kept.proofs.Disks.{kept_images}
+use Rattle.pol_machine.specs.Serial.{machine_of}
 use Rattle.pol_machine.specs.Stands.{Stands, Stored, options_in}
 use Rattle.pol_model.specs.declared.options.Options.{Options}
 use Rattle.pol_model.specs.declared.request.Request.{Request}
 use Rattle.pol_run.specs.Run.{is_marked, status_of}
 use Rattle.pol_run.specs.Spots.{Reading}
 use Rattle.pol_serial_run.specs.Accepted.{accepted}
-use Rattle.pol_serial_run.specs.SerialRun.{machine_of}
 use Rattle.pol_play_kept.specs.Answering.{IsSoFar}
 use Rattle.pol_play_kept.specs.Images.{AllAre, IsJournalWithin}
 use Rattle.pol_play_kept.specs.Played.{IsWhole, StopsAt}

@@ -8,6 +8,7 @@ use Rattle.pol_journal.specs.Journal.{IsJournal}
 use Rattle.pol_kept.specs.Keeps.{IsKept, requests_in}
 use Rattle.pol_history.specs.Machine.{Machine}
 use Rattle.pol_kept.proofs.Disks.{kept_images}
+use Rattle.pol_machine.specs.Serial.{machine_of}
 use Rattle.pol_machine.specs.Stands.{Stored, options_in}
 use Rattle.pol_model.specs.declared.options.Options.{Options}
 use Rattle.pol_model.specs.declared.request.Request.{Request}
@@ -16,7 +17,7 @@ use Rattle.pol_run.specs.Spots.{Reading}
 use Rattle.pol_script.specs.Lines.{lines_of}
 use Rattle.pol_script.specs.Reading.{reading_of}
 use Rattle.pol_serial_run.specs.Accepted.{accepted, accepted_by, accepted_from}
-use Rattle.pol_serial_run.specs.SerialRun.{machine_after_lines, machine_of, machine_then, phase_after_lines}
+use Rattle.pol_serial_run.specs.SerialRun.{machine_after_lines, machine_then, phase_after_lines}
 use Rattle.pol_serial_run.proofs.Going.{accepted_both}
 use Rattle.pol_status.specs.Limits.{fits_limits, input_max}
 use Rattle.pol_play_kept.specs.Answering.{IsSoFar, StopsHere}

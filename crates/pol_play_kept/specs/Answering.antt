@@ -9,6 +9,7 @@ use Rattle.pol_history.specs.Commits.{commits_in, state_now}
 use Rattle.pol_history.specs.Machine.{Machine}
 use Rattle.pol_journal.specs.Journal.{IsJournalOrOneMore}
 use Rattle.pol_kept.specs.Keeps.{IsKept, requests_in}
+use Rattle.pol_machine.specs.Serial.{machine_of}
 use Rattle.pol_machine.specs.Stands.{Stands, Stored, options_in}
 use Rattle.pol_model.specs.Fault.{fault_of}
 use Rattle.pol_model.specs.declared.options.Options.{Options}
@@ -17,7 +18,7 @@ use Rattle.pol_run.specs.Run.{is_marked}
 use Rattle.pol_run.specs.Spots.{Reading}
 use Rattle.pol_script.specs.declared.command.Command.TheVariants as command
 use Rattle.pol_serial_run.specs.Accepted.{accepted, accepted_by}
-use Rattle.pol_serial_run.specs.SerialRun.{IsLineAnswer, IsSerial, machine_after_lines, machine_of, machine_then, phase_after_lines}
+use Rattle.pol_serial_run.specs.SerialRun.{IsLineAnswer, IsSerial, machine_after_lines, machine_then, phase_after_lines}
 use Rattle.pol_play_kept.specs.Images.{IsJournalOrMore}
 use Rattle.pol_play_kept.specs.declared.line.Stopped.{Stopped}
 use Rattle.pol_play_kept.specs.declared.line.Stopped.TheVariants.{Disk as DiskFailed}

@@ -5,6 +5,7 @@ use Rattle.pol_answer.specs.Text.{texts_of}
 use Rattle.pol_answer.specs.declared.answer.Answer.{Answer}
 use Rattle.pol_journal.specs.Journal.{IsJournalOrOneMore, journal_of}
 use Rattle.pol_kept.specs.Keeps.{HoldsStill}
+use Rattle.pol_machine.specs.Serial.{machine_of}
 use Rattle.pol_model.specs.Fault.{fault_of}
 use Rattle.pol_model.specs.declared.options.Options.{Options}
 use Rattle.pol_model.specs.declared.request.Request.{Request}
@@ -12,7 +13,7 @@ use Rattle.pol_run.specs.Run.{readings_of, status_of}
 use Rattle.pol_run.specs.Spots.{Reading}
 use Rattle.pol_script.specs.declared.command.Command.TheVariants as command
 use Rattle.pol_serial_run.specs.Accepted.{accepted}
-use Rattle.pol_serial_run.specs.SerialRun.{IsSerial, machine_after_lines, machine_of}
+use Rattle.pol_serial_run.specs.SerialRun.{IsSerial, machine_after_lines}
 use Rattle.pol_status.specs.declared.status.Status.{Status}
 use Rattle.pol_status.specs.declared.status.Status.TheVariants.{Clean, Marked, Usage, Read, Write, Memory, TooLong, Disk, Damaged}
 use Rattle.pol_streams.specs.Bytes.{AppendsPart}

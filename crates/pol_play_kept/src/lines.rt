@@ -2,6 +2,7 @@
 ghost use Rattle.std.specs.Prelude.{◌≡◌, ◌++◌, ◌-◌, ◌^◌, ◌<◌, ◌≤◌, [], ◌∷◌, List, IfNone, IfSome, IsErrOf, IsTrue, OnOk, false, length};
 ghost use Rattle.pol_disk.specs.Images.{LeavesOnly};
 ghost use Rattle.pol_kept.specs.Keeps.{IsKept, requests_in};
+ghost use Rattle.pol_machine.specs.Serial.{machine_of};
 ghost use Rattle.pol_machine.specs.Stands.{Stands, options_in};
 ghost use Rattle.pol_model.specs.declared.options.Options.{Options as AllOptions};
 ghost use Rattle.pol_model.specs.declared.request.Request.{Request as AnyRequest};
@@ -13,7 +14,7 @@ ghost use Rattle.pol_run.specs.Spots.{Reading as AnyReading};
 ghost use Rattle.pol_script.specs.Lines.{lines_of};
 ghost use Rattle.pol_script.specs.Reading.{reading_of};
 ghost use Rattle.pol_serial_run.specs.Accepted.{accepted, accepted_by};
-ghost use Rattle.pol_serial_run.specs.SerialRun.{machine_after_lines, machine_of};
+ghost use Rattle.pol_serial_run.specs.SerialRun.{machine_after_lines};
 ghost use Rattle.pol_status.specs.Limits.{fits_limits};
 ghost use Rattle.pol_streams.specs.Faults.{Rose};
 

@@ -2,13 +2,13 @@
 ghost use Rattle.std.specs.Prelude.{◌≡◌, ◌≤◌, List, IfErr, IfOk, IsErrOf, IsTrue, OnOk, false, true, if◌then◌else◌};
 ghost use Rattle.pol_disk.specs.Images.{LeavesOnly};
 ghost use Rattle.pol_kept.specs.Keeps.{IsKept, options_of, requests_in};
+ghost use Rattle.pol_machine.specs.Serial.{machine_of};
 ghost use Rattle.pol_machine.specs.Stands.{Stands, options_in};
 ghost use Rattle.pol_model.specs.declared.request.Request.{Request as AnyRequest};
 ghost use Rattle.pol_play_kept.specs.Images.{AllAre, IsJournalWithin};
 ghost use Rattle.pol_play_kept.specs.Played.{HoldsAtGate, IsSomeJournal, IsWhole, StopsAt, TellsGate};
 ghost use Rattle.pol_run.specs.Run.{readings_of};
 ghost use Rattle.pol_serial_run.specs.Accepted.{accepted};
-ghost use Rattle.pol_serial_run.specs.SerialRun.{machine_of};
 ghost use Rattle.pol_status.specs.Limits.{fits_limits};
 ghost use Rattle.pol_streams.specs.Faults.{Rose};
 

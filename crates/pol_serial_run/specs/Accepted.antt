@@ -5,13 +5,14 @@ use Rattle.pol_answer.specs.declared.answer.Answer.{Answer}
 use Rattle.pol_answer.specs.declared.answer.Answer.TheVariants as answer
 use Rattle.pol_history.specs.Commits.{state_now}
 use Rattle.pol_history.specs.Machine.{Machine}
+use Rattle.pol_machine.specs.Serial.{machine_of}
 use Rattle.pol_model.specs.Fault.{fault_of}
 use Rattle.pol_model.specs.declared.answer.Fault.{Fault}
 use Rattle.pol_model.specs.declared.options.Options.{Options}
 use Rattle.pol_model.specs.declared.request.Request.{Request}
 use Rattle.pol_run.specs.Spots.{Reading}
 use Rattle.pol_script.specs.declared.command.Command.TheVariants as command
-use Rattle.pol_serial_run.specs.SerialRun.{machine_of, machine_then}
+use Rattle.pol_serial_run.specs.SerialRun.{machine_then}
 
 -- a request is accepted where it has no fault
 abbrev pub unless_fault : Request → Option Fault → List Request

@@ -1,13 +1,13 @@
 -- **The serial run**: what the lines of a script are answered in one session, one after another, by the pure machine after some
 -- requests ('profile').
-use Rattle.std.specs.Prelude.{◌≡◌, ⊤, ℕ, List, [], ◌∷◌, map, Ok, Err}
+use Rattle.std.specs.Prelude.{◌≡◌, ⊤, ℕ, List, [], ◌∷◌, Ok, Err}
 use Rattle.pol_answer.specs.declared.answer.Answer.{Answer}
 use Rattle.pol_answer.specs.declared.answer.Answer.TheVariants as answer
 use Rattle.pol_history.specs.declared.machine.Event.TheVariants as step
 use Rattle.pol_history.specs.Commits.{revision_of, state_now}
 use Rattle.pol_history.specs.Look.{Looked, NoEndpoint, NotYet, Found, look}
-use Rattle.pol_history.specs.Machine.{Machine, machine_after, step_of}
-use Rattle.pol_machine.specs.Serial.{ListsRows, machine_asked}
+use Rattle.pol_history.specs.Machine.{Machine, step_of}
+use Rattle.pol_machine.specs.Serial.{ListsRows, machine_asked, machine_of}
 use Rattle.pol_machine.specs.declared.asked.Asked.TheVariants.{Sync}
 use Rattle.pol_model.specs.declared.options.Options.{Options}
 use Rattle.pol_model.specs.declared.request.Request.{Request}
@@ -58,10 +58,6 @@ IsSerialFrom options m phase [] (told ∷ answers) = ⊥
 IsSerialFrom options m phase (reading ∷ readings) [] = ⊥
 IsSerialFrom options m phase (reading ∷ readings) (told ∷ answers) =
     IsLineAnswer options m phase reading told × IsSerialFrom options (machine_then options m reading) (phase_after phase reading) readings answers
-
--- the machine that committed these requests, one after another, and did nothing else
-abbrev pub machine_of : Options → List Request → Machine
-machine_of options requests = machine_after options (map step.Commit requests)
 
 -- the answers to the lines of a script, after these requests
 abbrev pub IsSerial : Options → List Request → List Reading → List Answer → Type 0

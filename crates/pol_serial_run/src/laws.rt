@@ -2,11 +2,12 @@
 ghost use Rattle.std.specs.Prelude.{◌≡◌, ◌++◌, List, [], length};
 ghost use Rattle.pol_answer.specs.declared.answer.Answer.{Answer};
 ghost use Rattle.pol_history.specs.Commits.{commits_in};
+ghost use Rattle.pol_machine.specs.Serial.{machine_of};
 ghost use Rattle.pol_model.specs.declared.options.Options.{Options as AllOptions};
 ghost use Rattle.pol_model.specs.declared.request.Request.{Request as AnyRequest};
 ghost use Rattle.pol_run.specs.Spots.{Reading};
 ghost use Rattle.pol_serial_run.specs.Accepted.{accepted, ok_lines};
-ghost use Rattle.pol_serial_run.specs.SerialRun.{IsSerial, machine_after_lines, machine_of};
+ghost use Rattle.pol_serial_run.specs.SerialRun.{IsSerial, machine_after_lines};
 ghost use Rattle.pol_serial_run.specs.Worked as worked;
 
 /// What a small script is answered, and which of its requests are accepted; and what a script is answered that is played after those

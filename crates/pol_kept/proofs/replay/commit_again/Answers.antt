@@ -1,6 +1,7 @@
 use Rattle.std.proofs.Common.{Bool, sym, subst}
-use Rattle.pol_kept.specs.Keeps.{CommitsAgain, machine_of, requests_in}
+use Rattle.pol_kept.specs.Keeps.{CommitsAgain, requests_in}
 use Rattle.pol_kept.proofs.Machines.{one_more}
+use Rattle.pol_machine.specs.Serial.{machine_of}
 use Rattle.pol_machine.specs.Stands.{options_in}
 use Rattle.pol_kept.proofs.replay.commit_again.Goals as goal
 

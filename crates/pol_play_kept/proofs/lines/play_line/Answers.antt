@@ -1,5 +1,6 @@
 use Rattle.std.proofs.Common.{Ok, Err, refl}
-use Rattle.pol_serial_run.specs.SerialRun.{machine_after_lines, machine_of}
+use Rattle.pol_machine.specs.Serial.{machine_of}
+use Rattle.pol_serial_run.specs.SerialRun.{machine_after_lines}
 use Rattle.pol_play_kept.specs.declared.line.Stopped.TheVariants.{Disk as DiskFailed}
 use Rattle.pol_play_kept.proofs.Committing.{same_error}
 use Rattle.pol_play_kept.proofs.Going.{line_moments, one_more, stops_here}

@@ -3,12 +3,12 @@ use Rattle.pol_disk.specs.Images.{LeavesOnly}
 use Rattle.pol_disk.proofs.Moments.{joined}
 use Rattle.pol_kept.specs.Keeps.{TellsDamage, options_of, requests_in}
 use Rattle.pol_kept.specs.declared.error.OpenError.{OpenError}
+use Rattle.pol_machine.specs.Serial.{machine_of}
 use Rattle.pol_machine.specs.Stands.{Stands, options_in}
 use Rattle.pol_model.specs.declared.options.Options.{Options}
 use Rattle.pol_model.specs.declared.request.Request.{Request}
 use Rattle.pol_run.specs.Run.{readings_of}
 use Rattle.pol_serial_run.specs.Accepted.{accepted}
-use Rattle.pol_serial_run.specs.SerialRun.{machine_of}
 use Rattle.pol_play_kept.specs.Images.{IsJournalWithin}
 use Rattle.pol_play_kept.specs.Played.{IsWhole, StopsAt}
 use Rattle.pol_play_kept.proofs.Opened.{as_opened, opened_requests, opening_leaves, opening_moments}

@@ -1,5 +1,5 @@
+use Rattle.pol_machine.specs.Serial.{machine_of}
 use Rattle.pol_serial_run.proofs.Going.{commits_after, ok_as_many}
-use Rattle.pol_serial_run.specs.SerialRun.{machine_of}
 use Rattle.pol_serial_run.proofs.laws.accepted_requests_are_told.Goals as goal
 
 pub returns-clause-as_many : goal.returns-clause-as_many
