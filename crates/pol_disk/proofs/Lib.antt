@@ -2,3 +2,4 @@ pub mod Calls
 mod Keeping
 pub mod Moments
 pub mod Plans
+pub mod Drills

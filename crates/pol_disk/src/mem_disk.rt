@@ -100,6 +100,13 @@ impl MemDisk {
         self.starved
     }
 
+    /// How many calls of `read`, `write_at`, `cut` and `sync` there were. It stands still at the end of a `u64`.
+    pub fn calls(&self) -> u64
+        ensures { result ≡ self.now.calls }
+    {
+        self.calls
+    }
+
     /// The disk after a crash that kept all that was written, or only what a sync had put on it. No call of it fails by its
     /// number, and its counts begin anew. It takes no memory.
     pub fn crash(mut self, keep: bool) -> MemDisk
