@@ -6,6 +6,7 @@ import ast
 import json
 import os
 import pathlib
+import random
 import shutil
 import signal
 import subprocess
@@ -17,8 +18,10 @@ import front_random
 import schema
 from archive import LISTS, Archive, Door, calling, replaced
 from play_checks import told
+from lib import regions
+from lib.addresses import NETWORKS, WORLDS, lies_in
 from recipes_checks import NAMESPACE, PODS, pod, policy
-from wenirako import coarse, drawing, flows, kubectl, listing, progress, resolving, words, writing
+from wenirako import coarse, drawing, flows, halves, kubectl, listing, progress, resolving, words, writing
 from wenirako.report import Report
 
 TOP = compare.TOP
@@ -119,10 +122,30 @@ def a_change_is_held(folder, wrong):
     door, lists = Door(folder), front_random.lines_of_connections
     row = '{"from":{"identity":"g%d"},"to":{"reserved":"host"},"protocol":"UDP","ports":[7,9],"before":"allowed","after":{"egress":"denied-by-rule","ingress":"allowed"}}'
     less, more = "policyd says that shop/cart-5d8b4-t6k9z to pay/ledger-0, TCP 8443-8443, opens, and connections doesn't", "host, UDP 7-9, shuts, and policyd doesn't"
-    for what, other, said in (("a line less", lambda them: [it for it in them if "8443" not in it], less), ("a line more", lambda them: [*them, row % 0], more)):
+    for what, other, said in (
+        ("a line less", lambda them: [it for it in them if "8443" not in it], less),
+        ("a line more", lambda them: [*them, row % 0], more),
+        ("two lines more", lambda them: [*them, row % 2, row % 0], more),
+    ):
         with replaced(Door, has_connections=True), replaced(front_random, lines_of_connections=lambda lines: other(lists(lines))):
             status, out, err = door.call("diff", *STATE, *BOTH)
         told(wrong, what, (status, out, said in err), (70, "", True))
+
+
+def prefixes_are_asked_once(folder, wrong):
+    """What isn't a pod at the other side of a half is listed once, however many of its prefixes change."""
+    door, asked = Door(folder), []
+    plain = halves.Halves.outer
+    entry = {"fromCIDRSet": [{"cidr": f"10.8.{it}.0/24"} for it in range(9)], "toPorts": [{"ports": [{"port": "80", "protocol": "TCP"}]}]}
+    shut = policy("shut", {"endpointSelector": {"matchLabels": {"app": "cart"}}, "ingress": [entry]})
+    words = ["diff", "--state", door.write("state.json", listed(NAMESPACE, *PODS)), "--add", door.write("shut.json", shut)]
+    counted = lambda it, *given, **more: asked.append(given) or plain(it, *given, **more)
+    with replaced(halves.Halves, outer=counted):
+        alone = door.call(*words), len(asked)
+        with replaced(Door, has_connections=True):
+            over = door.call(*words), len(asked) - alone[1]
+    told(wrong, "what changes", over[0], alone[0])
+    told(wrong, "how often more it is listed", over[1] - alone[1], 1)
 
 
 def why_is_told(folder, wrong):
@@ -535,6 +558,21 @@ def forms_are_safe(_, wrong):
     told(wrong, "a comment's size", len(writing.markdown(long)) < 65_536, True)
 
 
+def prefixes_lie_in_each_other(_, wrong):
+    """Which of some prefixes lie in which, and how regions are joined, as every two of them say."""
+    pick = random.Random(1)
+    for _ in range(100):
+        made = {NETWORKS[4]((pick.randrange(16) << 28, pick.randrange(5)), strict=False) for _ in range(pick.randrange(9))}
+        made |= {NETWORKS[6]((pick.randrange(8) << 125, pick.randrange(4)), strict=False) for _ in range(pick.randrange(5))}
+        prefixes = frozenset({*made, *WORLDS})
+        among, regions_of = regions.Nested(prefixes), {it for it in sorted(prefixes, key=str) if pick.random() < 0.6}
+        around = {it: max((one for one in prefixes if one != it and lies_in(it, one)), key=lambda one: one.prefixlen, default=None) for it in prefixes}
+        told(wrong, f"around {prefixes}", {it: among.around(it) for it in prefixes}, around)
+        told(wrong, f"inside {prefixes}", {it: {*among.inside(it)} for it in prefixes}, {it: {one for one in prefixes if around[one] == it} for it in prefixes})
+        held = {it: {one for whole, but in regions.joined(regions_of, prefixes) if lies_in(it, whole) and not any(lies_in(it, one) for one in but) for one in [whole]} for it in prefixes}
+        told(wrong, f"joined {regions_of} of {prefixes}", {it: bool(one) for it, one in held.items()}, {it: it in regions_of for it in prefixes})
+
+
 def flows_are_read(_, wrong):
     found = flows.Flows("\n".join([flow("a/x", "a/y", 80, "2026-01-02T00:00:00Z"), flow("a/x", "a/y", 80, "2026-01-01T00:00:00Z"), flow("a/x", "a/y", 81, verdict=1)]), "name")
     told(wrong, "counts", [(it.port, seen.count, seen.first[:10], seen.last[:10]) for it, seen in found.seen.items()], [(80, 2, "2026-01-01", "2026-01-02"), (81, 1, "2026-01-01", "2026-01-01")])
@@ -582,10 +620,10 @@ def over_connections(check):
 
 
 def checks():
-    found = (a_change_is_told, forms_agree, what_is_open, connections_are_asked, a_change_is_held, why_is_told, expectations_are_held, flows_are_replayed)
+    found = (a_change_is_told, forms_agree, what_is_open, connections_are_asked, a_change_is_held, prefixes_are_asked_once, why_is_told, expectations_are_held, flows_are_replayed)
     found += (two_states_are_compared, slips_are_asked_of_the_bridge, workloads_and_namespaces, names_are_ends, worlds_are_told_apart, names_of_each_family, pods_of_both_families_are_ends, live_pods_have_their_addresses, words_agree, bash_completes, kubectl_is_asked)
     found += (children_end_too, other_programs_are_not_asked, progress_lives, ports_are_read, unions_and_flat_ranges)
-    found += (forms_are_safe, flows_are_read, modules_are_small, one_formatter_lays_them_out, random_changes_are_told)
+    found += (forms_are_safe, prefixes_lie_in_each_other, flows_are_read, modules_are_small, one_formatter_lays_them_out, random_changes_are_told)
     asking = (a_change_is_told, forms_agree, what_is_open, expectations_are_held, two_states_are_compared, workloads_and_namespaces, names_are_ends, worlds_are_told_apart, names_of_each_family)
     yield from ((f"front door {it.__name__.replace('_', ' ')}", lambda it=it: run(it)) for it in found)
     yield from ((f"front door {it.__name__.replace('_', ' ')}, over connections", lambda it=it: over_connections(it)) for it in asking)

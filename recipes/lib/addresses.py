@@ -1,6 +1,7 @@
 """Addresses and prefixes of both families: their texts, as docs/RULES.md has them, and which prefix lies in another."""
 from __future__ import annotations
 
+import functools
 import ipaddress
 import re
 import typing
@@ -36,6 +37,7 @@ def address(text: object) -> str:
     return written(found) if found else ""
 
 
+@functools.lru_cache(maxsize=None)
 def prefix(text: str) -> typing.Optional[Network]:
     """The prefix of a CIDR text, without its host bits, or None."""
     head, slash, length = text.partition("/")

@@ -6,10 +6,11 @@ node's stands for it. Where both worlds are meant, they are told as one.
 """
 from __future__ import annotations
 
+import functools
 import itertools
 import typing
 
-from .addresses import WORLDS, Network, is_world, lies_in, order, prefix
+from .addresses import WORLDS, Network, is_world, order, prefix
 from .addresses import written as text_of
 
 # A region as a prefix and its exceptions.
@@ -39,28 +40,57 @@ def sets(entry: dict) -> typing.List[dict]:
     return [it for kind in ("from", "to") for it in entry.get(f"{kind}CIDRSet") or []]
 
 
-def inside(whole: Network, prefixes: typing.Iterable[Network]) -> typing.List[Network]:
-    """The widest of the prefixes that lie in another one."""
-    lying = [it for it in prefixes if it != whole and lies_in(it, whole)]
-    return [it for it in lying if not any(it != other and lies_in(it, other) for other in lying)]
+class Nested:
+    """Prefixes, and which of them lies in which."""
+
+    def __init__(self, prefixes: typing.FrozenSet[Network]):
+        self.prefixes = prefixes
+        self.places = {place(it, it.prefixlen): it for it in prefixes}
+        self.lengths = {world.version: sorted({it.prefixlen for it in prefixes if it.version == world.version}, reverse=True) for world in WORLDS}
+        self.inner: typing.Dict[typing.Optional[Network], typing.List[Network]] = {}
+        for it in sorted(prefixes, key=order):
+            self.inner.setdefault(self.around(it), []).append(it)
+
+    def around(self, it: Network) -> typing.Optional[Network]:
+        """The nearest of the prefixes in which another one lies, or None."""
+        return self.nearest(it, it.prefixlen - 1)
+
+    def nearest(self, it: Network, most: int) -> typing.Optional[Network]:
+        """The longest of the prefixes that has all addresses of another one and no more than so many bits, or None."""
+        found = (self.places.get(place(it, length)) for length in self.lengths[it.version] if length <= most)
+        return next((one for one in found if one is not None), None)
+
+    def of(self, it: Network) -> typing.Optional[Network]:
+        """The longest of the prefixes that has all addresses of one, which may be that one; or None."""
+        return self.nearest(it, it.prefixlen)
+
+    def inside(self, whole: Network) -> typing.List[Network]:
+        """The widest of the prefixes that lie in one of them, in order."""
+        return self.inner.get(whole, [])
 
 
-def joined(regions: typing.Collection[Network], prefixes: typing.Iterable[Network]) -> typing.List[Joined]:
+def place(it: Network, length: int) -> tuple:
+    """The first bits of a prefix, with how many they are."""
+    return it.version, length, int(it.network_address) >> it.max_prefixlen - length
+
+
+@functools.lru_cache(maxsize=None)
+def nested(prefixes: typing.FrozenSet[Network]) -> Nested:
+    """Prefixes with which of them lies in which, worked out once."""
+    return Nested(prefixes)
+
+
+def joined(regions: typing.Collection[Network], prefixes: typing.FrozenSet[Network]) -> typing.List[Joined]:
     """Regions as pairs of a prefix and its exceptions: a region in which another of them lies takes that one in."""
-    found = []
-    for whole in sorted(regions, key=order):
-        above = [it for it in prefixes if it != whole and lies_in(whole, it)]
-        nearest = max(above, key=lambda it: it.prefixlen, default=None)
-        if nearest not in regions:
-            found.append((whole, sorted(missing(whole, regions, prefixes), key=order)))
-    return found
+    among = nested(prefixes)
+    return [(it, sorted(missing(it, regions, among), key=order)) for it in sorted(regions, key=order) if among.around(it) not in regions]
 
 
-def missing(whole: Network, regions: typing.Collection[Network], prefixes: typing.Iterable[Network]) -> typing.Iterator[Network]:
+def missing(whole: Network, regions: typing.Collection[Network], among: Nested) -> typing.Iterator[Network]:
     """The prefixes inside a region that aren't among the regions, and through which it isn't left."""
-    for it in inside(whole, prefixes):
+    for it in among.inside(whole):
         if it in regions:
-            yield from missing(it, regions, prefixes)
+            yield from missing(it, regions, among)
         else:
             yield it
 

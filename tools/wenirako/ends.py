@@ -57,7 +57,7 @@ class Outside(NamedTuple):
             return "identity", self.value
         if self.kind == "address":
             return "address", str(self.value)
-        address = first_free(self.region, regions.inside(self.region, self.prefixes), taken)
+        address = first_free(self.region, regions.nested(self.prefixes).inside(self.region), taken)
         return None if address is None else ("address", address)
 
     @property
@@ -149,14 +149,14 @@ class Universe:
 
 
 def first_free(whole: Network, holes: Sequence[Network], taken: set[Address]) -> Optional[str]:
-    """The first address of a prefix that lies in no hole of it and isn't taken, or None."""
-    at, last, make = int(whole.network_address), int(whole.broadcast_address), type(whole.network_address)
-    ends = sorted((int(it.network_address), int(it.broadcast_address)) for it in holes)
-    while at <= last:
-        behind = next((high for low, high in ends if low <= at <= high), None)
-        if behind is None and make(at) not in taken:
-            return addresses.written(make(at))
-        at = (behind if behind is not None else at) + 1
+    """The first address of a prefix that lies in none of its holes, which are apart and ascend, and isn't taken; or None."""
+    make, at = type(whole.network_address), int(whole.network_address)
+    ends = [*((int(it.network_address), int(it.broadcast_address)) for it in holes), (int(whole.broadcast_address) + 1, 0)]
+    for low, high in ends:
+        free = next((it for it in range(at, low) if make(it) not in taken), None)
+        if free is not None:
+            return addresses.written(make(free))
+        at = high + 1
     return None
 
 
@@ -173,7 +173,9 @@ def entity(number: int) -> Outside:
 
 def inside(halves: Iterable[Half], *wholes: Network) -> list[Outside]:
     """The regions of prefixes, as far as the entries of halves tell them apart."""
-    prefixes = frozenset({*regions.named(entry for it in halves for entry in it.entries()), *wholes})
+    named = frozenset({*regions.named(entry for it in halves for entry in it.entries()), *wholes})
+    # (those of equal prefixes have the same ones)
+    prefixes = regions.nested(named).prefixes
     return [Outside("region", it, prefixes) for it in sorted(prefixes, key=addresses.order) if any(addresses.lies_in(it, whole) for whole in wholes)]
 
 

@@ -7,7 +7,8 @@ from __future__ import annotations
 
 from typing import Iterable, NamedTuple, Optional, Sequence
 
-from lib.addresses import Network, lies_in, prefix
+from lib import regions
+from lib.addresses import prefix
 
 from .connections import pairs_with
 from .core import ALLOWED, NoAnswer
@@ -36,11 +37,12 @@ class Held:
         self.names = {id(it): name for name, it in self.groups.items()}
         self.places = Places(self.halves, 0, 1)
         self.kept: dict[tuple[Key, Key], Optional[tuple[Key, Key]]] = {}
+        self.outer: dict[tuple, Outer] = {}
 
     def hold(self, found: Iterable[tuple[End, End, str, int, int, bool]]) -> None:
         """Complains where something opens or shuts that isn't found, or is found and doesn't."""
         ours = joined(Change(self.key(source), self.key(target), *rest) for source, target, *rest in found)
-        other = next(iter(ours ^ self.told()), None)
+        other = min(ours ^ self.told(), default=None)
         if other is not None:
             ways = "connections", "policyd"
             one, silent = ways if other not in ours else ways[::-1]
@@ -75,21 +77,32 @@ class Held:
 
     def end(self, key: Key, other: Key, direction: str) -> Optional[End]:
         """The end of that name, where the half of the other one has this direction."""
-        if key[0] == "identity":
-            return self.groups[key[1]]
-        half = self.groups[other[1]]
-        listed = self.halves.outer(*((phase, half.at(phase), direction) for phase in (0, 1)))
+        return self.groups[key[1]] if key[0] == "identity" else self.beside(self.groups[other[1]], direction).end(key)
+
+    def beside(self, group: Group, direction: str) -> Outer:
+        """What isn't a pod at the other side of a half, before or after; made once for all halves that are alike."""
+        asked = [(phase, group.at(phase), direction) for phase in (0, 1)]
+        halves = tuple(self.halves.half(*it) for it in asked)
+        if halves not in self.outer:
+            self.outer[halves] = Outer(self.halves.outer(*asked), self.places)
+        return self.outer[halves]
+
+
+class Outer:
+    """What isn't a pod at the other side of a half, found by the names of `connections`."""
+
+    def __init__(self, listed: Sequence[Outside], places: Places):
+        self.entities = {places.of(it): it for it in listed if it.kind == "entity"}
+        self.regions = {it.region: it for it in listed if it.kind == "region"}
+        # (the regions of a list are those of the same prefixes)
+        self.nested = regions.nested(next((it.prefixes for it in self.regions.values()), frozenset()))
+
+    def end(self, key: Key) -> Optional[Outside]:
+        """The entity, or the nearest region around that of a name, where it is listed: None where no packet is of it."""
         if key[0] == "reserved":
-            return next((it for it in listed if self.places.of(it) == key), None)
-        return around(prefix(key[1]), listed)
-
-
-def around(region: Network, listed: Iterable[Outside]) -> Optional[Outside]:
-    """The nearest region around one, where it is listed: None where no packet is of it."""
-    found = {it.value: it for it in listed if it.kind == "region"}
-    prefixes = frozenset().union(*(it.prefixes for it in found.values()))
-    nearest = max((it for it in prefixes if lies_in(region, it)), key=lambda it: it.prefixlen, default=None)
-    return found.get(nearest)
+            return self.entities.get(key)
+        nearest = self.nested.of(prefix(key[1]))
+        return self.regions.get(nearest) if nearest is not None else None
 
 
 def change_of(it: dict) -> Change:

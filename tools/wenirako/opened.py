@@ -98,7 +98,7 @@ class Places:
 
     def __init__(self, halves: Halves, *phases: int):
         self.halves, self.phases = halves, phases
-        self.held = regions.named(entry for it in phases for rule in halves.selections[it].rules for _, entry in rule.part.entries())
+        self.held = regions.nested(frozenset(regions.named(entry for it in phases for rule in halves.selections[it].rules for _, entry in rule.part.entries())))
         self.kept: dict[Outside, Key] = {}
 
     def of(self, end: End) -> Key:
@@ -113,8 +113,7 @@ class Places:
         kind, value = self.halves.remote(end) or ("", "")
         if kind == "identity":
             return "reserved", ENTITIES[value]
-        address = addresses.prefix(value)
-        return "region", addresses.written(max((it for it in self.held if addresses.lies_in(address, it)), key=lambda it: it.prefixlen))
+        return "region", addresses.written(self.held.of(addresses.prefix(value)))
 
 
 def name_of(at: Optional[int]) -> str:

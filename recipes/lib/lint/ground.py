@@ -3,8 +3,10 @@ from __future__ import annotations
 
 import dataclasses
 import functools
+import ipaddress
 import typing
 
+from ..addresses import NETWORKS
 from ..label_index import LabelIndex
 from ..pods import CLUSTER_KEY, CORE_CLUSTER, NAMESPACE_KEY, OWN_PREFIX
 from ..policies import requirements
@@ -58,6 +60,14 @@ class Ground:
     def matching(self, asked: typing.Iterable[tuple]) -> typing.FrozenSet[int]:
         """The numbers of the sets of labels of which all that is asked is so."""
         return self.index.matching(asked)
+
+    @functools.cached_property
+    def addresses(self) -> typing.Dict[str, typing.Dict[int, typing.List[int]]]:
+        """The addresses of the cluster by whose they are and by their families, ascending."""
+        cluster = self.cluster
+        pods = [it for pod in cluster.live for it in pod.addresses]
+        named = {"pods": pods, "nodes": {*cluster.nodes, *cluster.api_addresses}, "services": cluster.services, "balancers": cluster.balancers}
+        return {name: by_family(listed) for name, listed in named.items()}
 
     def pods_of(self, sets: typing.Iterable[int]) -> list:
         """The pods of sets of labels, but for those that stand for any other pod of a namespace."""
@@ -125,3 +135,9 @@ def one(asked: tuple) -> str:
         equals = "=" if operator == "In" else "!="
         return f"{key}{equals}{'|'.join(values)}"
     return key if operator == "Exists" else f"no {key}"
+
+
+def by_family(addresses: typing.Iterable[str]) -> typing.Dict[int, typing.List[int]]:
+    """The numbers of addresses, ascending, of each family."""
+    found = [ipaddress.ip_address(it) for it in addresses]
+    return {family: sorted(int(it) for it in found if it.version == family) for family in NETWORKS}

@@ -1,7 +1,7 @@
 """Prefixes that hold addresses of the cluster: pods, nodes and Services, which a prefix doesn't mean."""
 from __future__ import annotations
 
-import ipaddress
+import bisect
 import typing
 
 from ..addresses import Network, is_one, order, prefix, written
@@ -9,7 +9,6 @@ from ..sides import whose
 from .ground import Ground, Written
 
 if typing.TYPE_CHECKING:
-    from ..cluster import Cluster
     from ..policies import Policy
 
 Found = typing.Iterator[typing.Tuple[str, str, str]]
@@ -41,17 +40,18 @@ def told_of(ground: Ground, whole: Network, out: list) -> str:
     if is_one(whole):
         found = whose(ground.cluster, written(whole.network_address))
         return f"does nothing: it is {found}" if found else ""
-    counts = {name: len(inside(addresses, whole, out)) for name, addresses in addresses_of(ground.cluster).items()}
+    counts = {name: inside(by_family[whole.version], whole, out) for name, by_family in ground.addresses.items()}
     parts = [f"{count} {WORDS[name][count > 1]}" for name, count in counts.items() if count]
     return f"holds {', '.join(parts)}, and doesn't mean {'them' if sum(counts.values()) > 1 else 'it'}" if parts else ""
 
 
-def addresses_of(cluster: Cluster) -> typing.Dict[str, typing.List[str]]:
-    pods = [it for pod in cluster.live for it in pod.addresses]
-    nodes = {*cluster.nodes, *cluster.api_addresses}
-    return {"pods": pods, "nodes": sorted(nodes), "services": sorted(cluster.services), "balancers": sorted(cluster.balancers)}
+def inside(addresses: typing.Sequence[int], whole: Network, out: typing.Iterable[Network]) -> int:
+    """How many of ascending addresses of a prefix's family lie in it, and in none of its exceptions."""
+    holes = [bounds(it) for it in out if it.version == whole.version]
+    low, high = bounds(whole)
+    listed = addresses[bisect.bisect_left(addresses, low) : bisect.bisect_right(addresses, high)]
+    return sum(not any(first <= it <= last for first, last in holes) for it in listed)
 
 
-def inside(addresses: typing.Iterable[str], whole: Network, out: list) -> typing.List[str]:
-    found = [(it, ipaddress.ip_address(it)) for it in addresses]
-    return [text for text, it in found if it in whole and not any(it in one for one in out)]
+def bounds(it: Network) -> typing.Tuple[int, int]:
+    return int(it.network_address), int(it.broadcast_address)
