@@ -21,7 +21,7 @@ from play_checks import told
 from lib import regions
 from lib.addresses import NETWORKS, WORLDS, lies_in
 from recipes_checks import NAMESPACE, PODS, pod, policy
-from wenirako import coarse, drawing, flows, halves, kubectl, listing, progress, resolving, words, writing
+from wenirako import coarse, drawing, flows, halves, kubectl, listing, opened, progress, resolving, words, writing
 from wenirako.report import Report
 
 TOP = compare.TOP
@@ -115,6 +115,25 @@ def connections_are_asked(folder, wrong):
     broken = Archive(folder, lists="#!/bin/sh\necho connections: out of memory >&2\nexit 5\n")
     broken.write("state.json", (EXAMPLE / "state.json").read_text())
     told(wrong, "without an answer", broken.call("list", *words), (70, "", "wenirako: connections ended with the status 5: connections: out of memory\n"))
+
+
+def connections_are_asked_of_much(folder, wrong):
+    """connections goes through all ends, regions too: it is asked where a quarter of that is in question, and what isn't is not kept."""
+    door, lists, scripts = Door(folder), front_random.lines_of_connections, []
+    counted = lambda lines: scripts.append(lines) or lists(lines)
+    shut = lambda count: policy("shut", {"endpointSelector": {"matchLabels": {"app": "web"}}, "egress": [{"toCIDR": [f"10.8.{it}.0/24" for it in range(count)]}]})
+    for count, ends, is_asked in ((0, [], True), (0, ["--to", "shop/*"], True), (9, [], True), (9, ["--to", "shop/*"], False), (0, ["--to", "world"], False)):
+        state = ["--state", door.write("state.json", listed(NAMESPACE, *PODS, shut(count)))]
+        alone, scripts[:] = door.call("list", *ends, *state), []
+        with replaced(Door, has_connections=True), replaced(front_random, lines_of_connections=counted):
+            told(wrong, f"what is open {ends} beside {count} prefixes", door.call("list", *ends, *state), alone)
+        told(wrong, f"whether connections is asked {ends} beside {count} prefixes", len(scripts) == 1, is_asked)
+    line = lambda one, other, *ports: {"from": {"identity": one}, "to": {"region": other}, "protocol": "TCP", "ports": [*ports], "verdict": "allowed"}
+    key = ("identity", "i0"), ("region", "0.0.0.0/0")
+    parts = opened.by_pairs([line("i0", "0.0.0.0/0", 1, 2), line("i0", "::/0", 1, 2), line("i0", "0.0.0.0/0", 5, 5), line("i1", "0.0.0.0/0", 1, 2)], {key})
+    told(wrong, "what is kept", parts, {key: {"TCP": [(1, 2), (5, 5)]}})
+    refused, others = opened.parted(iter([{"line": 1, "answer": "refused 1"}, {"line": 2, "answer": "refused 2"}, {"ports": 1}, {"ports": 2}]))
+    told(wrong, "what is refused", ([it["line"] for it in refused], [it["ports"] for it in others]), ([1, 2], [1, 2]))
 
 
 def a_change_is_held(folder, wrong):
@@ -620,7 +639,7 @@ def over_connections(check):
 
 
 def checks():
-    found = (a_change_is_told, forms_agree, what_is_open, connections_are_asked, a_change_is_held, prefixes_are_asked_once, why_is_told, expectations_are_held, flows_are_replayed)
+    found = (a_change_is_told, forms_agree, what_is_open, connections_are_asked, connections_are_asked_of_much, a_change_is_held, prefixes_are_asked_once, why_is_told, expectations_are_held, flows_are_replayed)
     found += (two_states_are_compared, slips_are_asked_of_the_bridge, workloads_and_namespaces, names_are_ends, worlds_are_told_apart, names_of_each_family, pods_of_both_families_are_ends, live_pods_have_their_addresses, words_agree, bash_completes, kubectl_is_asked)
     found += (children_end_too, other_programs_are_not_asked, progress_lives, ports_are_read, unions_and_flat_ranges)
     found += (forms_are_safe, prefixes_lie_in_each_other, flows_are_read, modules_are_small, one_formatter_lays_them_out, random_changes_are_told)

@@ -5,8 +5,10 @@ both halves, so what only one half says is asked of policyd, as all is where the
 """
 from __future__ import annotations
 
+import itertools
 import json
-from typing import Callable, Iterable, Mapping, Optional, Sequence
+import tempfile
+from typing import Callable, Collection, Iterable, Iterator, Mapping, Optional, Sequence
 
 from lib import addresses, regions
 from lib.reading import line_of
@@ -20,7 +22,7 @@ from .programs import Program
 from .progress import Progress
 from .statuses import BAD, NOTHING, TELLS
 
-# It is asked where the pairs of pods in question are no fewer than one of so many that it goes through.
+# It is asked where the connections in question are no fewer than one of so many that it goes through.
 SHARE = 4
 # What stands between two scripts, and what the second is called.
 DIVIDER, AFTER = "--", "after"
@@ -46,12 +48,12 @@ class Opened:
         """What is open of pairs, by their keys; without those that it can't tell of, and empty where it isn't asked."""
         known = {key: pair for key, pair in pairs.items() if self.is_known(pair, phase)}
         ends = {it.at(phase) for pair in known.values() for it in pair if isinstance(it, Group)}
-        among = sum(all(isinstance(it, Group) for it in pair) for pair in known.values())
-        if not among or among * SHARE < len(ends) ** 2 or self.program() is None:
-            return {}
-        said = self.said(sorted(ends), phase)
         place = Places(self.halves, phase)
-        return {key: said.get((place.of(source), place.of(target)), {}) for key, (source, target) in known.items()}
+        if not known or len(known) * SHARE < place.pairs(len(ends)) or self.program() is None:
+            return {}
+        named = {key: (place.of(source), place.of(target)) for key, (source, target) in known.items()}
+        said = self.said(sorted(ends), phase, {*named.values()})
+        return {key: said.get(it, {}) for key, it in named.items()}
 
     def is_known(self, pair: tuple[End, End], phase: int) -> bool:
         """Whether it can tell of a pair: not where a packet can't have an end, nor where names open unknown addresses."""
@@ -60,37 +62,39 @@ class Opened:
             return False
         return not any(isinstance(side, Outside) and halves.beside.names(phase, at, direction) for _, at, direction, side in wanted(*pair, phase))
 
-    def said(self, ends: Sequence[int], phase: int) -> dict[tuple[Key, Key], Open]:
-        """What is open between sets of labels, and between them and what is no pod."""
-        return by_pairs(self.answers([self.script({name_of(at): at for at in ends}, phase)], "asking what is open"))
+    def said(self, ends: Sequence[int], phase: int, asked: Collection[tuple[Key, Key]]) -> dict[tuple[Key, Key], Open]:
+        """What is open of connections between sets of labels, and between them and what is no pod."""
+        return by_pairs(self.answers([self.script({name_of(at): at for at in ends}, phase)], "asking what is open"), asked)
 
     def script(self, sets: Mapping[str, int], phase: int) -> list[str]:
         """The policies of a state, and sets of labels by names."""
         labels = lambda at: self.halves.universe.sets[at].labels
         return [*(line_of("", {"op": "identity", "name": name, "labels": labels(at)}) for name, at in sets.items()), *(it.line for it in self.halves.policies[phase])]
 
-    def answers(self, scripts: Sequence[Sequence[str]], what: str) -> list[dict]:
-        """What is written of a script, or of two, but for what is refused, which has to be as was foreseen."""
+    def answers(self, scripts: Sequence[Sequence[str]], what: str) -> Iterable[dict]:
+        """What is written of a script, or of two, read line by line, but for what is refused, which has to be as was foreseen."""
         self.progress.begin(what, 1)
-        listed = [json.loads(it) for it in self.play([*scripts[0], *(line for it in scripts[1:] for line in (DIVIDER, *it))])]
+        first, others = parted(map(json.loads, self.play([*scripts[0], *(line for it in scripts[1:] for line in (DIVIDER, *it))])))
         self.progress.end()
-        refused = {scripts[it.get("side") == AFTER][it["line"] - 1]: it["answer"].split(" ", 1)[1] for it in listed if "answer" in it}
+        refused = {scripts[it.get("side") == AFTER][it["line"] - 1]: it["answer"].split(" ", 1)[1] for it in first}
         policies = {*self.halves.documents} & {line for it in scripts for line in it}
         if not refused.keys() <= policies:
             raise NoAnswer(f"connections refuses {next(it for it in refused if it not in policies)}")
         if {*refused} != self.halves.core.refused & policies:
             raise Misjudged(refused)
-        return [it for it in listed if "answer" not in it]
+        return others
 
-    def play(self, lines: Sequence[str]) -> list[str]:
+    def play(self, lines: Sequence[str]) -> Iterator[str]:
         """What the program writes of a script, line by line."""
         program = self.program()
         assert program is not None
-        done = children.run(program.command, "".join(f"{it}\n" for it in lines).encode(), tick=self.progress.tick)
-        if done.status not in (NOTHING, BAD, TELLS):
-            why = done.err.decode(errors="replace").strip()
-            raise NoAnswer(f"connections ended with the status {done.status}" + (f": {why[-1000:]}" if why else ""))
-        return done.out.decode().splitlines()
+        with tempfile.TemporaryFile() as written:
+            done = children.run(program.command, "".join(f"{it}\n" for it in lines).encode(), tick=self.progress.tick, stdout=written)
+            if done.status not in (NOTHING, BAD, TELLS):
+                why = done.err.decode(errors="replace").strip()
+                raise NoAnswer(f"connections ended with the status {done.status}" + (f": {why[-1000:]}" if why else ""))
+            written.seek(0)
+            yield from (line.decode() for line in written)
 
 
 class Places:
@@ -100,6 +104,10 @@ class Places:
         self.halves, self.phases = halves, phases
         self.held = regions.nested(frozenset(regions.named(entry for it in phases for rule in halves.selections[it].rules for _, entry in rule.part.entries())))
         self.kept: dict[Outside, Key] = {}
+
+    def pairs(self, count: int) -> int:
+        """How many connections are gone through between so many sets of labels, and between them and what is no pod."""
+        return count * (count + 2 * (len(ENTITIES) + len(self.held.prefixes)))
 
     def of(self, end: End) -> Key:
         if isinstance(end, Group):
@@ -120,10 +128,21 @@ def name_of(at: Optional[int]) -> str:
     return f"i{at}"
 
 
-def by_pairs(listed: Iterable[dict]) -> dict[tuple[Key, Key], Open]:
-    """Lines of open ports, by their ends."""
+def parted(listed: Iterable[dict]) -> tuple[list[dict], Iterable[dict]]:
+    """Lines of what is refused, which stand first, and the others."""
+    refused, others = [], iter(listed)
+    for it in others:
+        if "answer" not in it:
+            return refused, itertools.chain([it], others)
+        refused.append(it)
+    return refused, others
+
+
+def by_pairs(listed: Iterable[dict], asked: Collection[tuple[Key, Key]]) -> dict[tuple[Key, Key], Open]:
+    """Lines of open ports by their ends, of those that are asked about."""
     found: dict[tuple[Key, Key], dict[str, list]] = {}
     for it in listed:
         ((source,), (target,)) = it["from"].items(), it["to"].items()
-        found.setdefault((source, target), {}).setdefault(it["protocol"], []).append(tuple(it["ports"]))
+        if (source, target) in asked:
+            found.setdefault((source, target), {}).setdefault(it["protocol"], []).append(tuple(it["ports"]))
     return found
