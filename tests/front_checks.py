@@ -21,7 +21,7 @@ from play_checks import told
 from lib import regions
 from lib.addresses import NETWORKS, WORLDS, lies_in
 from recipes_checks import NAMESPACE, PODS, pod, policy
-from wenirako import coarse, drawing, flows, halves, kubectl, listing, opened, progress, resolving, words, writing
+from wenirako import coarse, drawing, flows, halves, kubectl, listing, opened, programs, progress, resolving, words, writing
 from wenirako.report import Report
 
 TOP = compare.TOP
@@ -112,9 +112,35 @@ def connections_are_asked(folder, wrong):
     told(wrong, "where little of it is asked about", (few[0], (there.top / "asked").read_text().split()), (0, ["asked"] * 2))
     told(wrong, "another file in its place", there.write("bin/connections", calling(LISTS)) and there.call("list", *words)[0], 70)
     shutil.rmtree(there.top)
-    broken = Archive(folder, lists="#!/bin/sh\necho connections: out of memory >&2\nexit 5\n")
+    broken = Archive(folder, lists="#!/bin/sh\necho connections: a sign >&2\nexit 7\n")
     broken.write("state.json", (EXAMPLE / "state.json").read_text())
-    told(wrong, "without an answer", broken.call("list", *words), (70, "", "wenirako: connections ended with the status 5: connections: out of memory\n"))
+    told(wrong, "without an answer", broken.call("list", *words), (70, "", "wenirako: connections ended with the status 7: connections: a sign\n"))
+
+
+def connections_cannot_tell(folder, wrong):
+    """Where memory is short for connections, or its input too long, policyd answers alone, and that is said."""
+    door, calls = Door(folder), []
+    state = ["--state", door.write("state.json", listed(NAMESPACE, *PODS))]
+    comes = ["--add", door.write("shut.json", policy("shut", {"endpointSelector": {"matchLabels": {"app": "cart"}}, "ingress": [{"fromEndpoints": [{}]}]}))]
+
+    def cannot(lines):
+        calls.append(lines)
+        raise opened.Untold("no room")
+
+    for words, what in ((["diff", *comes], "what opens and shuts is by policyd alone"), (["list"], "what is open is asked of policyd alone")):
+        status, out, err = door.call(*words, *state)
+        said = [*err.splitlines()[:-1], f"wenirako: {what}: no room", err.splitlines()[-1]]
+        with replaced(Door, has_connections=True), replaced(front_random, lines_of_connections=cannot):
+            told(wrong, f"the answer of {words[0]}", [*map(str.splitlines, map(str, door.call(*words, *state)))], [[str(status)], out.splitlines(), said])
+    told(wrong, "how often it is asked", len(calls), 2)
+    for status, wanted in ((0, ["{}\n"]), (1, ["{}\n"]), (3, ["{}\n"]), (4, opened.NoAnswer), (5, opened.Untold), (6, opened.Untold), (7, opened.NoAnswer)):
+        program = programs.Program(["sh", "-c", f"echo {{}}; echo no room >&2; exit {status}"], False, "")
+        try:
+            found = [*opened.Opened(lambda: program, None, progress.Progress("x", True)).play(["a", "b"])]
+        except (opened.NoAnswer, opened.Untold) as ended:
+            found = type(ended)
+            told(wrong, f"what is said at {status}", str(ended), f"connections ended with the status {status}: no room")
+        told(wrong, f"what comes at {status}", found, wanted)
 
 
 def connections_are_asked_of_much(folder, wrong):
@@ -639,7 +665,7 @@ def over_connections(check):
 
 
 def checks():
-    found = (a_change_is_told, forms_agree, what_is_open, connections_are_asked, connections_are_asked_of_much, a_change_is_held, prefixes_are_asked_once, why_is_told, expectations_are_held, flows_are_replayed)
+    found = (a_change_is_told, forms_agree, what_is_open, connections_are_asked, connections_are_asked_of_much, connections_cannot_tell, a_change_is_held, prefixes_are_asked_once, why_is_told, expectations_are_held, flows_are_replayed)
     found += (two_states_are_compared, slips_are_asked_of_the_bridge, workloads_and_namespaces, names_are_ends, worlds_are_told_apart, names_of_each_family, pods_of_both_families_are_ends, live_pods_have_their_addresses, words_agree, bash_completes, kubectl_is_asked)
     found += (children_end_too, other_programs_are_not_asked, progress_lives, ports_are_read, unions_and_flat_ranges)
     found += (forms_are_safe, prefixes_lie_in_each_other, flows_are_read, modules_are_small, one_formatter_lays_them_out, random_changes_are_told)

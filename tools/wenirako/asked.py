@@ -40,7 +40,7 @@ class Asked:
 
     def notes(self) -> list[str]:
         """What is said of what answers lack."""
-        return list(self.states.notes())
+        return [*self.states.notes(), *self.opened.notes]
 
     def why(self, half: Half, segment: Segment) -> str:
         return of_half(half, self.halves.why(segment), self.states.written)

@@ -19,7 +19,7 @@ from .ends import End, Outside
 from .halves import Halves, Segment, joined
 from .holding import Held
 from .naming import Names
-from .opened import Opened
+from .opened import Opened, Untold
 from .reasons import NO_ENTRY, of_change
 from .rows import Line, Rows, Told
 from .selecting import DIRECTIONS, EGRESS, Half
@@ -134,7 +134,10 @@ class Diff:
         """Complains where `connections` is there, and says that other connections change."""
         if self.opened.program() is not None:
             known = [it for it in found if it[2].changes and not any(isinstance(end, Outside) and end.kind == "name" for end in it[:2])]
-            Held(self.opened, self.groups).hold((source, target, it.protocol, it.low, it.high, it.is_allowed) for source, target, it in known)
+            try:
+                Held(self.opened, self.groups).hold((source, target, it.protocol, it.low, it.high, it.is_allowed) for source, target, it in known)
+            except Untold as why:
+                self.opened.lacks("what opens and shuts is by policyd alone", why)
 
     def hold_unforeseen(self) -> None:
         """Of a policy that comes or goes and that is refused for an unforeseen reason, nothing can be said."""

@@ -24,12 +24,18 @@ from .statuses import BAD, NOTHING, TELLS
 
 # It is asked where the connections in question are no fewer than one of so many that it goes through.
 SHARE = 4
+# The statuses at which it has no answer that policyd may have: memory was short, or the scripts are too long together.
+MEMORY, TOO_LONG = 5, 6
 # What stands between two scripts, and what the second is called.
 DIVIDER, AFTER = "--", "after"
 # An end as `connections` writes it: what it is, and its name.
 Key = tuple[str, str]
 # The ranges of open ports of each protocol.
 Open = Mapping[str, Ranges]
+
+
+class Untold(Exception):
+    """Why `connections` can't tell what policyd may."""
 
 
 class Opened:
@@ -39,6 +45,13 @@ class Opened:
         """`find` gives the program where it is there: it is called once, when there is something to ask."""
         self.find, self.halves, self.progress = find, halves, progress
         self.found: Optional[tuple[Optional[Program]]] = None
+        # What is said of answers that it lacks.
+        self.notes: list[str] = []
+
+    def lacks(self, what: str, why: Untold) -> None:
+        """Notes what isn't asked of it, since it couldn't tell; it isn't asked any more."""
+        self.notes.append(f"{what}: {why}")
+        self.found = (None,)
 
     def program(self) -> Optional[Program]:
         self.found = self.found or (self.find(),)
@@ -52,7 +65,11 @@ class Opened:
         if not known or len(known) * SHARE < place.pairs(len(ends)) or self.program() is None:
             return {}
         named = {key: (place.of(source), place.of(target)) for key, (source, target) in known.items()}
-        said = self.said(sorted(ends), phase, {*named.values()})
+        try:
+            said = self.said(sorted(ends), phase, {*named.values()})
+        except Untold as why:
+            self.lacks("what is open is asked of policyd alone", why)
+            return {}
         return {key: said.get(it, {}) for key, it in named.items()}
 
     def is_known(self, pair: tuple[End, End], phase: int) -> bool:
@@ -92,7 +109,7 @@ class Opened:
             done = children.run(program.command, "".join(f"{it}\n" for it in lines).encode(), tick=self.progress.tick, stdout=written)
             if done.status not in (NOTHING, BAD, TELLS):
                 why = done.err.decode(errors="replace").strip()
-                raise NoAnswer(f"connections ended with the status {done.status}" + (f": {why[-1000:]}" if why else ""))
+                raise (Untold if done.status in (MEMORY, TOO_LONG) else NoAnswer)(f"connections ended with the status {done.status}" + (f": {why[-1000:]}" if why else ""))
             written.seek(0)
             yield from (line.decode() for line in written)
 
