@@ -1,7 +1,7 @@
 """Checks of tools/release: an archive that is unpacked into an empty folder answers without the kit.
 
-They pack the proved build where one stands, and else the one without proof where that is kept; where there is neither
-they are left out, and say so.
+They pack the proved builds where such stand, and else those without proof where they are kept; where there is none of
+policyd they are left out, and say so. Where there is none of connections, tests/standin_connections.py is packed as one.
 """
 import hashlib
 import importlib.util
@@ -18,9 +18,12 @@ from unittest import mock
 import compare
 import program
 import unproved
+from archive import LISTS, calling
 from play_checks import told
 
 TOP = compare.TOP
+# What connections is asked about in an archive.
+LIST = ["list", "--state", "examples/cluster/state.json"]
 QUESTION = ["diff", "--state", "examples/cluster/state.json", "--add", "examples/cluster/proposed.json", "--add", "examples/cluster/cart-to-ledger.json"]
 
 
@@ -36,11 +39,24 @@ def unpacked(folder):
     """An archive of the present files, unpacked into an empty folder."""
     tool = release()
     tool.programs.commit_of = lambda _: "0123456789ab"
+    with_connections(tool, pathlib.Path(folder))
     path = tool.write(pathlib.Path(folder), *tool.packed(True))
     target = pathlib.Path(folder) / "empty"
     with tarfile.open(path) as archive:
         archive.extractall(target)
     return tool, next(target.iterdir())
+
+
+def with_connections(tool, folder):
+    """Lets connections be packed where no build of it stands: a stand-in."""
+    plain, stand_in = tool.built, folder / "connections"
+    stand_in.write_text(calling(LISTS))
+
+    def built(takes_unproved):
+        found, is_proved = plain(takes_unproved)
+        return {"connections": stand_in, **found}, is_proved
+
+    tool.built = built
 
 
 def without_kit():
@@ -59,7 +75,9 @@ def an_archive_answers(folder, wrong):
     row = "shop/cart-5d8b4-t6k9z  pay/ledger-0  TCP 8443  denied-by-default  allowed  egress: shop/cart-to-ledger#0.egress[0]; ingress: pay/ledger-from-cart#0.ingress[0]"
     told(wrong, "the answer", (done.returncode, done.stdout.splitlines()[1:]), (3, [row]))
     version = subprocess.run(["./wenirako", "--version"], cwd=top, env=env, stdout=subprocess.PIPE, text=True).stdout.splitlines()
-    told(wrong, "--version", (version[0], version[-1]), ("wenirako 0123456789ab", "PROVED" if program.is_proved() else "NOT PROVED"))
+    of = "of the archive of 0123456789ab"
+    told(wrong, "--version", version, ["wenirako 0123456789ab", f"policyd: {of}", f"connections: {of}", "PROVED" if program.is_proved() else "NOT PROVED"])
+    connections_are_asked(top, env, wrong)
     told(wrong, "a script", subprocess.run(["./play", "-"], cwd=top, env=env, input='{"op":"sync"}\n', stdout=subprocess.PIPE, text=True).stdout, "synced 0\n")
     manifest(top, wrong)
     path = top / "recipes" / "lib" / "reading.py"
@@ -67,21 +85,39 @@ def an_archive_answers(folder, wrong):
     told(wrong, "a changed file", tool.wrong_of(top), "recipes/lib/reading.py isn't the file that the manifest names")
 
 
+def connections_are_asked(top, env, wrong):
+    """What is open is asked of connections in the archive, and it is what policyd alone says there."""
+    ask = lambda: subprocess.run(["./wenirako", *LIST], cwd=top, env=env, stdout=subprocess.PIPE, stderr=subprocess.PIPE, text=True)
+    path, named = top / "bin" / "connections", top / "MANIFEST.json"
+    plain, value, there = path.read_bytes(), named.read_text(), ask()
+    told(wrong, "what is open", (there.returncode, "pay/teller-6c9f7-hx2wd  pay/ledger-0" in there.stdout), (0, True))
+    path.write_text("another one")
+    told(wrong, "with another file in its place", ask().returncode, 70)
+    others = json.loads(value)
+    others["files"].pop("bin/connections")
+    named.write_text(json.dumps(others))
+    alone = ask()
+    told(wrong, "without it", (alone.returncode, alone.stdout, alone.stderr), (there.returncode, there.stdout, there.stderr))
+    path.write_bytes(plain)
+    named.write_text(value)
+
+
 def manifest(top, wrong):
     """The manifest says what was proved."""
     value = json.loads((top / "MANIFEST.json").read_text())
-    path = top / "bin" / "policyd"
-    told(wrong, "the sum of the program", value["files"]["bin/policyd"], hashlib.sha256(path.read_bytes()).hexdigest())
-    told(wrong, "whether it can be run", os.access(path, os.X_OK), True)
+    for name in ("policyd", "connections"):
+        path = top / "bin" / name
+        told(wrong, f"the sum of {name}", value["files"][f"bin/{name}"], hashlib.sha256(path.read_bytes()).hexdigest())
+        told(wrong, f"whether {name} can be run", os.access(path, os.X_OK), True)
     told(wrong, "whether it is proved", (value["proved"], "NOT-PROVED" in top.name), (program.is_proved(), not program.is_proved()))
     if value["proved"]:
-        told(wrong, "what was proved", (value["proof"]["crates"], bool(value["proof"]["kit"])), (program.parts(), True))
+        told(wrong, "what was proved", ({*value["proof"]["crates"]}, {*value["proof"]["sources"]}, bool(value["proof"]["kit"])), ({*program.parts(), *program.CONNECTIONS.parts()}, {"policyd", "connections"}, True))
 
 
 def only_what_is_proved(folder, wrong):
     """Without --unproved an archive is made of a proved build alone."""
     tool = release()
-    with mock.patch.object(tool.program, "is_proved", lambda: False):
+    with mock.patch.object(tool.program.POLICYD, "is_proved", lambda: False):
         try:
             tool.packed(False)
             wrong.append("an archive is made without a proved build")

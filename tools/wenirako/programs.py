@@ -1,7 +1,7 @@
 """Which program answers: the one of an archive, a proved build of the sources, or a build without proof.
 
 In an archive that `tools/release` made, `MANIFEST.json` stands beside the command, and `bin/policyd` answers, where its
-sum is that of the manifest. In a repository `tests/program.py` knows whether a proved build of the present sources is
+sum is that of the manifest; and `bin/connections`, where it names that too. In a repository `tests/program.py` knows whether a proved build of the present sources is
 there, and `tests/unproved.py` whether one without proof is; where there is neither, one without proof is built and kept.
 """
 from __future__ import annotations
@@ -101,14 +101,19 @@ def build(say: Callable[[str], None], progress: Progress) -> None:
 
 
 def version() -> str:
-    """What `--version` says: the commit, and what the program is."""
+    """What `--version` says: the commit, and what the programs are."""
+    judge, is_proved = origin(there, "not built yet: the first question builds it without proof")
+    lists, _ = origin(connections, "no proved build stands, so policyd is asked alone")
+    return f"wenirako {commit()}\n{NAME}: {judge}\n{LISTS}: {lists}\n{'PROVED' if is_proved else 'NOT PROVED'}"
+
+
+def origin(find: Callable[[], Optional[Program]], lacking: str) -> tuple[str, bool]:
+    """Where a program comes from, or why there is none, and whether it is proved."""
     try:
-        standing = there()
-        what = standing.origin if standing else "not built yet: the first question builds it without proof"
-        is_proved = bool(standing and standing.is_proved)
+        found = find()
     except NoProgram as wrong:
-        what, is_proved = str(wrong), False
-    return f"wenirako {commit()}\npolicyd: {what}\n{'PROVED' if is_proved else 'NOT PROVED'}"
+        return str(wrong), False
+    return (found.origin, found.is_proved) if found else (lacking, False)
 
 
 def commit() -> str:
