@@ -10,6 +10,7 @@ import random
 import shutil
 import signal
 import subprocess
+import sys
 import tempfile
 import time
 
@@ -528,6 +529,59 @@ def children_end_too(folder, wrong):
         path.unlink()
 
 
+# A signal comes while a child is being started, in the main thread or in another one; and behind it nothing is started.
+BEING_STARTED = """
+import concurrent.futures, os, signal, subprocess, sys, threading
+sys.path[:0] = sys.argv[1:3]
+from wenirako import children
+plain, end_all, is_ending, in_thread = subprocess.Popen, children.end_all, threading.Event(), sys.argv[3] == "thread"
+
+def popen(*words, **how):
+    child = plain(*words, **how)
+    print(child.pid, flush=True)
+    os.kill(os.getpid(), signal.SIGTERM)
+    if in_thread:
+        is_ending.wait(60)
+    return child
+
+def ending():
+    is_ending.set()
+    end_all()
+
+def asked():
+    if not in_thread:
+        return children.run(["sleep", "600"]).status
+    with concurrent.futures.ThreadPoolExecutor(1) as pool:
+        found = pool.submit(children.run, ["sleep", "600"])
+        try:
+            return found.result().status
+        except BaseException:
+            children.end_all()
+            raise
+
+subprocess.Popen, children.end_all = popen, ending
+status = children.ended_by(asked)
+try:
+    children.run(["true"])
+except children.Ended as ended:
+    print(status, ended.status)
+"""
+
+
+def children_that_start_end_too(folder, wrong):
+    """A signal that comes while a child is being started ends that one too."""
+    for where in ("main", "thread"):
+        run = subprocess.Popen([sys.executable, "-c", BEING_STARTED, str(TOP / "tools"), str(TOP / "recipes"), where], stdout=subprocess.PIPE, text=True, start_new_session=True)
+        try:
+            said = run.communicate(timeout=120)[0].split()
+        except subprocess.TimeoutExpired:
+            run.kill()
+            said = run.communicate()[0].split()
+        told(wrong, f"how it ends in {where}", (said[1:], is_left(int(said[0]))), (["143", "143"], False))
+        if is_left(int(said[0])):
+            os.killpg(int(said[0]), signal.SIGKILL)
+
+
 def is_left(group):
     """Whether some process of a group still runs."""
     try:
@@ -667,7 +721,7 @@ def over_connections(check):
 def checks():
     found = (a_change_is_told, forms_agree, what_is_open, connections_are_asked, connections_are_asked_of_much, connections_cannot_tell, a_change_is_held, prefixes_are_asked_once, why_is_told, expectations_are_held, flows_are_replayed)
     found += (two_states_are_compared, slips_are_asked_of_the_bridge, workloads_and_namespaces, names_are_ends, worlds_are_told_apart, names_of_each_family, pods_of_both_families_are_ends, live_pods_have_their_addresses, words_agree, bash_completes, kubectl_is_asked)
-    found += (children_end_too, other_programs_are_not_asked, progress_lives, ports_are_read, unions_and_flat_ranges)
+    found += (children_end_too, children_that_start_end_too, other_programs_are_not_asked, progress_lives, ports_are_read, unions_and_flat_ranges)
     found += (forms_are_safe, prefixes_lie_in_each_other, flows_are_read, modules_are_small, one_formatter_lays_them_out, random_changes_are_told)
     asking = (a_change_is_told, forms_agree, what_is_open, expectations_are_held, two_states_are_compared, workloads_and_namespaces, names_are_ends, worlds_are_told_apart, names_of_each_family)
     yield from ((f"front door {it.__name__.replace('_', ' ')}", lambda it=it: run(it)) for it in found)

@@ -1,19 +1,21 @@
 """Programs that are run as children, and that end with this one."""
 from __future__ import annotations
 
+import contextlib
 import os
 import signal
 import subprocess
 import tempfile
 import threading
 import time
-from typing import Callable, NamedTuple, Optional, Sequence
+from typing import Any, Callable, Iterator, NamedTuple, Optional, Sequence
 
 from .statuses import INTERRUPTED, TERMINATED
 
 # How often the caller hears that a child still runs, and how long a child may take to end when it is told to, in seconds.
 TICK, GRACE = 0.2, 3.0
 
+# The children that run. Who starts one has the lock, so that none is missed by who ends all.
 _running: set[subprocess.Popen] = set()
 _lock = threading.Lock()
 
@@ -26,6 +28,40 @@ class Ended(BaseException):
         self.status = status
 
 
+class Signals:
+    """What signals have told this program. The first counts; it raises `Ended` in the main thread, once that may be."""
+
+    def __init__(self) -> None:
+        self.status: Optional[int] = None
+        self.are_held = False
+
+    def heed(self, number: int, _: object) -> None:
+        if self.status is None:
+            self.status = INTERRUPTED if number == signal.SIGINT else TERMINATED
+            if not self.are_held:
+                self.check()
+
+    def check(self) -> None:
+        if self.status is not None:
+            raise Ended(self.status)
+
+    @contextlib.contextmanager
+    def held(self) -> Iterator[None]:
+        """What is done whole: a signal is heeded before it or behind it."""
+        if threading.current_thread() is not threading.main_thread():
+            yield
+            return
+        self.are_held = True
+        try:
+            yield
+        finally:
+            self.are_held = False
+        self.check()
+
+
+_signals = Signals()
+
+
 class Done(NamedTuple):
     """How a child ended: its status, which is negative where a signal ended it, and what it wrote."""
 
@@ -36,13 +72,10 @@ class Done(NamedTuple):
 
 def heed_signals() -> None:
     """From here on SIGINT, SIGTERM and SIGHUP raise `Ended` in the main thread."""
-
-    def raises(number: int, _: object) -> None:
-        raise Ended(INTERRUPTED if number == signal.SIGINT else TERMINATED)
-
+    _signals.status = None
     for number in (signal.SIGINT, signal.SIGTERM, signal.SIGHUP):
         if signal.getsignal(number) is not signal.SIG_IGN:
-            signal.signal(number, raises)
+            signal.signal(number, _signals.heed)
 
 
 def ended_by(main: Callable[[], int]) -> int:
@@ -56,30 +89,41 @@ def ended_by(main: Callable[[], int]) -> int:
         end_all()
 
 
-def run(words: Sequence[str], given: Optional[bytes] = None, tick: Callable[[], None] = lambda: None, **how: object) -> Done:
+def run(words: Sequence[str], given: Optional[bytes] = None, tick: Callable[[], None] = lambda: None, **how: Any) -> Done:
     """Runs a program to its end, and calls `tick` meanwhile. Where this is left by an exception, the child has ended.
 
     It is a session of its own, so that what it starts ends with it; with `start_new_session=False` it keeps the terminal.
     """
-    with tempfile.TemporaryFile() as script:
+    with tempfile.TemporaryFile() as script, contextlib.ExitStack() as behind:
         # (what is left of an input that is piped isn't written any more once `communicate` has timed out)
         script.write(given or b"")
         script.seek(0)
         how = {"start_new_session": True, "stdin": script, "stdout": subprocess.PIPE, "stderr": subprocess.PIPE, **how}
-        child = subprocess.Popen([str(it) for it in words], **how)
-    with _lock:
-        _running.add(child)
-    try:
+        with _signals.held():
+            child = started(words, how)
+            behind.callback(forgotten, child)
         while True:
             try:
                 out, err = child.communicate(timeout=TICK)
                 return Done(child.returncode, out or b"", err or b"")
             except subprocess.TimeoutExpired:
                 tick()
-    finally:
-        end(child)
-        with _lock:
-            _running.discard(child)
+
+
+def started(words: Sequence[str], how: dict[str, Any]) -> subprocess.Popen:
+    """A child that is known to `end_all` as soon as it runs; none where this program was told to end."""
+    with _lock:
+        _signals.check()
+        child = subprocess.Popen([str(it) for it in words], **how)
+        _running.add(child)
+    return child
+
+
+def forgotten(child: subprocess.Popen) -> None:
+    """Ends a child, and forgets it."""
+    end(child)
+    with _lock:
+        _running.discard(child)
 
 
 def end(child: subprocess.Popen) -> None:
