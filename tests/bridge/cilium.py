@@ -196,7 +196,7 @@ class World:
         for entry in policy["spec"].get(direction) or []:
             ports, peers = entry.get("ports") or [], entry.get("from" if direction == "ingress" else "to") or []
             has_port = not ports or any(self.is_port(it.get("port", 0), it.get("endPort"), it.get("protocol", "TCP"), target, protocol, port) for it in ports)
-            if has_port and (not peers or any(self.network_peer(policy, it, other) for it in peers)):
+            if has_port and (not peers or any(self.network_peer(policy, it, other) and self.is_met(kind_of(it), pod, other, direction) for it in peers)):
                 return True
         return False
 
@@ -215,6 +215,11 @@ def rules_of(policy):
     """The rules of a policy, each with the namespace that it is bound to, or None."""
     namespace = None if policy["kind"] == "CiliumClusterwideNetworkPolicy" else namespace_of(policy)
     return [(namespace, it) for it in [policy.get("spec"), *(policy.get("specs") or [])] if it]
+
+
+def kind_of(peer):
+    """The kind of Cilium's peers that a peer of a NetworkPolicy is: one that names pods is a selector."""
+    return "CIDRSet" if peer.get("ipBlock") else "Endpoints"
 
 
 def isolates(rule, direction):

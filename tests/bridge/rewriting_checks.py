@@ -3,8 +3,10 @@
 Each expected rule was worked out by hand from that table; `SAME` stands for the rule as it was written.
 """
 from . import judged
+from .cilium import World
 from .documented import FORTY
 from .objects import app, behind, group, namespace, network, pod, policy, ports, service
+from .random_states import has
 from lib import unread
 
 STATE = [
@@ -189,6 +191,19 @@ def what_is_required(told):
     told("whose peers", of_pods, {"pay/web": True, "pay/new": True, "shop/cart": False})
 
 
+def what_is_required_of_networks(told):
+    """A requirement stands in the peers of a NetworkPolicy that name pods too, and not in its prefixes: the model and the rows."""
+    needs = policy("pay/needs", {"endpointSelector": app("web"), "ingress": [{"fromEndpoints": [app("none")], "fromRequires": [app("other")]}]})
+    peers = [{"namespaceSelector": {}}, {"ipBlock": {"cidr": "198.51.100.0/24"}}]
+    lets = network("pay/lets", {"podSelector": {"matchLabels": {"app": "web"}}, "ingress": [{"from": peers}]})
+    made = judged.changed([*STATE, needs], [lets])
+    world, rows = World([*STATE, needs, lets]), judged.rows_of(made)
+    for source in (("pod", "shop/cart"), ("pod", "pay/new"), ("address", "198.51.100.7"), ("address", "203.0.113.7")):
+        sent = (source, ("pod", "pay/web"), "TCP", 80)
+        told(f"from {source}", any(has(row, sent, [world]) and row["after"] == "allowed" for row in rows), world.passes(*sent))
+    told("what the model lets pass", [world.passes(it, ("pod", "pay/web"), "TCP", 80) for it in (("pod", "shop/cart"), ("address", "198.51.100.7"))], [False, True])
+
+
 def the_clusters_own_name(told):
     key = "io.cilium.k8s.policy.cluster"
     rule = {"endpointSelector": {"matchLabels": {f"k8s:{key}": "east"}}, "ingress": [{"fromEndpoints": [{"matchExpressions": [{"key": key, "operator": "In", "values": ["east", "west", "default"]}]}]}]}
@@ -348,4 +363,4 @@ def forty_policies_are_read(told):
 
 
 def checks():
-    return [forty_policies_are_read, members_become, the_same_object, marks_and_names, places_lead_back, policies_of_hosts, what_is_required, the_clusters_own_name, network_policies, what_is_lacking, what_cilium_refuses_too, what_is_not_read, what_is_not_read_beside_others, documents_that_are_not_read, the_same_does_the_same]
+    return [forty_policies_are_read, members_become, the_same_object, marks_and_names, places_lead_back, policies_of_hosts, what_is_required, what_is_required_of_networks, the_clusters_own_name, network_policies, what_is_lacking, what_cilium_refuses_too, what_is_not_read, what_is_not_read_beside_others, documents_that_are_not_read, the_same_does_the_same]
