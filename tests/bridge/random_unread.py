@@ -135,11 +135,11 @@ class Drawn:
         self.added = [*beside, *([new[1]] if self.way in ("comes", "changes") else [])]
         came = [*beside, *([new[0]] if self.way in ("comes", "changes") else [])]
         self.removed = ["/".join(filter(None, (key_of(read)[0], key_of(read)[1], "p4")))] if self.way == "goes" else []
-        after = replaced([it for it in before[0] if not (self.way == "goes" and key_of(it) == key_of(meant))], came)
+        left = [[it for it in items if not (self.way == "goes" and key_of(it) == key_of(meant))] for items in before]
         self.before = before[1]
-        self.worlds = World(before[0]), World(after)
+        self.worlds = World(before[0]), World(replaced(left[0], came))
         # (by what is read alone it is told which names have an end of their own)
-        self.read = tuple(World(list(map(as_read, it))) for it in (before[1], replaced(before[1], self.added)))
+        self.read = tuple(World(list(map(as_read, it))) for it in (before[1], replaced(left[1], self.added)))
 
 
 def as_read(item):
