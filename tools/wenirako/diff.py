@@ -13,7 +13,8 @@ from typing import Callable, Iterable, NamedTuple, Optional
 
 from lib.reading import Bad
 
-from .connections import Wanted, pairs_with, profiles, wanted
+from .both import Both, Boths, wanted_of
+from .connections import Wanted, pairs_with, profiles
 from .core import ALLOWED, BY_RULE
 from .ends import End, Outside
 from .halves import Halves, Segment, joined
@@ -21,7 +22,8 @@ from .holding import Held
 from .naming import Names
 from .opened import Opened, Untold
 from .reasons import NO_ENTRY, of_change
-from .rows import Line, Rows, Told
+from .rows import Line, Ports, Rows, Told
+from .rows import alike as alike_ports
 from .selecting import DIRECTIONS, EGRESS, Half
 from .states import States
 
@@ -89,8 +91,8 @@ def new_of(halves: tuple[Half, Half]) -> list[str]:
     return list(dict.fromkeys(it.policy.name for it in after.rules if it not in old and after.direction in it.part.isolates()))
 
 
-# A connection by its ends, and a stretch of it.
-Changed = tuple[End, End, Stretch]
+# A connection by its ends, and its stretches.
+Changed = tuple[End, End, list[Stretch]]
 
 
 def alike(before: Segment, after: Segment, other_before: Segment, other_after: Segment, is_asked: bool) -> bool:
@@ -116,24 +118,24 @@ class Diff:
 
     def find(self) -> list[Changed]:
         # (what isn't read is known anew where the core refuses what was thought to be read)
-        self.beside = self.halves.beside
-        self.moved: dict[tuple, bool] = {}
+        self.beside, self.boths = self.halves.beside, Boths(self.halves)
         self.kept: dict[tuple, list[Stretch]] = {}
         self.texts: dict[tuple, Optional[str]] = {}
-        candidates = self.candidates()
-        self.halves.ask(self.first(candidates), "asking about what may change")
-        moving = [it for it in candidates if self.moves(*it)]
-        self.halves.ask((it for pair in moving for phase in (0, 1) for it in wanted(*pair, phase)), "asking about other halves")
-        found = [(*pair, it) for pair in moving for it in self.changed(*pair)]
+        candidates = {pair: self.boths.of(*pair) for pair in self.candidates()}
+        self.halves.ask(wanted_of(it for boths in candidates.values() for it in boths if it.may_change), "asking about what may change")
+        moving = {pair: boths for pair, boths in candidates.items() if any(it.may_change and self.boths.moves(it) for it in boths)}
+        self.halves.ask(wanted_of(it for boths in moving.values() for it in boths), "asking about other halves")
+        found = [(*pair, self.changed(boths)) for pair, boths in moving.items()]
         self.hold(found)
-        once = {id(it): it for *_, it in found}
-        self.halves.explain((segment for it in once.values() for pair in it.segments() if it.asks(*pair) for segment in pair), "asking for reasons")
+        once = (it for listed in self.kept.values() for it in listed)
+        self.halves.explain((segment for it in once for pair in it.segments() if it.asks(*pair) for segment in pair), "asking for reasons")
         return found
 
     def hold(self, found: Iterable[Changed]) -> None:
         """Complains where `connections` is there, and says that other connections change."""
         if self.opened.program() is not None:
-            known = [it for it in found if it[2].changes and not any(isinstance(end, Outside) and end.kind == "name" for end in it[:2])]
+            told = (it for it in found if not any(isinstance(end, Outside) and end.kind == "name" for end in it[:2]))
+            known = ((source, target, it) for source, target, listed in told for it in listed if it.changes)
             try:
                 Held(self.opened, self.groups).hold((source, target, it.protocol, it.low, it.high, it.is_allowed) for source, target, it in known)
             except Untold as why:
@@ -156,55 +158,24 @@ class Diff:
         found: dict[tuple[End, End], None] = {}
         for direction in DIRECTIONS:
             for group in groups:
-                asked = [(phase, group.at(phase), direction) for phase in (0, 1)]
-                is_touched = self.halves.half(*asked[0]) != self.halves.half(*asked[1]) or self.is_doubted(*asked)
-                for other in [*groups, *self.halves.outer(*asked)] if is_touched else relabelled:
+                asked = ((phase, group.at(phase), direction) for phase in (0, 1))
+                for other in [*groups, *self.halves.outer(*asked)] if self.boths.is_touched(group, direction) else relabelled:
                     pair = (group, other) if direction == EGRESS else (other, group)
                     if pairs_with(*pair, self.universe.node is not None):
                         found[pair] = None
         return list(found)
 
-    def touched(self, source: End, target: End) -> list[tuple[Wanted, Wanted]]:
-        """The halves of a connection that may change, before and after."""
-        both = zip(wanted(source, target, 0), wanted(source, target, 1))
-        return [pair for pair in both if self.halves.key(*pair[0]) != self.halves.key(*pair[1]) or self.is_doubted(*pair)]
-
-    def first(self, candidates: Iterable[tuple[End, End]]) -> Iterable[Wanted]:
-        for pair in candidates:
-            for both in self.touched(*pair):
-                yield from both
-
     # What changes.
 
-    def moves(self, source: End, target: End) -> bool:
-        """Whether some packet of a half that may change is judged otherwise after, so that its connection may change."""
-        return any(self.moves_in(*both) for both in self.touched(source, target))
-
-    def moves_in(self, before: Wanted, after: Wanted) -> bool:
-        key = self.kind(before, after)
-        if key not in self.moved:
-            found = profiles(self.halves, (before, after))
-            self.moved[key] = bool(found) and any(self.halves.differ(before, after, *pair) for *_, pair in joined(found))
-        return self.moved[key]
-
-    def is_doubted(self, before: tuple, after: tuple) -> bool:
-        """Whether something else that isn't read touches a half after, or the same something touches other labels."""
-        numbers = [self.beside.number(*it[:3]) for it in (before, after)]
-        return numbers[0] != numbers[1] or bool(numbers[0]) and before[1:] != after[1:]
-
-    def changed(self, source: End, target: End) -> list[Stretch]:
-        """The stretches in which a connection changes, made once for all that are judged alike."""
-        before, after = wanted(source, target, 0), wanted(source, target, 1)
-        key = tuple(map(self.kind, before, after))
+    def changed(self, boths: tuple[Both, ...]) -> list[Stretch]:
+        """The stretches in which a connection changes, made once for all that are told alike."""
+        key = tuple(map(self.boths.shape, boths))
         if key not in self.kept:
-            self.kept[key] = joined_alike((it for it in self.stretches(before, after) if it.is_shown or it.is_half), self.names_beside)
+            self.kept[key] = joined_alike((it for it in self.stretches(boths) if it.is_shown or it.is_half), self.names_beside)
         return self.kept[key]
 
-    def kind(self, before: Wanted, after: Wanted) -> tuple:
-        """What the verdicts on a half depend on, and the doubts about them."""
-        return (*((self.halves.key(*it), self.beside.number(*it[:3])) for it in (before, after)), before[1:] == after[1:])
-
-    def stretches(self, before: list[Wanted], after: list[Wanted]) -> Iterable[Stretch]:
+    def stretches(self, boths: tuple[Both, ...]) -> Iterable[Stretch]:
+        before, after = [it.before for it in boths], [it.after for it in boths]
         found = profiles(self.halves, [*before, *after])
         for protocol, low, high, segments in joined(found) if found else ():
             halves = tuple(zip(before, after, segments, segments[len(before) :]))
@@ -221,13 +192,21 @@ class Diff:
 
     def lines(self, names: Names, is_shown: bool = True) -> list[Line]:
         """The connections that change; or those that don't, though a half of them does."""
-        rows, told = Rows(), {}
-        for source, target, it in self.found:
-            if it.is_shown == is_shown:
-                if id(it) not in told:
-                    told[id(it)] = self.told(it)
-                rows.add(source, target, it.protocol, it.low, it.high, told[id(it)])
+        rows = Rows()
+        told: dict[int, list[tuple[Ports, Told]]] = {}
+        for source, target, listed in self.found:
+            if id(listed) not in told:
+                told[id(listed)] = self.all_told(it for it in listed if it.is_shown == is_shown)
+            for ports, one in told[id(listed)]:
+                rows.join(source, target, ports, one)
         return rows.lines(names)
+
+    def all_told(self, listed: Iterable[Stretch]) -> list[tuple[Ports, Told]]:
+        """What is told of a connection, each with its ports."""
+        found: dict[Told, dict[str, list]] = {}
+        for it in listed:
+            found.setdefault(self.told(it), {}).setdefault(it.protocol, []).append((it.low, it.high))
+        return [(alike_ports(stretches), told) for told, stretches in found.items()]
 
     def told(self, it: Stretch) -> Told:
         texts = [text for half in sorted(it.halves, key=lambda half: half[1][2]) for text in [self.text(it, *half)] if text]

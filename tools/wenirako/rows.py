@@ -55,16 +55,20 @@ class Rows:
 
     def __init__(self) -> None:
         self.by_ports: dict[tuple, dict[str, list]] = {}
+        self.by_from: dict[tuple, set] = {}
 
     def add(self, source: End, target: End, protocol: str, low: int, high: int, told: Told) -> None:
         self.by_ports.setdefault((source, target, told), {}).setdefault(protocol, []).append((low, high))
 
+    def join(self, source: End, target: End, of_ports: Ports, told: Told) -> None:
+        """All packets between two ends that are told so, by their ports."""
+        self.by_from.setdefault((target, of_ports, told), set()).add(source)
+
     def lines(self, names: Names) -> list[Line]:
-        by_from: dict[tuple, set] = {}
         by_to: dict[tuple, set] = {}
         for (source, target, told), stretches in self.by_ports.items():
-            by_from.setdefault((target, alike(stretches), told), set()).add(source)
-        for (target, of_ports, told), sources in by_from.items():
+            self.join(source, target, alike(stretches), told)
+        for (target, of_ports, told), sources in self.by_from.items():
             by_to.setdefault((frozenset(sources), of_ports, told), set()).add(target)
         made = [Line(froms, frozenset(tos), of_ports, told) for (froms, of_ports, told), tos in by_to.items()]
         return sorted(made, key=lambda it: (names.side(it.tos, it.froms), names.side(it.froms, it.tos), it.ports, it.told))
