@@ -1,18 +1,20 @@
 -- The keys that a change may change are gathered.
-use Rattle.std.proofs.Common.{◌≡◌, ℕ, ◌+◌, ◌<◌, ◌≤◌, Bool, true, false, cond, List, [], ◌∷◌, ◌++◌, length, get_or, take, map, filter, Some, refl, sym, ◌∙◌, ap, subst, inl, inr, arith}
+use Rattle.std.proofs.Common.{◌≡◌, ℕ, ◌+◌, ◌<◌, ◌≤◌, Bool, true, false, cond, List, [], ◌∷◌, ◌++◌, map, filter, Some, refl, sym, ◌∙◌, ap, subst, inl, inr, arith}
 use Rattle.std.specs.BTreeMap.{BTreeMap, is_at}
 use Rattle.std.specs.BTreeMap.Range.{IsInRange, range_contains}
 use Rattle.std.specs.Cmp.{unsigned_tied, ranks}
+use Rattle.std.specs.List.{flat_map}
 use Rattle.std.specs.Map.{lookup}
 use Rattle.std.specs.Ordering.{MatchOrdering, is_gt, nat_cmp}
 use Rattle.std.specs.declared.cmp.Ordering.{Ordering}
 use Rattle.std.specs.declared.cmp.Ordering.TheVariants.{Less, Equal, Greater}
 use Rattle.std.specs.declared.ops.Bound.TheVariants.{Included, Excluded}
 use Rattle.std.specs.Option.{unwrap_or}
-use Rattle.std.proofs.lemmas.Bool.{and_parts, both_ways, cases_Bool, cases_lt, eqb-true, or_left, or_right}
+use Rattle.std.proofs.lemmas.Bool.{and_parts, cases_Bool, cases_lt, eqb-true, or_cases, or_left, or_right}
 use Rattle.std.proofs.lemmas.Cmp.{nat_cmp_total}
 use Rattle.std.proofs.lemmas.Map.Views.{range_contains-from_IsInRange}
 use Rattle.std.proofs.lemmas.List.Folds.{list_any-append}
+use Rattle.pol_data.proofs.Counts.{count_by-cons}
 use Rattle.pol_mapkey.specs.Entries.{Entry}
 use Rattle.pol_mapkey.specs.MapKey.{covers, same_key}
 use Rattle.pol_mapkey.specs.declared.Kind.{Kind}
@@ -20,13 +22,13 @@ use Rattle.pol_mapkey.specs.declared.Kind.TheVariants.{Allow, Deny}
 use Rattle.pol_mapkey.specs.declared.MapKey.{MapKey}
 use Rattle.pol_mapkey.proofs.Equality.{same_key-is, same_key-self}
 use Rattle.pol_entry_tally.specs.declared.cells.Cell.{Cell}
-use Rattle.pol_entry_tally.specs.Affected.{Gathers, HasUnder, Keeps, flips, has_key, keys_within}
+use Rattle.pol_entry_tally.specs.declared.tally.Tally.{Tally}
+use Rattle.pol_entry_tally.specs.Affected.{Gathers, HasUnder, Keeps, flips, has_key, keys_flipped, keys_under, keys_within}
 use Rattle.pol_entry_tally.specs.Cells.{cell_at, cell_in, no_cell}
-use Rattle.pol_entry_tally.specs.Counted.{CellsOf, cells_in}
+use Rattle.pol_entry_tally.specs.Counted.{cells_in, cells_of}
 use Rattle.pol_entry_tally.specs.Times.{is_entry, same_kind, times}
 use Rattle.pol_entry_tally.specs.Numbers.{fits, key_of, number_of, width}
 use Rattle.pol_entry_tally.proofs.ByNumber.{key_again, numbers_under}
-use Rattle.pol_entry_tally.proofs.Counting.{times_more}
 
 -- ---- keys behind others
 pub kept_append : (old more new : List MapKey) → new ≡ old ++ more → Keeps old new
@@ -117,39 +119,52 @@ has_under allows denies wide old mid new first second q Allow over some =
 has_under allows denies wide old mid new first second q Deny over some =
     has_appended mid (keys_within wide denies.entries) new q second (covered_within wide q denies over some)
 
--- ---- keys that are gathered stay so
-pub gathers_still : (cells : CellsOf) (old new : List MapKey) (key : MapKey) → Keeps old new → Gathers cells old key → Gathers cells new key
-gathers_still cells old new key kept g = record {
-  own = kept key g.own;
-  under = λ flip q k over some. kept q (g.under flip q k over some);
-}
+-- ---- what is gathered of a list of keys
+abbrev keys_in : List Entry → List MapKey
+keys_in es = map (λ (e : Entry). e.0) es
 
-pub gathers_unflipped : (cells : CellsOf) (new : List MapKey) (key : MapKey) → has_key key new ≡ true → flips cells key ≡ false → Gathers cells new key
-gathers_unflipped cells new key own not_flipped = record { own = own; under = λ flip. absurd (both_ways (flips cells key) not_flipped flip) }
+listed : (es : List Entry) (q : MapKey) (k : Kind) → 0 < times es q k → has_key q (keys_in es) ≡ true
+listed [] q k some = absurd (omega (arith, some))
+listed (e ∷ es) q k some = by (is_entry q k e) refl (listed es q k)
+  where
+    by : (b : Bool) → is_entry q k e ≡ b → (0 < times es q k → has_key q (keys_in es) ≡ true) → has_key q (keys_in (e ∷ es)) ≡ true
+    by true t later = or_left (same_key e.0 q) (has_key q (keys_in es)) (and_parts (same_kind e.1 k) (same_key e.0 q) t).1
+    by false f later =
+        let fewer : times (e ∷ es) q k ≡ 0 + times es q k = count_by-cons (is_entry q k) e es ∙ ap (λ b. cond b 1 0 + times es q k) f in
+        or_right (same_key e.0 q) (has_key q (keys_in es)) (later (omega (arith, some, fewer)))
 
-module _ (cells : CellsOf) (entries : List Entry) where
-  abbrev AreGathered : List Entry → List MapKey → Type 0
-  AreGathered es gathered = (q : MapKey) (k : Kind) → 0 < times es q k → Gathers cells gathered q
-
-  pub none_gathered : (gathered : List MapKey) → AreGathered [] gathered
-  none_gathered gathered q k some = absurd (omega (arith, some))
-
-  pub one_gathered : (i : ℕ) (e : Entry) (old new : List MapKey) → i < length entries → get_or entries i e ≡ e → Keeps old new → Gathers cells new e.0
-      → AreGathered (take i entries) old → AreGathered (take (i + 1) entries) new
-  one_gathered i e old new within at kept own inv q k some = by (is_entry q k e) refl
-    where
-      by : (b : Bool) → is_entry q k e ≡ b → Gathers cells new q
-      by true t = subst (Gathers cells new) (same_key-is e.0 q (and_parts (same_kind e.1 k) (same_key e.0 q) t).1) own
-      by false f =
-          let same : times (take (i + 1) entries) q k ≡ times (take i entries) q k + 0 = times_more entries i e q k within at ∙ ap (λ b. times (take i entries) q k + cond b 1 0) f in
-          gathers_still cells old new q kept (inv q k (omega (arith, some, same)))
-
-pub both_gathered : (cells : CellsOf) (come gone : List Entry) (mid new last : List MapKey)
-    → ((q : MapKey) (k : Kind) → 0 < times come q k → Gathers cells mid q) → Keeps mid new
-    → ((q : MapKey) (k : Kind) → 0 < times gone q k → Gathers cells new q) → Keeps new last
-    → (q : MapKey) (k : Kind) → 0 < times come q k + times gone q k → Gathers cells last q
-both_gathered cells come gone mid new last first kept second kept_last q k some =
-    gathers_still cells new last q kept_last (elim (cases_lt 0 (times come q k)) [
-      | inl more ↦ gathers_still cells mid new q kept (first q k more)
-      | inr none ↦ second q k (omega (arith, some, none))
+-- the keys of entries that come and go
+pub both_listed : (come gone : List Entry) (old mid new last : List MapKey) → mid ≡ old ++ keys_in come → new ≡ mid ++ keys_in gone → Keeps new last
+    → (q : MapKey) (k : Kind) → 0 < times come q k + times gone q k → has_key q last ≡ true
+both_listed come gone old mid new last first second kept q k some =
+    kept q (elim (cases_lt 0 (times come q k)) [
+      | inl more ↦ kept_append mid (keys_in gone) new second q (has_appended old (keys_in come) mid q first (listed come q k more))
+      | inr none ↦ has_appended mid (keys_in gone) new q second (listed gone q k (omega (arith, some, none)))
     ])
+
+-- what a key covers
+under_one : (tally : Tally) (wide : MapKey) → HasUnder (cells_of tally) wide (keys_under tally wide)
+under_one tally wide = has_under tally.allows tally.denies wide [] (keys_within wide tally.allows.entries) (keys_under tally wide) refl refl
+
+-- what keys cover of which a deny comes or goes
+flipped_under : (tally : Tally) (wides : List MapKey) (q : MapKey) → has_key q wides ≡ true → flips (cells_of tally) q ≡ true
+    → HasUnder (cells_of tally) q (flat_map (keys_flipped tally) wides)
+flipped_under tally [] q there flip p kind over some = absurd (let wrong : ⊥ = cc in wrong)
+flipped_under tally (w ∷ ws) q there flip p kind over some =
+    elim (or_cases (same_key w q) (has_key q ws) there) [
+      | inl same ↦
+          (let all : keys_flipped tally q ≡ keys_under tally q = ap (λ b. cond b (keys_under tally q) []) flip in
+          let own : keys_flipped tally w ≡ keys_under tally q = ap (keys_flipped tally) (same_key-is w q same) ∙ all in
+          kept_append (keys_flipped tally w) (flat_map (keys_flipped tally) ws) (flat_map (keys_flipped tally) (w ∷ ws)) refl p
+          (ap (has_key p) own ∙ under_one tally q p kind over some))
+      | inr later ↦
+          has_appended (keys_flipped tally w) (flat_map (keys_flipped tally) ws) (flat_map (keys_flipped tally) (w ∷ ws)) p refl
+          (flipped_under tally ws q later flip p kind over some)
+    ]
+
+pub gathered : (tally : Tally) (moved under last : List MapKey) (q : MapKey) → under ≡ flat_map (keys_flipped tally) moved → Keeps moved last → Keeps under last
+    → has_key q moved ≡ true → Gathers (cells_of tally) last q
+gathered tally moved under last q is kept kept_under there = record {
+  own = kept q there;
+  under = λ flip p kind over some. kept_under p (ap (has_key p) is ∙ flipped_under tally moved q there flip p kind over some);
+}

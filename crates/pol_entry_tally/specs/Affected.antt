@@ -1,5 +1,5 @@
 -- The keys whose entries a change may change, and the changes. No public clause cites this module.
-use Rattle.std.specs.Prelude.{◌≡◌, ℕ, ◌+◌, ◌<◌, Bool, true, false, not, List, [], ◌∷◌, map, Option, None, Some}
+use Rattle.std.specs.Prelude.{◌≡◌, ℕ, ◌+◌, ◌<◌, Bool, true, false, not, if◌then◌else◌, List, [], ◌∷◌, ◌++◌, map, Option, None, Some}
 use Rattle.std.specs.BTreeMap.Range.{entries_between}
 use Rattle.std.specs.List.{flat_map, list_any}
 use Rattle.std.specs.List.Sorted.{IsStrictlySortedBy}
@@ -14,7 +14,8 @@ use Rattle.pol_map_changes.specs.declared.change.Change.TheVariants.{Set, Clear}
 use Rattle.pol_map_changes.specs.Changes.{difference_at}
 use Rattle.pol_entry_tally.specs.declared.cells.Cell.{Cell}
 use Rattle.pol_entry_tally.specs.declared.cells.Side.TheVariants.{Before, After}
-use Rattle.pol_entry_tally.specs.Counted.{CellsOf, times_on}
+use Rattle.pol_entry_tally.specs.declared.tally.Tally.{Tally}
+use Rattle.pol_entry_tally.specs.Counted.{CellsOf, cells_of, times_on}
 use Rattle.pol_entry_tally.specs.Numbers.{key_of, number_of, width}
 use Rattle.pol_entry_tally.specs.Times.{Times, is_given, kind_of}
 
@@ -37,6 +38,14 @@ differ false b = b
 
 abbrev pub flips : CellsOf → MapKey → Bool
 flips cells key = differ (is_given (times_on Before cells) Deny key) (is_given (times_on After cells) Deny key)
+
+-- the keys that are given on some side and that this key covers: one that is allowed and denied stands twice
+abbrev pub keys_under : Tally → MapKey → List MapKey
+keys_under tally wide = keys_within wide tally.allows.entries ++ keys_within wide tally.denies.entries
+
+-- these, where a deny of the key comes or goes
+abbrev pub keys_flipped : Tally → MapKey → List MapKey
+keys_flipped tally key = if flips (cells_of tally) key then keys_under tally key else []
 
 -- each key that is given on some side and that this key covers
 abbrev pub HasUnder : CellsOf → MapKey → List MapKey → Type 0
