@@ -675,6 +675,8 @@ def prefixes_lie_in_each_other(_, wrong):
 def flows_are_read(_, wrong):
     found = flows.Flows("\n".join([flow("a/x", "a/y", 80, "2026-01-02T00:00:00Z"), flow("a/x", "a/y", 80, "2026-01-01T00:00:00Z"), flow("a/x", "a/y", 81, verdict=1)]), "name")
     told(wrong, "counts", [(it.port, seen.count, seen.first[:10], seen.last[:10]) for it, seen in found.seen.items()], [(80, 2, "2026-01-01", "2026-01-02"), (81, 1, "2026-01-01", "2026-01-01")])
+    odd = flows.Flows("\n".join(flow("a/x", "a/y", 80, **more) for more in ({"l4": "TCP"}, {"l4": ["UDP"]}, {"IP": "none"})), "name")
+    told(wrong, "members of other shapes", (len(odd.seen), odd.left_out), (1, {"flows that aren't of TCP, UDP or SCTP": 2}))
     one = flows.FlowEnd("", "", ("reserved:kube-apiserver", "reserved:remote-node"), "")
     told(wrong, "the API server", one.entity, 7)
 

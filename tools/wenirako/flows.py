@@ -29,7 +29,7 @@ class FlowEnd(NamedTuple):
     def entity(self) -> Optional[int]:
         """The number of the entity that it is, kube-apiserver before all else, or None."""
         found = [RESERVED[it] for it in self.labels if it in RESERVED]
-        return 7 if 7 in found else next(iter(found), None)
+        return 7 if 7 in found else found[0] if found else None
 
     @property
     def is_world(self) -> bool:
@@ -87,9 +87,15 @@ class Flows:
             yield f"left out: {why}: {count}"
 
 
+def object_of(found: dict, name: str) -> dict:
+    """A member that is an object, or an empty one."""
+    value = found.get(name)
+    return value if isinstance(value, dict) else {}
+
+
 def why_left_out(found: dict) -> Optional[str]:
     """Why a flow isn't asked about, or None."""
-    layer = found.get("l4") or {}
+    layer = object_of(found, "l4")
     if "node_status" in found or "lost_events" in found or not (found.get("source") or found.get("IP")):
         return "lines that are no flows"
     if found.get("verdict") not in (None, "FORWARDED", "REDIRECTED", 1, 5):
@@ -104,13 +110,13 @@ def why_left_out(found: dict) -> Optional[str]:
 
 
 def flow_of(found: dict, place: str) -> Flow:
-    addresses = found.get("IP") or {}
+    addresses = object_of(found, "IP")
     protocol = next(it for it in ("TCP", "UDP", "SCTP") if it in found["l4"])
-    port = (found["l4"][protocol] or {}).get("destination_port")
+    port = object_of(found["l4"], protocol).get("destination_port")
     if not isinstance(port, int) or not 0 <= port <= 65_535:
         raise Bad(f"{place}: its l4.{protocol}.destination_port is no port")
-    ends = (end_of(found.get(name) or {}, str(addresses.get(name) or ""), f"{place}: {name}") for name in ("source", "destination"))
-    return Flow(*ends, protocol, port)
+    source, target = (end_of(found.get(name) or {}, str(addresses.get(name) or ""), f"{place}: {name}") for name in ("source", "destination"))
+    return Flow(source, target, protocol, port)
 
 
 def end_of(value: object, address: str, place: str) -> FlowEnd:
