@@ -49,6 +49,13 @@ def prefix(text: str) -> typing.Optional[Network]:
     return NETWORKS[found.version]((int(found), int(length) if slash else found.max_prefixlen), strict=False)
 
 
+def known(text: str) -> Network:
+    """The prefix of a text that is known to be one."""
+    found = prefix(text)
+    assert found is not None
+    return found
+
+
 def written(it: typing.Union[Address, Network]) -> str:
     """An address or a prefix, an IPv6 address in its shortest text (RFC 5952, section 4), with no IPv4 address at its end."""
     if isinstance(it, (ipaddress.IPv4Network, ipaddress.IPv6Network)):

@@ -11,7 +11,7 @@ if typing.TYPE_CHECKING:
 
 def said(state: State, answers: typing.Dict[str, list], pods: typing.Iterable) -> typing.Iterator[str]:
     """The summary of what isn't read, and which endpoints, and which answers by their lines, it may change."""
-    unread = {}
+    unread: typing.Dict[str, list] = {}
     for it in state.all_unsure:
         unread.setdefault(it.policy, []).append(it)
     if unread:
@@ -30,7 +30,7 @@ def beside(state: State) -> typing.Iterator[str]:
     for it in state.rewritten.values():
         if it.refused:
             yield f"{it.policy.name} is never in force: Cilium refuses it: {it.refused}"
-    total = {}
+    total: typing.Dict[str, int] = {}
     for it in state.rewritten.values():
         for what, count in it.counted.items():
             total[what] = total.get(what, 0) + count

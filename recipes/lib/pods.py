@@ -49,7 +49,8 @@ class Pod:
         self.has_address = bool(self.address or status.get("podIP"))
         self.of_node = addresses_of(f"{place}: status", status, "hostIPs", "hostIP")
         # Why it stands for pods that come, such as `finished`; empty for a pod that is there.
-        self.stands_for, self.labels = "", ()
+        self.stands_for = ""
+        self.labels: typing.Tuple[str, ...] = ()
 
     def reason(self) -> typing.Optional[str]:
         """Why it is no endpoint and no identity, or None."""

@@ -15,7 +15,7 @@ Ranges = typing.List[typing.Tuple[int, int]]
 
 def ranges(entry: dict) -> typing.Dict[str, Ranges]:
     """The ranges of an entry's ports, by protocol; an entry without ports has none."""
-    found = {it: [] for it in PROTOCOLS}
+    found: typing.Dict[str, Ranges] = {it: [] for it in PROTOCOLS}
     for item in entry.get("toPorts") or []:
         for port in item.get("ports") or []:
             low = int(port["port"])
@@ -29,7 +29,8 @@ def ranges(entry: dict) -> typing.Dict[str, Ranges]:
 def stretches(entries: typing.Iterable[dict]) -> typing.Dict[str, typing.Tuple[typing.Dict[int, int], typing.Tuple[str, ...]]]:
     """The stretches of ports, each with its last port, of each protocol that the entries tell from those before it, and
     which protocols they treat like it."""
-    all_ranges, alike = [ranges(it) for it in entries], {}
+    all_ranges = [ranges(it) for it in entries]
+    alike: typing.Dict[tuple, typing.List[str]] = {}
     for protocol in PROTOCOLS:
         alike.setdefault(tuple(tuple(it[protocol]) for it in all_ranges), []).append(protocol)
     found = {}
@@ -41,7 +42,7 @@ def stretches(entries: typing.Iterable[dict]) -> typing.Dict[str, typing.Tuple[t
 
 def merged(stretches: typing.Iterable[typing.Tuple[int, int]]) -> typing.Tuple[typing.Tuple[int, int], ...]:
     """Stretches, with those that touch made one."""
-    found = []
+    found: Ranges = []
     for low, high in sorted(stretches):
         if found and found[-1][1] + 1 == low:
             found[-1] = (found[-1][0], high)

@@ -10,7 +10,7 @@ import functools
 import itertools
 import typing
 
-from .addresses import WORLDS, Network, is_world, order, prefix
+from .addresses import WORLDS, Network, is_world, known, order
 from .addresses import written as text_of
 
 # A region as a prefix and its exceptions.
@@ -23,16 +23,16 @@ def named(entries: typing.Iterable[dict]) -> typing.Set[Network]:
     for entry in entries:
         found |= listed([entry])
         for it in sets(entry):
-            found |= {prefix(text) for text in it.get("except") or []}
+            found |= {known(text) for text in it.get("except") or []}
     return found
 
 
 def listed(entries: typing.Iterable[dict]) -> typing.Set[Network]:
     """The prefixes that are peers of entries."""
-    found = set()
+    found: typing.Set[Network] = set()
     for entry in entries:
         alone = [it for kind in ("from", "to") for it in entry.get(f"{kind}CIDR") or []]
-        found |= {prefix(it) for it in [*alone, *(it["cidr"] for it in sets(entry))]}
+        found |= {known(it) for it in [*alone, *(it["cidr"] for it in sets(entry))]}
     return found
 
 

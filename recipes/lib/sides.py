@@ -21,4 +21,4 @@ def whose(cluster: Cluster, address: str) -> typing.Optional[str]:
     if address in cluster.nodes:
         return f"the address of the node {cluster.nodes[address]}; name it by the entity `host` or `remote-node`"
     pod = cluster.pod_at(address)
-    return pod and f"the address of the pod {pod.name}; name it by its labels"
+    return f"the address of the pod {pod.name}; name it by its labels" if pod is not None else None

@@ -45,16 +45,16 @@ class Beside:
         """A number for what `unsure` gives: 0 for nothing, and the same for the same."""
         return self.numbers.setdefault(frozenset(self.unsure(phase, at, direction)), len(self.numbers)) if self.has_doubts else 0
 
-    def turning(self, phase: int, at: int, direction: str, plain: Plain) -> frozenset:
+    def turning(self, asked: tuple, plain: Plain) -> frozenset:
         """What isn't read and may turn the verdict of a half."""
-        return frozenset(unsure.of_half(plain, self.unsure(phase, at, direction)))
+        return frozenset(unsure.of_half(plain, self.unsure(*asked)))
 
     def may_differ(self, before: tuple, after: tuple, one: Plain, other: Plain) -> bool:
         """Whether a half, asked about before and after a change, may be judged otherwise for what isn't read.
 
         What is the same in both does the same there to pods of the same labels.
         """
-        turning = self.turning(*before[:3], one), self.turning(*after[:3], other)
+        turning = self.turning(before[:3], one), self.turning(after[:3], other)
         return any(turning) and (turning[0] != turning[1] or one != other or before[1:] != after[1:])
 
     def asked(self, what: str, phase: int, at: int, direction: str) -> list:
@@ -63,18 +63,18 @@ class Beside:
             self.kept[key] = getattr(self.universe.states[phase], what)(self.universe.sets[at].labels, direction)
         return self.kept[key]
 
-    def doubts(self, halves: Iterable[tuple[int, int, str, Plain]]) -> list[str]:
+    def doubts(self, halves: Iterable[tuple]) -> list[str]:
         """The names of what isn't read and may turn the verdict on a connection, given by its halves in one state."""
         if not self.has_doubts:
             return []
         pairs = [(plain, self.unsure(phase, at, direction)) for phase, at, direction, plain in halves]
         return [it.policy for it in unsure.of_connection(pairs)]
 
-    def listed_names(self, asked: Iterable[tuple[int, int, str]]) -> list[str]:
+    def listed_names(self, asked: Iterable[tuple]) -> list[str]:
         """The names of unknown addresses at the other side of halves."""
         return list(dict.fromkeys(name for it in asked for entry in self.names(*it) for name in entry.names))
 
-    def names_at(self, asked: Iterable[tuple[int, int, str]], protocol: str, port: int) -> tuple[str, ...]:
+    def names_at(self, asked: Iterable[tuple], protocol: str, port: int) -> tuple[str, ...]:
         """The names whose addresses are opened at a port beside the world's."""
         listed = [entry for it in asked for entry in self.names(*it) if has_port(entry.ports, protocol, port)]
         return tuple(dict.fromkeys(name for entry in listed for name in entry.names))

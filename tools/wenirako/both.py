@@ -38,11 +38,12 @@ class Boths:
     def one(self, group: Group, direction: str, other: End) -> Both:
         known = self.known.setdefault((group, direction), {})
         if other not in known:
-            known[other] = self.make(*((phase, group.at(phase), direction, side(other, phase)) for phase in (0, 1)))
+            before, after = ((phase, group.number(phase), direction, side(other, phase)) for phase in (0, 1))
+            known[other] = self.make(before, after)
         return known[other]
 
     def make(self, before: Wanted, after: Wanted) -> Both:
-        keys, numbers = ([of(*it) for it in (before, after)] for of in (self.halves.key, self.number))
+        keys, numbers = [self.halves.key(*it) for it in (before, after)], [self.number(*it) for it in (before, after)]
         is_same = before[1:] == after[1:]
         key = (*keys, *numbers, is_same)
         if key not in self.made:
@@ -58,7 +59,7 @@ class Boths:
 
     def is_touched(self, group: Group, direction: str) -> bool:
         """Whether halves of a group in a direction may change, whatever their other sides are."""
-        before, after = ((phase, group.at(phase), direction) for phase in (0, 1))
+        before, after = ((phase, group.number(phase), direction) for phase in (0, 1))
         numbers = [self.number(*it) for it in (before, after)]
         return self.halves.half(*before) != self.halves.half(*after) or self.are_doubted(numbers, before[1:] == after[1:])
 
@@ -66,7 +67,7 @@ class Boths:
         """Whether some packet of a half that may change is judged otherwise after, once it has been asked about."""
         if it not in self.moved:
             found = profiles(self.halves, (it.before, it.after))
-            self.moved[it] = bool(found) and any(self.halves.differ(it.before, it.after, *pair) for *_, pair in joined(found))
+            self.moved[it] = found is not None and any(self.halves.differ(it.before, it.after, *pair) for *_, pair in joined(found))
         return self.moved[it]
 
     def shape(self, it: Both) -> object:

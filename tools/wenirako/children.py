@@ -102,12 +102,18 @@ def run(words: Sequence[str], given: Optional[bytes] = None, tick: Callable[[], 
         with _signals.held():
             child = started(words, how)
             behind.callback(forgotten, child)
-        while True:
-            try:
-                out, err = child.communicate(timeout=TICK)
-                return Done(child.returncode, out or b"", err or b"")
-            except subprocess.TimeoutExpired:
-                tick()
+        done = heard(child, tick)
+    return done
+
+
+def heard(child: subprocess.Popen, tick: Callable[[], None]) -> Done:
+    """What a child has written, once it has ended."""
+    while True:
+        try:
+            out, err = child.communicate(timeout=TICK)
+            return Done(child.returncode, out or b"", err or b"")
+        except subprocess.TimeoutExpired:
+            tick()
 
 
 def started(words: Sequence[str], how: dict[str, Any]) -> subprocess.Popen:

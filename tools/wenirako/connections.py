@@ -13,7 +13,7 @@ from .halves import Halves, Profile, Segment, Side, joined
 from .selecting import EGRESS, INGRESS
 
 # A half as it is asked for: its phase, its endpoint's set of labels, its direction and the other side.
-Wanted = tuple
+Wanted = tuple[int, int, str, Side]
 # First and last ports, ascending.
 Ranges = Sequence[tuple[int, int]]
 
@@ -39,23 +39,23 @@ class Stretch(NamedTuple):
 
 def side(end: End, phase: int) -> Side:
     """An end as the other side of a half."""
-    return end.at(phase) if isinstance(end, Group) else end
+    return end.number(phase) if isinstance(end, Group) else end
 
 
 def wanted(source: End, target: End, phase: int) -> list[Wanted]:
     """The halves of a connection."""
-    found = []
+    found: list[Wanted] = []
     if isinstance(source, Group):
-        found.append((phase, source.at(phase), EGRESS, side(target, phase)))
+        found.append((phase, source.number(phase), EGRESS, side(target, phase)))
     if isinstance(target, Group):
-        found.append((phase, target.at(phase), INGRESS, side(source, phase)))
+        found.append((phase, target.number(phase), INGRESS, side(source, phase)))
     return found
 
 
 def profiles(halves: Halves, asked: Sequence[Wanted]) -> Optional[list[Profile]]:
     """What was answered of halves; None where no packet has such an end."""
-    found = [halves.profile(*it) for it in asked]
-    return None if None in found else found
+    found = [it for it in (halves.profile(*one) for one in asked) if it is not None]
+    return found if len(found) == len(asked) else None
 
 
 def stretches(halves: Halves, source: End, target: End, phase: int) -> Iterable[Stretch]:
@@ -88,6 +88,6 @@ def is_within(ranges: Ranges, low: int, high: int) -> bool:
 def pairs_with(source: End, target: End, is_noded: bool) -> bool:
     """Whether a connection between two ends is told of: not that of a pod to itself, and with a node's pod where one is named."""
     ends = [it for it in (source, target) if isinstance(it, Group)]
-    if source is target and len(source.pods) == 1:
+    if source is target and isinstance(source, Group) and len(source.pods) == 1:
         return False
     return not is_noded or any(it.is_local for it in ends)

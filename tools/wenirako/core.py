@@ -129,7 +129,8 @@ class Core:
 
     def judged(self, batch: Sequence[Question]) -> dict[Question, str]:
         numbers = numbers_of(batch)
-        lines, policies = self.identities(numbers), {}
+        lines = self.identities(numbers)
+        policies: dict[int, str] = {}
         places: dict[Question, tuple[int, int]] = {}
         for phase, of_phase in enumerate(self.phases):
             policies.update((len(lines) + at, line) for at, line in enumerate(of_phase))
@@ -147,7 +148,7 @@ class Core:
             raise Misjudged(refused)
         found = {it: word_of(said[place], said[synced]) for it, (place, synced) in places.items()}
         late = [it for it, word in found.items() if word is None]
-        return {**found, **self.traced(late)}
+        return {**{it: word for it, word in found.items() if word is not None}, **self.traced(late)}
 
     def traced(self, questions: Sequence[Question]) -> dict[Question, str]:
         """The words of questions about endpoints whose map is too large to be kept up to date."""
@@ -192,6 +193,7 @@ class Core:
 
     def play(self, lines: Sequence[str], numbers: dict[int, int]) -> list[str]:
         """The answers to a script that begins with identities, one a line."""
+        assert self.program is not None
         # (one session alone asks, so maps that are made while it waits gain nothing)
         done = children.run([*self.program.command, "--workers", "0"], "".join(f"{it}\n" for it in lines).encode())
         said = done.out.decode().splitlines()

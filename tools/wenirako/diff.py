@@ -158,8 +158,9 @@ class Diff:
         found: dict[tuple[End, End], None] = {}
         for direction in DIRECTIONS:
             for group in groups:
-                asked = ((phase, group.at(phase), direction) for phase in (0, 1))
-                for other in [*groups, *self.halves.outer(*asked)] if self.boths.is_touched(group, direction) else relabelled:
+                asked = [(phase, group.number(phase), direction) for phase in (0, 1)]
+                others: list[End] = [*groups, *self.halves.outer(*asked)] if self.boths.is_touched(group, direction) else [*relabelled]
+                for other in others:
                     pair = (group, other) if direction == EGRESS else (other, group)
                     if pairs_with(*pair, self.universe.node is not None):
                         found[pair] = None

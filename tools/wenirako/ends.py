@@ -2,7 +2,7 @@
 from __future__ import annotations
 
 import ipaddress
-from typing import Iterable, NamedTuple, Optional, Sequence, Union
+from typing import Any, Iterable, NamedTuple, Optional, Sequence, Union
 
 from lib import addresses, regions
 from lib.addresses import Address, Network
@@ -37,6 +37,12 @@ class Group:
     def at(self, phase: int) -> Optional[int]:
         return self.after if phase else self.before
 
+    def number(self, phase: int) -> int:
+        """The number of its set of labels in a phase in which it is there."""
+        found = self.at(phase)
+        assert found is not None
+        return found
+
 
 class Outside(NamedTuple):
     """What isn't a pod: an entity by its number, one address, the region of a prefix without those of `prefixes` in it, or
@@ -46,7 +52,7 @@ class Outside(NamedTuple):
     """
 
     kind: str
-    value: object
+    value: Any
     prefixes: frozenset
     # The world of a name's addresses.
     world: Optional[Network] = None
@@ -62,7 +68,9 @@ class Outside(NamedTuple):
 
     @property
     def region(self) -> Network:
-        return self.world if self.kind == "name" else self.value  # type: ignore[return-value]
+        found = self.world if self.kind == "name" else self.value
+        assert found is not None
+        return found
 
     @property
     def is_world(self) -> bool:
@@ -89,7 +97,7 @@ class Universe:
         pairs = pairs if are_whole else [(before or after, after or before) for before, after in pairs]
         used: set[str] = set()
         for pair in pairs:
-            for pod in filter(None, pair):
+            for pod in (it for it in pair if it is not None):
                 self.add(pod, used)
         self.taken |= set(map(ipaddress.ip_address, used))
         self.group(pairs)

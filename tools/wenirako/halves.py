@@ -8,9 +8,10 @@ Verdicts are asked with all policies in force, reasons with those of the half by
 """
 from __future__ import annotations
 
-from typing import Callable, Iterable, NamedTuple, Optional, Sequence, TypeVar, Union
+from typing import Any, Callable, Iterable, NamedTuple, Optional, Sequence, TypeVar, Union
 
 from lib import ports
+from lib.addresses import Network
 from lib.label_index import LabelIndex
 
 from . import mentions
@@ -24,7 +25,8 @@ from .selecting import DIRECTIONS, Half, Interned, Selection
 # A number that nobody has.
 NOBODY = ("identity", 4_294_967_295)
 
-Given, Made = TypeVar("Given"), TypeVar("Made")
+Given = TypeVar("Given")
+Made = TypeVar("Made")
 # The other side of a half: the number of a set of labels, or what isn't a pod.
 Side = Union[int, Outside]
 
@@ -72,7 +74,7 @@ class Halves:
         self.stand_ins: dict[Half, tuple[int, int]] = {}
         self.words: dict[Question, str] = {}
         self.answers: dict[Question, Answer] = {}
-        self.kept: dict[tuple, object] = {}
+        self.kept: dict[tuple, Any] = {}
         self.kinds: dict[tuple, int] = {}
 
     def reselect(self) -> None:
@@ -148,15 +150,17 @@ class Halves:
         half = self.half(phase, at, direction)
         names = self.beside.names(phase, at, direction) if isinstance(side, Outside) and side.kind in ("name", "region") else []
         # (the addresses of a name lie in a world's region, and are judged otherwise)
-        of_names = (side.kind, side.value, *((it.place, it.names) for it in names)) if names else ()
+        of_names = (side.kind, side.value, *((it.place, it.names) for it in names)) if isinstance(side, Outside) and names else ()
         return half, self.alike(half, side), of_names
 
     def profile(self, phase: int, at: int, direction: str, side: Side) -> Optional[Profile]:
         """What was answered of a half; None where no packet can have that other side."""
         half = self.half(phase, at, direction)
         found = self.profiles.get((half, self.alike(half, side)))
-        entries = self.beside.names(phase, at, direction) if isinstance(side, Outside) else []
-        if found is None or not entries:
+        if found is None or not isinstance(side, Outside):
+            return found
+        entries = self.beside.names(phase, at, direction)
+        if not entries:
             return found
         if side.kind == "name":
             return named(found, [it for it in entries if side.value in it.names])
@@ -233,7 +237,7 @@ class Halves:
         """A number that is the same for ends that all halves of a state judge alike, at either side."""
         if isinstance(end, Outside):
             return self.kinds.setdefault((end,), len(self.kinds))
-        at = end.at(phase)
+        at = end.number(phase)
         key = ("kind", phase, at)
         if key not in self.kept:
             ways = [(self.half(phase, at, it), self.beside.number(phase, at, it), *((one.place, one.names) for one in self.beside.names(phase, at, it))) for it in DIRECTIONS]
@@ -261,7 +265,7 @@ class Halves:
             self.kept[key] = side.remote(self.universe.taken)
         return self.kept[key]
 
-    def outer(self, *asked: tuple[int, int, str], within: Optional[object] = None) -> list[Outside]:
+    def outer(self, *asked: tuple[int, int, str], within: Optional[Network] = None) -> list[Outside]:
         """What isn't a pod at the other side of halves, as far as they tell it apart and a packet can have it there: the
         entities, the regions of prefixes and the names of unknown addresses; or the regions of one prefix alone."""
         halves = tuple(self.half(*it) for it in asked)

@@ -8,7 +8,7 @@ from __future__ import annotations
 from typing import Iterable, NamedTuple, Optional, Sequence
 
 from lib import regions
-from lib.addresses import prefix
+from lib.addresses import known
 
 from .connections import pairs_with
 from .core import ALLOWED, NoAnswer
@@ -41,7 +41,7 @@ class Held:
 
     def hold(self, found: Iterable[tuple[End, End, str, int, int, bool]]) -> None:
         """Complains where something opens or shuts that isn't found, or is found and doesn't."""
-        ours = joined(Change(self.key(source), self.key(target), *rest) for source, target, *rest in found)
+        ours = joined(Change(self.key(source), self.key(target), protocol, low, high, opens) for source, target, protocol, low, high, opens in found)
         other = min(ours ^ self.told(), default=None)
         if other is not None:
             ways = "connections", "policyd"
@@ -57,7 +57,7 @@ class Held:
 
     def told(self) -> set[Change]:
         """What `connections` says of the ends that rows have."""
-        scripts = [self.opened.script({name: it.at(phase) for name, it in self.groups.items()}, phase) for phase in (0, 1)]
+        scripts = [self.opened.script({name: it.number(phase) for name, it in self.groups.items()}, phase) for phase in (0, 1)]
         listed = self.opened.answers(scripts, "asking what opens and shuts")
         return {known for it in joined(map(change_of, (it for it in listed if "from" in it))) for known in [self.known(it)] if known}
 
@@ -81,7 +81,7 @@ class Held:
 
     def beside(self, group: Group, direction: str) -> Outer:
         """What isn't a pod at the other side of a half, before or after; made once for all halves that are alike."""
-        asked = [(phase, group.at(phase), direction) for phase in (0, 1)]
+        asked = [(phase, group.number(phase), direction) for phase in (0, 1)]
         halves = tuple(self.halves.half(*it) for it in asked)
         if halves not in self.outer:
             self.outer[halves] = Outer(self.halves.outer(*asked), self.places)
@@ -101,13 +101,14 @@ class Outer:
         """The entity, or the nearest region around that of a name, where it is listed: None where no packet is of it."""
         if key[0] == "reserved":
             return self.entities.get(key)
-        nearest = self.nested.of(prefix(key[1]))
+        nearest = self.nested.of(known(key[1]))
         return self.regions.get(nearest) if nearest is not None else None
 
 
 def change_of(it: dict) -> Change:
     ((source,), (target,)) = it["from"].items(), it["to"].items()
-    return Change(source, target, it["protocol"], *it["ports"], it["after"] == ALLOWED)
+    low, high = it["ports"]
+    return Change(source, target, it["protocol"], low, high, it["after"] == ALLOWED)
 
 
 def joined(found: Iterable[Change]) -> set[Change]:

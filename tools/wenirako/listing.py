@@ -1,7 +1,7 @@
 """`list`: what is open, between pods, workloads or namespaces; and, marked, what may be open for what isn't read."""
 from __future__ import annotations
 
-from typing import Iterable, Optional
+from typing import Any, Iterable, Optional
 
 from .asked import Asked
 from .coarse import coarse
@@ -23,7 +23,7 @@ def report(asked: Asked, source: Optional[str], target: Optional[str], port: Opt
     universe = asked.universe
     ends = [named(universe, text, word) if text is not None else everything(universe) for word, text in (("--from", source), ("--to", target))]
     ports = port_range(port, "--port") if port is not None else EVERY_PORT
-    lines = asked.halves.foreseen(lambda: found(asked, list(pairs(asked.halves, *ends)), ports))
+    lines = asked.halves.foreseen(lambda: found(asked, list(pairs(asked.halves, ends[0], ends[1])), ports))
     open_ones, others = ([it for it in lines if (it.told.after == ALLOWED) == is_open] for is_open in (True, False))
     written = lambda listed: by_line(asked.names, listed) if by == "pod" else coarse(listed, by, *(it.groups for it in ends))
     cells, more = written(open_ones), written(others)
@@ -43,7 +43,7 @@ def found(asked: Asked, listed_pairs: list[tuple[End, End]], ports: PortRange) -
         for it in about.stretches(*pair):
             if id(it) not in told:
                 told[id(it)] = Told(it.word, it.word, about.reasons(it), marks=about.marks(it))
-            more = {"names": about.names_beside(*pair, it), "unsure": about.unsure(*pair, it)}
+            more: dict[str, Any] = {"names": about.names_beside(*pair, it), "unsure": about.unsure(*pair, it)}
             rows.add(*pair, it.protocol, it.low, it.high, told[id(it)]._replace(**more) if any(more.values()) else told[id(it)])
     may_be_open(asked, listed_pairs, ports, rows)
     return rows.lines(asked.names)

@@ -1,7 +1,7 @@
 """How ends are written: all pods of a namespace or all but few, all replicas of a workload, single pods, and what is no pod."""
 from __future__ import annotations
 
-from typing import Any, Iterable
+from typing import Any, Iterable, Optional
 
 from lib import addresses, regions
 from lib.sides import ANY_OTHER
@@ -37,7 +37,7 @@ class Names:
             self.kept[key] = [*self.pods(ends, key[1]), *self.stand_ins(ends), *outer(ends)]
         return self.kept[key]
 
-    def pods(self, ends: Iterable[End], alone: object) -> Iterable[str]:
+    def pods(self, ends: Iterable[End], alone: Optional[str]) -> Iterable[str]:
         by_namespace: dict[str, set[str]] = {}
         for it in ends:
             for pod in it.pods if isinstance(it, Group) else ():
@@ -104,7 +104,7 @@ def of_names(ends: Iterable[End]) -> list[tuple[str, str]]:
     return sorted((name, "" if len(versions) == len(addresses.WORLDS) else f"IPv{min(versions)}") for name, versions in found.items())
 
 
-def of_regions(ends: Iterable[End]) -> list[tuple]:
+def of_regions(ends: Iterable[End]) -> list[regions.Joined]:
     """The regions, joined, as pairs of a prefix and its exceptions."""
     by_prefixes: dict[frozenset, set] = {}
     for it in ends:

@@ -60,7 +60,7 @@ class Opened:
     def told(self, pairs: Mapping[tuple, tuple[End, End]], phase: int) -> dict[tuple, Open]:
         """What is open of pairs, by their keys; without those that it can't tell of, and empty where it isn't asked."""
         known = {key: pair for key, pair in pairs.items() if self.is_known(pair, phase)}
-        ends = {it.at(phase) for pair in known.values() for it in pair if isinstance(it, Group)}
+        ends = {it.number(phase) for pair in known.values() for it in pair if isinstance(it, Group)}
         place = Places(self.halves, phase)
         if not known or len(known) * SHARE < place.pairs(len(ends)) or self.program() is None:
             return {}
@@ -79,7 +79,7 @@ class Opened:
             return False
         return not any(isinstance(side, Outside) and halves.beside.names(phase, at, direction) for _, at, direction, side in wanted(*pair, phase))
 
-    def said(self, ends: Sequence[int], phase: int, asked: Collection[tuple[Key, Key]]) -> dict[tuple[Key, Key], Open]:
+    def said(self, ends: Sequence[int], phase: int, asked: Collection[tuple[Key, Key]]) -> Mapping[tuple[Key, Key], Open]:
         """What is open of connections between sets of labels, and between them and what is no pod."""
         return by_pairs(self.answers([self.script({name_of(at): at for at in ends}, phase)], "asking what is open"), asked)
 
@@ -138,7 +138,9 @@ class Places:
         kind, value = self.halves.remote(end) or ("", "")
         if kind == "identity":
             return "reserved", ENTITIES[value]
-        return "region", addresses.written(self.held.of(addresses.prefix(value)))
+        region = self.held.of(addresses.known(value))
+        assert region is not None
+        return "region", addresses.written(region)
 
 
 def name_of(at: Optional[int]) -> str:
@@ -147,7 +149,8 @@ def name_of(at: Optional[int]) -> str:
 
 def parted(listed: Iterable[dict]) -> tuple[list[dict], Iterable[dict]]:
     """Lines of what is refused, which stand first, and the others."""
-    refused, others = [], iter(listed)
+    refused: list[dict] = []
+    others = iter(listed)
     for it in others:
         if "answer" not in it:
             return refused, itertools.chain([it], others)
@@ -155,7 +158,7 @@ def parted(listed: Iterable[dict]) -> tuple[list[dict], Iterable[dict]]:
     return refused, others
 
 
-def by_pairs(listed: Iterable[dict], asked: Collection[tuple[Key, Key]]) -> dict[tuple[Key, Key], Open]:
+def by_pairs(listed: Iterable[dict], asked: Collection[tuple[Key, Key]]) -> Mapping[tuple[Key, Key], Open]:
     """Lines of open ports by their ends, of those that are asked about."""
     found: dict[tuple[Key, Key], dict[str, list]] = {}
     for it in listed:

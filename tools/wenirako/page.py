@@ -35,6 +35,7 @@ def data(report: Report) -> dict:
 
 def line_of(line: Line, report: Report, ends: dict[tuple[str, str], int]) -> dict:
     sides = [numbers(it, ends) for it in (line.froms, line.tos)]
+    assert report.names is not None
     names = [", ".join(report.names.side(*it)) for it in ((line.froms, line.tos), (line.tos, line.froms))]
     reasons = line.told.written().split("; ") if line.told.written() else []
     return {

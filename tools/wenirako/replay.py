@@ -123,7 +123,7 @@ class Ends:
     def __init__(self, asked: Asked):
         self.asked, self.universe = asked, asked.universe
         self.group_of = {pod.name: it for it in asked.universe.groups for pod in it.pods}
-        self.by_labels = {asked.universe.sets[it.at(phase)].labels: it for it in asked.universe.groups for phase in (0, 1) if it.at(phase) is not None}
+        self.by_labels = {asked.universe.sets[it.number(phase)].labels: it for it in asked.universe.groups for phase in (0, 1) if it.at(phase) is not None}
         of_pod = {id(pod): it for it in asked.universe.groups for pod in it.pods}
         self.by_address = {address: of_pod[id(pod)] for address, pod in asked.universe.by_address(0).items()}
         self.gone: dict[tuple, Group] = {}

@@ -10,6 +10,7 @@ from typing import Callable, Iterable, NamedTuple, Optional, Union
 
 from lib import ports
 from lib.addresses import WORLDS, Network, is_one, parsed, prefix, written
+from lib.pods import Pod
 from lib.reading import Bad
 
 from .ends import ENTITIES, End, Group, Outside, Universe, entity
@@ -93,7 +94,7 @@ def of_addresses(universe: Universe, text: str, network: Network, place: str) ->
     return Named(text, [], [Outside("address", address, frozenset())])
 
 
-def restricted(groups: Iterable[Group], fits: Callable[[object], bool]) -> list[Group]:
+def restricted(groups: Iterable[Group], fits: Callable[[Pod], bool]) -> list[Group]:
     """The groups with those of their pods that fit."""
     found = []
     for it in groups:
@@ -105,7 +106,7 @@ def restricted(groups: Iterable[Group], fits: Callable[[object], bool]) -> list[
     return found
 
 
-def wanted(text: str) -> Callable[[object], bool]:
+def wanted(text: str) -> Callable[[Pod], bool]:
     """Whether a pod is one that a text names."""
     namespace, slash, name = text.rpartition("/")
     # (a key of a label may have a slash too)
@@ -174,8 +175,8 @@ def pairs(halves: Halves, sources: Named, targets: Named, phase: int = 0) -> Ite
         for target in there:
             if len(source.pods) > 1 or len(target.pods) > 1 or source.pods[0].name != target.pods[0].name:
                 yield source, target
-        at = source.at(phase)
+        at = source.number(phase)
         yield from ((source, it) for it in targets.outside(halves, (phase, at, EGRESS)))
     for target in there:
-        at = target.at(phase)
+        at = target.number(phase)
         yield from ((it, target) for it in sources.outside(halves, (phase, at, INGRESS)))

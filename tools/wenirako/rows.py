@@ -5,7 +5,7 @@ from collections import Counter
 from typing import Iterable, NamedTuple
 
 from lib import ports
-from lib.addresses import prefix, written
+from lib.addresses import known, written
 
 from .core import ALLOWED
 from .ends import ENTITIES, End, Group, Outside, of_both
@@ -108,8 +108,8 @@ def listed(ends: Iterable[End]) -> list[dict]:
     all_pods = [pod for it in ends if isinstance(it, Group) for pod in it.pods]
     pods = sorted(it.name for it in all_pods if not it.stands_for)
     others = sorted((it.name, it.stands_for) for it in all_pods if it.stands_for)
-    addresses = [{"cidr": written(prefix(str(it.value))), "except": []} for it in ends if isinstance(it, Outside) and it.kind == "address"]
+    addresses: list[dict] = [{"cidr": written(known(str(it.value))), "except": []} for it in ends if isinstance(it, Outside) and it.kind == "address"]
     prefixes = [{"cidr": written(whole), "except": list(map(written, but))} for whole, but in of_regions(ends)]
     entities = sorted(it.value for it in ends if isinstance(it, Outside) and it.kind == "entity")
-    more = [*addresses, *prefixes, *({"entity": ENTITIES[it]} for it in entities), *({"name": name, **({"family": family} if family else {})} for name, family in of_names(ends))]
+    more: list[dict] = [*addresses, *prefixes, *({"entity": ENTITIES[it]} for it in entities), *({"name": name, **({"family": family} if family else {})} for name, family in of_names(ends))]
     return [*({"pod": it} for it in pods), *({"pods": name, "stands_for": kind} for name, kind in others), *more]

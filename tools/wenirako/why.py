@@ -24,7 +24,7 @@ def report(asked: Asked, source: str, target: str, port: str) -> Report:
 def told(asked: Asked, ends: list[Named], ports, phase: int) -> Report:
     cells: list[list[str]] = []
     rows: list[dict] = []
-    listed_pairs = list(pairs(asked.halves, *ends, phase))
+    listed_pairs = list(pairs(asked.halves, ends[0], ends[1], phase))
     about = asked.about(listed_pairs, ports, phase)
     before = asked.about(listed_pairs, ports, 0) if phase else about
     asked.halves.explain((segment for pair in listed_pairs for it in about.stretches(*pair) for _, segment in it.halves), "asking for reasons")

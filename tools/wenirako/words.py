@@ -3,7 +3,7 @@ from __future__ import annotations
 
 import argparse
 import sys
-from typing import NamedTuple, NoReturn, Optional, Sequence
+from typing import Any, NamedTuple, NoReturn, Optional, Sequence
 
 from lib import labels
 from lib.words import Once
@@ -59,7 +59,7 @@ PLACES = {
 FLAGS = {"--strict": "a policy of the state that isn't read is an error", "--quiet": "nothing of progress"}
 COMMON = ("--state", "--save", "--context", "--format")
 LABELS = ("--cluster-name", "--labels", "--all-labels")
-CHOICES = {"--by": BY}
+CHOICES: dict[str, Sequence[str]] = {"--by": BY}
 HELP = """usage: wenirako QUESTION [--state FILE] [WORD ..]
 
 {questions}
@@ -109,9 +109,9 @@ def parser_of(command: str, name: str) -> Parser:
             parser.add_argument(option, action="store_true", help=FLAGS[option])
             continue
         metavar, about, is_many = OPTIONS[option]
-        how = {"action": "append", "default": []} if is_many else {"action": Once}
+        how: dict[str, Any] = {"action": "append", "default": []} if is_many else {"action": Once}
         listed = question.forms if option == "--format" else CHOICES.get(option)
-        choices = {"choices": listed, "default": listed[0]} if listed else {}
+        choices: dict[str, Any] = {"choices": listed, "default": listed[0]} if listed else {}
         parser.add_argument(option, metavar=metavar, help=f"{about}: {', '.join(listed)}" if listed else about, **how, **choices)
     parser.add_argument("--quiet", action="store_true", help=FLAGS["--quiet"])
     labels.add_words(parser)
@@ -169,7 +169,8 @@ def options_of(name: str) -> list[str]:
 
 def completion() -> str:
     """What bash reads to complete the words."""
+    listed: dict[str, Sequence[str]] = {**CHOICES, "--format": DRAWN}
     files = "|".join(option for option, (metavar, _, _) in OPTIONS.items() if metavar == "FILE")
-    choices = "".join(f'    {option}) COMPREPLY=($(compgen -W "{" ".join(values)}" -- "$word")); return ;;\n' for option, values in {**CHOICES, "--format": DRAWN}.items())
+    choices = "".join(f'    {option}) COMPREPLY=($(compgen -W "{" ".join(values)}" -- "$word")); return ;;\n' for option, values in listed.items())
     options = "".join(f'    {name}) words="{" ".join(options_of(name))}" ;;\n' for name in QUESTIONS)
     return BASH.format(questions=" ".join(QUESTIONS), files=files, choices=choices, options=options)

@@ -89,7 +89,7 @@ def other_of(listed: typing.List[Cover], mine: Cover) -> typing.Optional[Cover]:
 
 def covers(ground: Ground) -> typing.List[Cover]:
     """What the entries of the state cover, as policyd is given them; one that became several is left out."""
-    if not hasattr(ground, "covers"):
+    if ground.covers is None:
         found: typing.Dict[str, typing.List[Cover]] = {}
         for whole in ground.state.rewritten.values():
             marked = {*whole.marks, *(it.place for it in whole.names)}

@@ -56,6 +56,8 @@ class Ground:
         self.sets = list(by_labels)
         self.of_set = list(by_labels.values())
         self.index = LabelIndex(self.sets)
+        # What entries cover, worked out where it is asked.
+        self.covers: typing.Optional[list] = None
 
     def matching(self, asked: typing.Iterable[tuple]) -> typing.FrozenSet[int]:
         """The numbers of the sets of labels of which all that is asked is so."""
