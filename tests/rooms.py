@@ -5,6 +5,7 @@ drawn by hand; a box of it begins with `+-- NAME, N crates -`.
 """
 import re
 
+import layers
 import program
 
 PAGE = program.TOP / "docs" / "ARCHITECTURE.md"
@@ -15,6 +16,8 @@ ROOM = re.compile(r"# Room: (.+)")
 LINES_MOST, COLUMNS_MOST = 40, 100
 # The room that nothing stands on.
 HIGHEST = "tests and benchmarks"
+# The sessions, and the crates by which events of a history are made, which nothing above the sessions names.
+SESSIONS, MAKERS = "pol_sessions", {"pol_history_log", "pol_board", "pol_node"}
 
 
 def rooms():
@@ -59,9 +62,16 @@ def used_tests():
     return [f"{crate} uses {it} of the room {HIGHEST}" for crate, libraries in program.crates().items() for it in libraries if of.get(it) == HIGHEST]
 
 
+def makers_named():
+    """Crates above the sessions that name one by which events of a history are made: so what they give back was played."""
+    listed = program.crates()
+    above = [it for it in listed if SESSIONS in layers.below(it, listed)]
+    return [f"{crate} stands on {SESSIONS} and uses {it}, by which events are made" for crate in above for it in listed[crate] if it in MAKERS]
+
+
 def listed():
-    """Each room of crates.txt is one section, and each crate stands behind all that it uses."""
-    return [*cut_rooms(), *upward(), *used_tests()]
+    """Each room of crates.txt is one section, each crate stands behind all that it uses, and none above the sessions makes events."""
+    return [*cut_rooms(), *upward(), *used_tests(), *makers_named()]
 
 
 # The picture.

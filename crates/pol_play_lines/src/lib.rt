@@ -7,4 +7,5 @@
 
 mod script;
 
+pub use pol_sessions::SeenHistory;
 pub use script::{PlayedLines, play_lines};

@@ -12,7 +12,7 @@ mod session;
 mod worker;
 
 pub use phase::{PlayedPhase, PlayedPhases, play_phase, play_phases};
-pub use pol_node::Config;
+pub use pol_node::{Config, SeenHistory};
 pub use script::{PlayedScript, play_script};
 pub use session::play_session;
 pub use worker::play_beside;

@@ -2,7 +2,7 @@
 ghost use Rattle.std.specs.Prelude.{◌≡◌, None};
 
 use crate::status::Status;
-use pol_history_log::SeenHistory;
+use pol_play_lines::SeenHistory;
 
 /// How a run ended, and what was seen of its history.
 #[derive(Drop)]
