@@ -10,3 +10,5 @@ pub mod Saying
 pub mod Whole
 pub mod Same
 pub mod Turns
+pub mod Lookup
+pub mod Shared

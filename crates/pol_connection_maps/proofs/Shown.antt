@@ -1,14 +1,12 @@
 -- Where an end stays as it was, nothing is told.
-use Rattle.std.proofs.Common.{◌≡◌, ℕ, zero, suc, ◌+◌, Bool, true, false, cond, [], map, ◌++◌, refl, ap, ◌∙◌}
+use Rattle.std.proofs.Common.{◌≡◌, ℕ, zero, suc, ◌+◌, Bool, true, false, cond, [], refl, ap, ◌∙◌}
 use Rattle.pol_ports.specs.declared.Direction.TheVariants.{Ingress, Egress}
 use Rattle.pol_ports.specs.declared.Proto.{Proto}
-use Rattle.pol_ports.specs.declared.Proto.TheVariants.{Tcp, Udp, Sctp}
 use Rattle.pol_port_ranges.specs.declared.said.Halves.{Halves}
 use Rattle.pol_port_ranges.specs.declared.said.PortSaid.{PortSaid}
 use Rattle.pol_port_ranges.specs.Ranges.{all_ports, joined, ranges, ranges_from}
 use Rattle.pol_port_ranges.specs.Said.{differ, is_open, is_told}
 use Rattle.pol_port_ranges.proofs.Front.{from_more, from_none}
-use Rattle.pol_connection_maps.specs.Lists.{changed_pair, connection_of}
 use Rattle.pol_connection_maps.specs.Seen.{Kept, StayAsTheyAre, seen_changed, seen_half, seen_halves}
 
 -- where nothing is told there is no range
@@ -38,8 +36,6 @@ module _ (from to : Kept) (stay : StayAsTheyAre from to) where
       let after : Halves = seen_halves from.after to.after proto port in
       ap (λ h. differ (is_open h) (is_open after)) (same_words proto port) ∙ differ_self (is_open after)
 
-  none_of : (proto : Proto) → map (connection_of from.after.name to.after.name proto) (ranges (seen_changed from to proto)) ≡ []
-  none_of proto = ap (map (connection_of from.after.name to.after.name proto)) (no_ranges (seen_changed from to proto) (nothing_told proto))
-
-  pub stays_none : changed_pair from to ≡ []
-  stays_none = λ i. none_of Tcp i ++ (none_of Udp i ++ (none_of Sctp i ++ []))
+  -- so no range is told
+  pub stays_none : (proto : Proto) → ranges (seen_changed from to proto) ≡ []
+  stays_none proto = no_ranges (seen_changed from to proto) (nothing_told proto)

@@ -4,3 +4,4 @@ pub mod Maps
 pub mod EndRows
 pub mod Seen
 pub mod Lists
+pub mod Telling

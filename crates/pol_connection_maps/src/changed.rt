@@ -1,13 +1,15 @@
 //! The connections that a change opens or shuts.
-ghost use Rattle.std.specs.Prelude.{◌≡◌, ◌++◌, IfOk, OnOk};
+ghost use Rattle.std.specs.Prelude.{◌≡◌, IfOk};
 ghost use Rattle.pol_port_ranges.specs.Ranges.{ranges};
-ghost use Rattle.pol_connection_maps.specs.Lists.{changed_from, changed_list, changed_pair, proto_list};
-ghost use Rattle.pol_connection_maps.specs.Seen.{kept_asked, seen_changed};
+ghost use Rattle.pol_connection_maps.specs.Lists.{changed_list};
+ghost use Rattle.pol_connection_maps.specs.Seen.{seen_changed};
+ghost use Rattle.pol_connection_maps.specs.Telling.{telling_changed};
 
 use crate::kept::KeptEnd;
 use crate::open::is_asked;
-use crate::pairs::push_ranges;
-use pol_connections::Connection;
+use crate::targets::told_list;
+use crate::told::Tells;
+use pol_connections::{Connection, EndName};
 use pol_data::Memory;
 use pol_port_ranges::Range;
 use pol_ports::{Direction, Proto};
@@ -32,68 +34,43 @@ fn ranges_changed(
     changed_ranges(alloc, sent_before, received_before, sent, received)
 }
 
-/// Appends the connections of the two ends on a protocol.
-fn push_proto(
-    alloc: Global,
-    out: &mut Vec<Connection>,
-    from: &KeptEnd<'_>,
-    to: &KeptEnd<'_>,
-    proto: Proto,
-) -> Result<(), Memory>
-    ensures { OnOk result (out.new.items ≡ out.old.items ++ proto_list (seen_changed from.now to.now) from.now.after.name to.now.after.name proto) }
-{
-    let ranges = ranges_changed(alloc, from, to, proto)?;
-    push_ranges(
-        alloc,
-        out,
-        from.after().name(),
-        to.after().name(),
-        proto,
-        &ranges,
-    )
-}
+impl<'a> Tells for KeptEnd<'a> {
+    ghost telling = { telling_changed };
 
-/// Appends the connections of the two ends, where anything that is said of them may change.
-fn push_pair(
-    alloc: Global,
-    out: &mut Vec<Connection>,
-    from: &KeptEnd<'_>,
-    to: &KeptEnd<'_>,
-) -> Result<(), Memory>
-    ensures { OnOk result (out.new.items ≡ out.old.items ++ changed_pair from.now to.now) }
-{
-    if from.stays_with(to) {
-        return Ok(());
+    type Key = ((u32, bool), (u32, bool));
+
+    fn name(&self) -> &EndName {
+        self.after().name()
     }
-    push_proto(alloc, out, from, to, Proto::Tcp)?;
-    push_proto(alloc, out, from, to, Proto::Udp)?;
-    push_proto(alloc, out, from, to, Proto::Sctp)
-}
 
-/// Appends the connections from an end.
-fn push_from(
-    alloc: Global,
-    out: &mut Vec<Connection>,
-    from: &KeptEnd<'_>,
-    ends: &[KeptEnd<'_>],
-) -> Result<(), Memory>
-    ensures { OnOk result (out.new.items ≡ out.old.items ++ changed_from ends.now from.now) }
-{
-    for to in ends {
-        if is_asked(from.after(), to.after()) {
-            push_pair(alloc, out, from, to)?;
+    fn key(&self) -> ((u32, bool), (u32, bool)) {
+        (self.before().key(), self.after().key())
+    }
+
+    fn is_alike(&self, other: &KeptEnd<'a>) -> bool {
+        self.is_same(other)
+    }
+
+    fn asks(&self, to: &KeptEnd<'a>) -> bool {
+        is_asked(self.after(), to.after())
+    }
+
+    fn ranges_to(
+        &self,
+        alloc: Global,
+        to: &KeptEnd<'a>,
+        proto: Proto,
+    ) -> Result<Vec<Range>, Memory> {
+        if self.stays_with(to) {
+            return Ok(Vec::new(alloc));
         }
+        ranges_changed(alloc, self, to, proto)
     }
-    Ok(())
 }
 
 /// The connections of these ends that open or shut.
 pub(crate) fn changed_list(alloc: Global, ends: &[KeptEnd<'_>]) -> Result<Vec<Connection>, Memory>
     ensures { IfOk result (λ list. list.items ≡ changed_list ends.now) }
 {
-    let mut out = Vec::new(alloc);
-    for from in ends {
-        push_from(alloc, &mut out, from, ends)?;
-    }
-    Ok(out)
+    told_list(alloc, ends)
 }

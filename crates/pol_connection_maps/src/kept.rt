@@ -77,6 +77,14 @@ impl<'a> KeptEnd<'a> {
         self.after
     }
 
+    /// Whether both were seen by one number and had the same map or none, and so after the change.
+    pub(crate) fn is_same(&self, other: &KeptEnd<'_>) -> bool
+        ensures before { IsTrue result → (self.now.before.number ≡ other.now.before.number) × (self.now.before.entries ≡ other.now.before.entries) }
+        ensures after { IsTrue result → (self.now.after.number ≡ other.now.after.number) × (self.now.after.entries ≡ other.now.after.entries) }
+    {
+        self.before.is_same(other.before) && self.after.is_same(other.after)
+    }
+
     /// Whether nothing that is said of connections of the two ends changes.
     pub(crate) fn stays_with(&self, other: &KeptEnd<'_>) -> bool
         ensures { IsTrue result → StayAsTheyAre self.now other.now }

@@ -1,11 +1,11 @@
 use Rattle.std.proofs.Common.{refl, ◌∙◌}
 use Rattle.std.proofs.lemmas.Result.{IfOk-weaker}
 use Rattle.pol_connection_maps.proofs.Saying.{alone_ranges, halves_said}
-use Rattle.pol_connection_maps.proofs.open.ranges_alone.Goals as goal
+use Rattle.pol_connection_maps.proofs.open.EndMapTells.ranges_to.Goals as goal
 
 pub returns : goal.returns
 returns c =
-    let from = c.args.from.now in
+    let from = c.args.self.now in
     let to = c.args.to.now in
     let sent = c.at-sent.result.now in
     let received = c.at-received.result.now in
