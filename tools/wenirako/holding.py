@@ -59,7 +59,8 @@ class Held:
         """What `connections` says of the ends that rows have."""
         scripts = [self.opened.script({name: it.number(phase) for name, it in self.groups.items()}, phase) for phase in (0, 1)]
         listed = self.opened.answers(scripts, "asking what opens and shuts")
-        return {known for it in joined(map(change_of, (it for it in listed if "from" in it))) for known in [self.known(it)] if known}
+        known = {self.known(change_of(it)) for it in listed if "from" in it}
+        return joined(it for it in known if it)
 
     def known(self, it: Change) -> Optional[Change]:
         """A change with its regions as rows name them; None where no row can have its ends."""

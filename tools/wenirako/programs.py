@@ -1,8 +1,9 @@
 """Which program answers: the one of an archive, a proved build of the sources, or a build without proof.
 
 In an archive that `tools/release` made, `MANIFEST.json` stands beside the command, and `bin/policyd` answers, where its
-sum is that of the manifest; and `bin/connections`, where it names that too. In a repository `tests/program.py` knows whether a proved build of the present sources is
-there, and `tests/unproved.py` whether one without proof is; where there is neither, one without proof is built and kept.
+sum is that of the manifest; and `bin/connections`, where the manifest names that too. In a repository `tests/program.py`
+knows whether a proved build of the present sources is there, and `tests/unproved.py` whether one without proof is; where
+there is neither, one without proof is built and kept.
 """
 from __future__ import annotations
 
