@@ -72,7 +72,7 @@ def calling(program):
 
 
 class Archive:
-    """A folder in which ./wenirako asks the stand-in, or another program of this text; and what is open of `lists`, too."""
+    """A folder in which ./wenirako asks the stand-in, or another program of this text; and of `lists` too, as of what is proved."""
 
     def __init__(self, folder, program=None, lists=None):
         self.top = pathlib.Path(folder) / "archive"
@@ -89,7 +89,7 @@ class Archive:
                 path.write_text(text)
                 path.chmod(0o755)
                 files[f"bin/{name}"] = hashlib.sha256(path.read_bytes()).hexdigest()
-        (self.top / "MANIFEST.json").write_text(json.dumps({"commit": "0123456789ab", "proved": False, "files": files}))
+        (self.top / "MANIFEST.json").write_text(json.dumps({"commit": "0123456789ab", "proved": lists is not None, "files": files}))
 
     def write(self, name, value):
         """A file there, as text or JSON; its path."""

@@ -22,7 +22,7 @@ from play_checks import told
 from lib import regions
 from lib.addresses import NETWORKS, WORLDS, lies_in
 from recipes_checks import NAMESPACE, PODS, pod, policy
-from wenirako import coarse, drawing, flows, halves, kubectl, listing, opened, programs, progress, resolving, words, writing
+from wenirako import children, coarse, core, drawing, flows, halves, kubectl, listing, opened, programs, progress, resolving, words, writing
 from wenirako.report import Report
 
 TOP = compare.TOP
@@ -568,6 +568,54 @@ except children.Ended as ended:
 """
 
 
+# What a signal raises comes in a destructor, which swallows it; the child then runs for ten minutes.
+SWALLOWED = """
+import os, signal, sys
+sys.path[:0] = sys.argv[1:3]
+from wenirako import children
+
+class Ending:
+    def __del__(self):
+        os.kill(os.getpid(), signal.SIGTERM)
+        for _ in range(1000):
+            pass
+
+def asked():
+    Ending()
+    return children.run(["sleep", "600"]).status
+
+print(children.ended_by(asked))
+"""
+
+
+def signals_are_not_lost(_, wrong):
+    """A signal whose exception was swallowed ends the program at its next child; and of a child that a signal ended that is said."""
+    words = [sys.executable, "-c", SWALLOWED, str(TOP / "tools"), str(TOP / "recipes")]
+    run = subprocess.Popen(words, stdout=subprocess.PIPE, stderr=subprocess.DEVNULL, text=True, start_new_session=True)
+    try:
+        told(wrong, "how it ends", run.communicate(timeout=120)[0].split(), ["143"])
+    except subprocess.TimeoutExpired:
+        os.killpg(run.pid, signal.SIGKILL)
+        wrong.append("it doesn't end")
+    killed = programs.Program(["sh", "-c", "kill -KILL $$"], False, "")
+    for what, ask in (
+        ("connections", lambda: [*opened.Opened(lambda: killed, None, progress.Progress("x", True)).play(["a"])]),
+        ("policyd", lambda: core_of(killed).play(["a"], {})),
+    ):
+        try:
+            ask()
+            wrong.append(f"{what} has an answer")
+        except opened.NoAnswer as ended:
+            told(wrong, f"what is said of {what}", str(ended), f"{what} was ended by SIGKILL")
+    told(wrong, "a signal without a name", children.name_of(99), "the signal 99")
+
+
+def core_of(program):
+    found = core.Core(lambda: program, [], progress.Progress("x", True))
+    found.program = program
+    return found
+
+
 def children_that_start_end_too(folder, wrong):
     """A signal that comes while a child is being started ends that one too."""
     for where in ("main", "thread"):
@@ -723,7 +771,7 @@ def over_connections(check):
 def checks():
     found = (a_change_is_told, forms_agree, what_is_open, connections_are_asked, connections_are_asked_of_much, connections_cannot_tell, a_change_is_held, prefixes_are_asked_once, why_is_told, expectations_are_held, flows_are_replayed)
     found += (two_states_are_compared, slips_are_asked_of_the_bridge, workloads_and_namespaces, names_are_ends, worlds_are_told_apart, names_of_each_family, pods_of_both_families_are_ends, live_pods_have_their_addresses, words_agree, bash_completes, kubectl_is_asked)
-    found += (children_end_too, children_that_start_end_too, other_programs_are_not_asked, progress_lives, ports_are_read, unions_and_flat_ranges)
+    found += (children_end_too, children_that_start_end_too, signals_are_not_lost, other_programs_are_not_asked, progress_lives, ports_are_read, unions_and_flat_ranges)
     found += (forms_are_safe, prefixes_lie_in_each_other, flows_are_read, modules_are_small, one_formatter_lays_them_out, random_changes_are_told)
     asking = (a_change_is_told, forms_agree, what_is_open, expectations_are_held, two_states_are_compared, workloads_and_namespaces, names_are_ends, worlds_are_told_apart, names_of_each_family)
     yield from ((f"front door {it.__name__.replace('_', ' ')}", lambda it=it: run(it)) for it in found)

@@ -48,12 +48,14 @@ def unpacked(folder):
 
 
 def with_connections(tool, folder):
-    """Lets connections be packed where no build of it stands: a stand-in."""
+    """Lets connections be packed where no proved build of it stands: a stand-in."""
     plain, stand_in = tool.built, folder / "connections"
     stand_in.write_text(calling(LISTS))
 
     def built(takes_unproved):
         found, is_proved = plain(takes_unproved)
+        if not is_proved and {*found} != {"policyd"}:
+            raise AssertionError(f"beside a build without proof stand {sorted(found)}")
         return {"connections": stand_in, **found}, is_proved
 
     tool.built = built
@@ -76,7 +78,8 @@ def an_archive_answers(folder, wrong):
     told(wrong, "the answer", (done.returncode, done.stdout.splitlines()[1:]), (3, [row]))
     version = subprocess.run(["./wenirako", "--version"], cwd=top, env=env, stdout=subprocess.PIPE, text=True).stdout.splitlines()
     of = "of the archive of 0123456789ab"
-    told(wrong, "--version", version, ["wenirako 0123456789ab", f"policyd: {of}", f"connections: {of}", "PROVED" if program.is_proved() else "NOT PROVED"])
+    lists = of if program.is_proved() else "no proved build stands, so policyd is asked alone"
+    told(wrong, "--version", version, ["wenirako 0123456789ab", f"policyd: {of}", f"connections: {lists}", "PROVED" if program.is_proved() else "NOT PROVED"])
     connections_are_asked(top, env, wrong)
     told(wrong, "a script", subprocess.run(["./play", "-"], cwd=top, env=env, input='{"op":"sync"}\n', stdout=subprocess.PIPE, text=True).stdout, "synced 0\n")
     manifest(top, wrong)
@@ -86,14 +89,18 @@ def an_archive_answers(folder, wrong):
 
 
 def connections_are_asked(top, env, wrong):
-    """What is open is asked of connections in the archive, and it is what policyd alone says there."""
+    """What is open is asked of connections in an archive of proved programs, and it is what policyd alone says there."""
     ask = lambda: subprocess.run(["./wenirako", *LIST], cwd=top, env=env, stdout=subprocess.PIPE, stderr=subprocess.PIPE, text=True)
     path, named = top / "bin" / "connections", top / "MANIFEST.json"
-    plain, value, there = path.read_bytes(), named.read_text(), ask()
+    plain, value = path.read_bytes(), named.read_text()
+    others = {**json.loads(value), "proved": True}
+    named.write_text(json.dumps(others))
+    there = ask()
     told(wrong, "what is open", (there.returncode, "pay/teller-6c9f7-hx2wd  pay/ledger-0" in there.stdout), (0, True))
     path.write_text("another one")
     told(wrong, "with another file in its place", ask().returncode, 70)
-    others = json.loads(value)
+    named.write_text(json.dumps({**others, "proved": False}))
+    told(wrong, "with another file in its place, where nothing is proved", ask().returncode, 0)
     others["files"].pop("bin/connections")
     named.write_text(json.dumps(others))
     alone = ask()

@@ -5,6 +5,7 @@ drawn by hand; a box of it begins with `+-- NAME, N crates -`.
 """
 import re
 
+import handed
 import layers
 import program
 
@@ -18,6 +19,8 @@ LINES_MOST, COLUMNS_MOST = 40, 100
 HIGHEST = "tests and benchmarks"
 # The sessions, and the crates by which events of a history are made, which nothing above the sessions names.
 SESSIONS, MAKERS = "pol_sessions", {"pol_history_log", "pol_board", "pol_node"}
+# What others hand on of these crates: by none of it an event is made.
+HANDED = {"pol_sessions": {"Config", "SeenHistory"}}
 
 
 def rooms():
@@ -69,9 +72,20 @@ def makers_named():
     return [f"{crate} stands on {SESSIONS} and uses {it}, by which events are made" for crate in above for it in listed[crate] if it in MAKERS]
 
 
+def makers_handed():
+    """Crates below those above the sessions that hand on what is of such a crate, under whatever name."""
+    listed, wrong = program.crates(), []
+    above = [it for it in listed if SESSIONS in layers.below(it, listed)]
+    for crate in sorted({*above}.union(*(layers.below(it, listed) for it in above)) - MAKERS):
+        texts = [it.read_text() for it in sorted((program.TOP / "crates" / crate / "src").rglob("*.rt"))]
+        found = handed.handed(texts, MAKERS) - HANDED.get(crate, set())
+        wrong += [f"{crate} hands on {it} of a crate by which events are made" for it in sorted(found)]
+    return wrong
+
+
 def listed():
     """Each room of crates.txt is one section, each crate stands behind all that it uses, and none above the sessions makes events."""
-    return [*cut_rooms(), *upward(), *used_tests(), *makers_named()]
+    return [*cut_rooms(), *upward(), *used_tests(), *makers_named(), *makers_handed()]
 
 
 # The picture.
@@ -107,6 +121,7 @@ def said(name):
 
 def checks():
     yield "rooms crates.txt", listed
+    yield "rooms what a crate hands on", handed.seen
     yield "rooms docs/ARCHITECTURE.md", picture
     for name in program.crates():
         yield f"room crates/{name}", lambda name=name: said(name)

@@ -14,6 +14,8 @@ from .statuses import INTERRUPTED, TERMINATED
 
 # How often the caller hears that a child still runs, and how long a child may take to end when it is told to, in seconds.
 TICK, GRACE = 0.2, 3.0
+# How much of what a child said is told.
+SAID_MOST = 1000
 
 # The children that run. Who starts one has the lock, so that none is missed by who ends all.
 _running: set[subprocess.Popen] = set()
@@ -69,6 +71,20 @@ class Done(NamedTuple):
     out: bytes
     err: bytes
 
+    def said(self, name: str) -> str:
+        """How the program of that name ended, and the last that it said of it."""
+        why = self.err.decode(errors="replace").strip()
+        how = f"was ended by {name_of(-self.status)}" if self.status < 0 else f"ended with the status {self.status}"
+        return f"{name} {how}" + (f": {why[-SAID_MOST:]}" if why else "")
+
+
+def name_of(number: int) -> str:
+    """A signal by its name, or by its number where it has none."""
+    try:
+        return signal.Signals(number).name
+    except ValueError:
+        return f"the signal {number}"
+
 
 def heed_signals() -> None:
     """From here on SIGINT, SIGTERM and SIGHUP raise `Ended` in the main thread."""
@@ -109,6 +125,8 @@ def run(words: Sequence[str], given: Optional[bytes] = None, tick: Callable[[], 
 def heard(child: subprocess.Popen, tick: Callable[[], None]) -> Done:
     """What a child has written, once it has ended."""
     while True:
+        # (what a signal raised may have been swallowed: by a destructor, say, in which nothing can be raised)
+        _signals.check()
         try:
             out, err = child.communicate(timeout=TICK)
             return Done(child.returncode, out or b"", err or b"")

@@ -199,8 +199,7 @@ class Core:
         said = done.out.decode().splitlines()
         self.runs, self.lines = self.runs + 1, self.lines + len(lines)
         if done.status not in (0, 1) or len(said) != len(lines):
-            why = done.err.decode(errors="replace").strip()
-            raise NoAnswer(f"policyd ended with the status {done.status}" + (f": {why[-1000:]}" if why else ""))
+            raise NoAnswer(done.said("policyd"))
         for number, at in enumerate(numbers):
             if not said[number].endswith(f" identity {numbers[at]}"):
                 raise NoAnswer(f"policyd answered {said[number]!r} where identity {numbers[at]} was due")

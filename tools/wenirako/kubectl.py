@@ -68,7 +68,7 @@ def one(kind: str, context: Optional[str], progress: Progress) -> tuple[list[dic
         raise Bad(f"kubectl can't be run: {error.strerror}. Name a file by --state, or - for standard input")
     if done.status:
         said = done.err.decode(errors="replace").strip().splitlines()
-        return [], (said[-1] if said else f"it ended with the status {done.status}").removeprefix("error: ")
+        return [], (said[-1] if said else done.said("it")).removeprefix("error: ")
     try:
         value = json.loads(done.out)
         return named(value), ""

@@ -108,8 +108,7 @@ class Opened:
         with tempfile.TemporaryFile() as written:
             done = children.run(program.command, "".join(f"{it}\n" for it in lines).encode(), tick=self.progress.tick, stdout=written)
             if done.status not in (NOTHING, BAD, TELLS):
-                why = done.err.decode(errors="replace").strip()
-                raise (Untold if done.status in (MEMORY, TOO_LONG) else NoAnswer)(f"connections ended with the status {done.status}" + (f": {why[-1000:]}" if why else ""))
+                raise (Untold if done.status in (MEMORY, TOO_LONG) else NoAnswer)(done.said("connections"))
             written.seek(0)
             yield from (line.decode() for line in written)
 

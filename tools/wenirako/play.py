@@ -20,6 +20,7 @@ from __future__ import annotations
 import json
 import os
 import re
+import signal
 import subprocess
 import sys
 import tempfile
@@ -30,6 +31,8 @@ from .programs import TOP, NoProgram, Program
 from .progress import Progress
 from .statuses import BAD_WORDS, NO_ANSWER, NOTHING
 
+# Signals by which a program is told to end, or is ended for want of memory: no fault of its own.
+TOLD_TO_END = (signal.SIGHUP, signal.SIGINT, signal.SIGKILL, signal.SIGTERM)
 DEMO = TOP / "examples" / "star-wars.jsonl"
 # The form of a value that may be any text, and the words of which one at most may stand there, group by group.
 ANY_TEXT, ONE_AT_MOST = "NAME", (("--generate", "--map", "--audit"), ("--policy-map-max", "--generate"))
@@ -124,6 +127,9 @@ def played(program: Program, script: IO[bytes], words: Sequence[str]) -> int:
     if done.status >= 0:
         sys.stderr.write(done.err.decode(errors="replace"))
         return done.status
+    if -done.status in TOLD_TO_END:
+        say(done.said("the build"))
+        return NO_ANSWER
     # (its place is told by `rt try` alone)
     say("the build stopped at a fault. Where it is takes another build ..")
     script.seek(0)

@@ -69,13 +69,13 @@ def there() -> Optional[Program]:
 
 
 def connections() -> Optional[Program]:
-    """The program that lists connections, where it stands proved, or in an archive; None where it doesn't.
+    """The program that lists connections, where it stands proved, in an archive of proved programs too; None where it doesn't.
 
     A build of it without proof isn't asked: it tells no more than policyd does, and takes longer.
     """
     told = manifest()
     if told is not None:
-        return of_archive(told, LISTS) if f"bin/{LISTS}" in told["files"] else None
+        return of_archive(told, LISTS) if told["proved"] and f"bin/{LISTS}" in told["files"] else None
     build = of_tests("program").CONNECTIONS
     return Program([str(build.program)], True, "a proved build of the sources") if build.is_proved() else None
 
@@ -98,7 +98,7 @@ def build(say: Callable[[str], None], progress: Progress) -> None:
     done = children.run([sys.executable, str(TOP / "tests" / "unproved.py"), "build"], tick=progress.tick)
     progress.end()
     if done.status:
-        raise NoProgram(done.err.decode(errors="replace").rstrip() or f"the build ended with the status {done.status}")
+        raise NoProgram((done.status > 0 and done.err.decode(errors="replace").rstrip()) or done.said("the build"))
 
 
 def version() -> str:
