@@ -1,6 +1,7 @@
 """The objects of a cluster, as far as the recipes speak of them."""
 from __future__ import annotations
 
+import copy
 import typing
 
 from . import deciding, network, services, workloads
@@ -42,6 +43,16 @@ class Cluster:
         found = cls.__new__(cls)
         found.warned = []
         found.begin(choice, cluster, given, relabelled)
+        return found
+
+    def with_policies(self, given: list) -> Cluster:
+        """The cluster of these objects, which are its own but for policies; pods and all else are those of this one."""
+        found = copy.copy(self)
+        known = {id(it.value): it for it in self.policies}
+        found.warned, found.given, found.kinds = [], given, {}
+        for _, value in given:
+            found.count(value)
+        found.policies = [known.get(id(value)) or policy_of(place, value) for place, value in given if is_policy(value)]
         return found
 
     def begin(self, choice: Filter, cluster: str, given: list, relabelled: typing.Sequence = ()) -> None:
@@ -112,16 +123,17 @@ class Cluster:
         """The pods and what stands for those that come."""
         return [*self.live, *self.coming]
 
+    def count(self, value: dict) -> None:
+        if value["apiVersion"] in APIS:
+            self.kinds[value["kind"]] = self.kinds.get(value["kind"], 0) + 1
+
     def take(self, place: str, value: dict) -> None:
         api, kind = value["apiVersion"], value["kind"]
-        if api in APIS:
-            self.kinds[kind] = self.kinds.get(kind, 0) + 1
+        self.count(value)
         if (api, kind) in workloads.KINDS:
             self.take_template(workloads.Template(place, value))
-        elif api == "cilium.io/v2" and kind in POLICY_KINDS:
-            self.policies.append(Policy(place, value))
-        elif (api, kind) == (network.API, network.KIND):
-            self.policies.append(network.NetworkPolicy(place, value))
+        elif is_policy(value):
+            self.policies.append(policy_of(place, value))
         elif deciding.decides(api, kind):
             self.deciding.append(deciding.Deciding(place, value))
         elif (api, kind) in services.GROUPS:
@@ -190,6 +202,15 @@ class Cluster:
         if found in self.nodes:
             return self.node_number(self.nodes[found], local)
         return API_SERVER if found in self.api_addresses else None
+
+
+def is_policy(value: dict) -> bool:
+    api, kind = value["apiVersion"], value["kind"]
+    return api == "cilium.io/v2" and kind in POLICY_KINDS or (api, kind) == (network.API, network.KIND)
+
+
+def policy_of(place: str, value: dict) -> Policy:
+    return network.NetworkPolicy(place, value) if value["kind"] == network.KIND else Policy(place, value)
 
 
 def counted(count: int, one: str, many: str) -> str:

@@ -4,7 +4,7 @@ from __future__ import annotations
 import typing
 
 from . import network, services, workloads
-from .cluster import Cluster
+from .cluster import Cluster, is_policy
 from .policies import CLUSTER_WIDE, NAMESPACED, POLICY_KINDS
 from .reading import Bad, objects, text_of
 from .state import State
@@ -94,6 +94,9 @@ def after(before: State, manifests: Manifests, gone: typing.Collection[tuple]) -
         elif key not in gone:
             given.append((place, value))
     given += coming.values()
+    of_policies = before.with_policies(given) if all(is_policy(it) for _, it in manifests.objects.values()) else None
+    if of_policies is not None:
+        return of_policies
     relabelled = [workloads.Template(*it) for it in manifests.objects.values() if (it[1]["apiVersion"], it[1]["kind"]) in workloads.KINDS]
     cluster = Cluster.of(given, before.cluster.choice, before.cluster.cluster, relabelled)
     found = State(cluster, before.names_of_ports)

@@ -20,6 +20,8 @@ class Policy:
     def __init__(self, place: str, value: dict):
         metadata, name = name_of(place, value)
         kept = {it: metadata[it] for it in ("name", "namespace") if metadata.get(it) is not None}
+        # (the object as it was given, by which it is known again where it stands in another state)
+        self.value = value
         self.place, self.document = place, {**value, "metadata": kept}
         self.document.pop("status", None)
         self.kind = value["kind"]

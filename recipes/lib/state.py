@@ -18,8 +18,9 @@ class State:
     `names` has further names of ports that pods are told apart by, as another state's policies ask about them.
     """
 
-    def __init__(self, cluster: Cluster, names: typing.Iterable[str] = ()):
-        self.cluster = cluster
+    def __init__(self, cluster: Cluster, names: typing.Iterable[str] = (), known: typing.Optional[typing.Mapping[tuple, rewriting.Rewritten]] = None):
+        """`known` has policies as they were rewritten, where all that they are judged in is the same."""
+        self.cluster, self.known = cluster, known or {}
         # The policies as they are written, by their keys.
         self.policies = {it.key: it for it in cluster.policies}
         self.has_own_labels = False
@@ -36,7 +37,7 @@ class State:
             self.required.update(required.values())
             pod.add_labels({**named_ports.labels_of(pod, self.names_of_ports), **required})
         self.has_own_labels = bool(self.names_of_ports or self.requirements)
-        self.rewritten = {key: rewriting.rewrite(it, self) for key, it in self.policies.items()}
+        self.rewritten = {key: self.known_of(it) or rewriting.rewrite(it, self) for key, it in self.policies.items()}
         self.places, self.all_marks, self.all_unsure, self.all_names = {}, {}, [], []
         for it in self.rewritten.values():
             self.places.update(it.places)
@@ -44,6 +45,17 @@ class State:
             self.all_unsure += it.unsure
             self.all_names += it.names
         self.all_unsure += [of_deciding(it) for it in self.cluster.deciding]
+
+    def known_of(self, policy: typing.Any) -> typing.Optional[rewriting.Rewritten]:
+        found = self.known.get(policy.key)
+        return found if found is not None and found.policy is policy else None
+
+    def with_policies(self, given: list) -> typing.Optional[State]:
+        """The state of these objects, which are its own but for policies; None where policies tell pods apart that else are alike."""
+        cluster = self.cluster.with_policies(given)
+        if self.has_own_labels or named_ports.asked_by(cluster.policies) or requires.gather(cluster.policies):
+            return None
+        return State(cluster, known=self.rewritten)
 
     def around(self) -> str:
         """What policies' entries speak of beside pods; it has the same text where it is the same."""

@@ -54,6 +54,8 @@ LEFT_OUT = {
 SECTIONS = ("ingress", "ingressDeny", "egress", "egressDeny")
 ENTITIES = "all world world-ipv4 world-ipv6 host remote-node kube-apiserver ingress init health unmanaged cluster".split()
 PROTOCOLS = ("", "TCP", "UDP", "SCTP", "ANY")
+# Whether each letter of a name is printed as it is.
+PRINTABLE = re.compile("[!-~]*").fullmatch
 
 
 class Unread(Exception):
@@ -88,7 +90,8 @@ def is_network_policy(document: dict) -> bool:
 
 def below(path: str, name: str) -> str:
     """The path of a member; a byte that isn't printed is a question mark, as in policyd's answers."""
-    name = "".join(chr(it) if 0x21 <= it <= 0x7E else "?" for it in name.encode(errors="surrogatepass"))
+    if not PRINTABLE(name):
+        name = "".join(chr(it) if 0x21 <= it <= 0x7E else "?" for it in name.encode(errors="surrogatepass"))
     return f"{path}.{name}" if path else name
 
 

@@ -6,6 +6,7 @@ from . import judged
 from .objects import app, behind, deployment, namespace, network, pod, policy, ports, service
 from lib import change, cluster as clusters, label_index, policies, reading
 from lib.sides import whose
+from lib.state import State
 from wenirako.ends import Universe
 from wenirako.naming import Names
 
@@ -203,6 +204,34 @@ def manifests_come_whole(told):
         told(wanted, wanted in str(got), True)
 
 
+def seen_of(found):
+    """What is known of a state, each policy by its lines."""
+    cluster = found.cluster
+    of_pods = [(it.name, it.labels, it.addresses, it.stands_for) for it in found.ends]
+    return [it.line for it in found.parts()], found.places, found.all_marks, found.all_names, list(map(str, found.all_unsure)), of_pods, {it: count for it, count in cluster.kinds.items() if count}, cluster.left_out, [*found.policies]
+
+
+def policies_alone_change(told):
+    """A state after a change of policies alone is that of all its objects, read anew; and the one before is as it was."""
+    web = {"endpointSelector": {"matchLabels": {"app": "web"}}, "ingress": [{"fromEndpoints": [{}]}], "egress": [{"toFQDNs": [{"matchName": "a.example"}]}, {"toEntities": ["world"], "news": 1}]}
+    named = {"endpointSelector": {}, "ingress": [{"fromEndpoints": [{}], "toPorts": [{"ports": [{"port": "http", "protocol": "TCP"}]}]}]}
+    required = {"endpointSelector": {}, "ingress": [{"fromEndpoints": [{}], "fromRequires": [{"matchLabels": {"app": "web"}}]}]}
+    items = [*TWO, service("pay/web", {"app": "web"}), policy("pay/web", web), policy("wide", {"endpointSelector": {}, "egressDeny": [{"toEntities": ["world"]}]}), network("shop/cart", {"podSelector": {}, "ingress": [{}]})]
+    for added, removed in (
+        ([policy("pay/new", {"endpointSelector": {}, "egress": [{}]})], ["cnp/pay/web"]),
+        ([policy("pay/web", {**web, "egress": [{}]}), network("shop/new", {"podSelector": {}, "ingress": []})], ["netpol/shop/cart"]),
+        ([], ["ccnp/wide"]),
+        ([policy("pay/named", named)], []),
+        ([policy("pay/required", required)], []),
+        ([policy("pay/new", {"endpointSelector": {}}), namespace("more")], []),
+    ):
+        before = judged.read(items)
+        made = judged.changed(before, added, removed)
+        anew = clusters.Cluster.of(made.after.cluster.given, before.cluster.choice)
+        told(f"after {added} and {removed}", seen_of(made.after), seen_of(State(anew, before.names_of_ports)))
+        told(f"before {added} and {removed}", seen_of(before), seen_of(State(clusters.Cluster.of(before.cluster.given, before.cluster.choice), before.names_of_ports)))
+
+
 def what_the_state_lacks(told):
     state = judged.read([*TWO, policy("pay/a", {"endpointSelector": {}, "ingress": [{}]}), network("pay/b", {"podSelector": {}})])
     told("without two kinds", list(clusters.lacks(state.cluster)), ["note: the state has 0 Services, 0 CiliumClusterwideNetworkPolicies"])
@@ -285,4 +314,4 @@ def labels_are_indexed(told):
 
 def checks():
     found = [pods_that_come, how_ends_that_come_are_written, a_default_deny_that_goes, two_pods_of_one_address, the_api_server, addresses_of_services, kinds_that_decide, what_is_marked]
-    return [labels_are_indexed, *found, names_of_addresses, labels_that_change, two_whole_states, manifests_come_whole, what_the_state_lacks, what_kubectl_said, yaml_is_read]
+    return [labels_are_indexed, *found, names_of_addresses, labels_that_change, two_whole_states, manifests_come_whole, policies_alone_change, what_the_state_lacks, what_kubectl_said, yaml_is_read]

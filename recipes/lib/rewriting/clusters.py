@@ -1,7 +1,6 @@
 """The cluster's own name, which policyd calls `default`: so the entity `cluster` means the pods of this cluster."""
 from __future__ import annotations
 
-import dataclasses
 import typing
 
 from ..pods import CLUSTER_KEY, CORE_CLUSTER
@@ -18,7 +17,7 @@ def rewrite(work: Work, entry: Entry, word: str) -> typing.List[Entry]:
     if not isinstance(listed, list):
         return [entry]
     made = [selector(work, it) if isinstance(it, dict) else it for it in listed]
-    return [dataclasses.replace(entry, value={**entry.value, f"{word}Endpoints": made})]
+    return [entry.with_value({**entry.value, f"{word}Endpoints": made})]
 
 
 def selector(work: Work, written: dict) -> dict:

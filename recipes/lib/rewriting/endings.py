@@ -1,7 +1,6 @@
 """IPv6 texts that end in an IPv4 address (RFC 4291, section 2.2), which policyd doesn't read: written as groups alone."""
 from __future__ import annotations
 
-import dataclasses
 import typing
 
 from ..addresses import without_ending
@@ -14,7 +13,7 @@ def rewrite(work: Work, entry: Entry, word: str) -> typing.List[Entry]:
         value[f"{word}CIDR"] = [*map(text_of, value[f"{word}CIDR"])]
     if value.get(f"{word}CIDRSet"):
         value[f"{word}CIDRSet"] = [*map(block_of, value[f"{word}CIDRSet"])]
-    return [dataclasses.replace(entry, value=value)]
+    return [entry.with_value(value)]
 
 
 def block_of(block: object) -> object:

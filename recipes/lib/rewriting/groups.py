@@ -1,7 +1,6 @@
 """Groups of prefixes as peers: the prefixes of the CiliumCIDRGroups of the state (Cilium, Network Policy, 'CIDR based')."""
 from __future__ import annotations
 
-import dataclasses
 import typing
 
 from ..addresses import Network, lies_in, prefix, without_ending
@@ -15,7 +14,7 @@ def rewrite(work: Work, entry: Entry, word: str) -> typing.List[Entry]:
     if not listed:
         return [entry]
     sets = [it for one in listed for it in prefixes(work, one)]
-    return [dataclasses.replace(entry, value={**entry.value, f"{word}CIDRSet": sets})]
+    return [entry.with_value({**entry.value, f"{word}CIDRSet": sets})]
 
 
 def prefixes(work: Work, item: dict) -> typing.List[dict]:

@@ -1,7 +1,6 @@
 """Protocols without ports: policyd's packets are of TCP, UDP and SCTP, so an entry of ICMP alone isolates and covers none."""
 from __future__ import annotations
 
-import dataclasses
 import typing
 
 from .work import Entry, Work
@@ -13,16 +12,16 @@ def rewrite(work: Work, entry: Entry, word: str) -> typing.List[Entry]:
     """The entry without its ports of such protocols; where it has none but these, one that covers nothing."""
     value = dict(entry.value)
     if value.pop("icmps", None):
-        return [dataclasses.replace(entry, value={})]
+        return [entry.with_value({})]
     items = value.get("toPorts") or []
     ports = [port for item in items for port in item.get("ports") or []]
     kept = [port for port in ports if not is_without_ports(port)]
     if len(kept) == len(ports):
-        return [dataclasses.replace(entry, value=value)]
+        return [entry.with_value(value)]
     if not kept:
-        return [dataclasses.replace(entry, value={})]
+        return [entry.with_value({})]
     value["toPorts"] = [{**item, "ports": left} for item in items for left in [[it for it in item["ports"] if not is_without_ports(it)]] if left]
-    return [dataclasses.replace(entry, value=value)]
+    return [entry.with_value(value)]
 
 
 def is_without_ports(port: dict) -> bool:

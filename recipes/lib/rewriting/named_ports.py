@@ -59,10 +59,10 @@ def rewrite(work: Work, entry: Entry, word: str) -> typing.List[Entry]:
     if not ports:
         return [entry]
     kept = [{**item, "ports": left} for item in items for left in [[it for it in item["ports"] if it not in ports]] if left]
-    found = [dataclasses.replace(entry, value={**entry.value, "toPorts": kept})] if kept else []
+    found = [entry.with_value({**entry.value, "toPorts": kept})] if kept else []
     for port in ports:
         found += of_name(work, entry, word, port)
-    return found or [dataclasses.replace(entry, value={})]
+    return found or [entry.with_value({})]
 
 
 def of_name(work: Work, entry: Entry, word: str, port: dict) -> typing.Iterator[Entry]:

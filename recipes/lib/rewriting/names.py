@@ -1,7 +1,6 @@
 """Addresses that nobody knows here: those of names, and those of a cloud's groups."""
 from __future__ import annotations
 
-import dataclasses
 import typing
 
 from .. import unread
@@ -16,12 +15,12 @@ def rewrite(work: Work, entry: Entry, word: str) -> typing.List[Entry]:
     value = dict(entry.value)
     lists = {it: value.pop(it) for it in MEMBERS if it in value}
     if not any(lists.values()):
-        return [dataclasses.replace(entry, value={f"{word}Endpoints": [], **value} if lists else value)]
+        return [entry.with_value({f"{word}Endpoints": [], **value} if lists else value)]
     ports = numbers(work, value.get("toPorts") or [], word)
     for member, listed in lists.items():
         if listed and ports is not None:
             work.names([written(work, member, at, it) for at, it in enumerate(listed)], ports)
-    return [dataclasses.replace(entry, value={})]
+    return [entry.with_value({})]
 
 
 def numbers(work: Work, items: typing.List[dict], word: str) -> typing.Optional[dict]:

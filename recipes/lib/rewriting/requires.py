@@ -80,7 +80,7 @@ def rewrite(work: Work, entry: Entry, word: str) -> typing.List[Entry]:
     value = dict(entry.value)
     listed = value.pop(f"{word}Requires", None)
     has_peers = any(name.startswith(word) and it for name, it in value.items() if name != "toPorts")
-    return [dataclasses.replace(entry, value={} if listed and not has_peers else value)]
+    return [entry.with_value({} if listed and not has_peers else value)]
 
 
 def by_subject(work: Work, rule: Rule) -> typing.List[Rule]:
@@ -104,7 +104,7 @@ def required(work: Work, section: str, entry: Entry, mine: typing.Sequence[Requi
     more = [it for one in mine if one.section == section for it in one.expressions]
     if not more or not entry.value.get(name):
         return entry
-    return dataclasses.replace(entry, value={**entry.value, name: [with_required(work, it, more) for it in entry.value[name]]})
+    return entry.with_value({**entry.value, name: [with_required(work, it, more) for it in entry.value[name]]})
 
 
 def with_required(work: Work, selector: dict, more: Expressions) -> dict:

@@ -4,7 +4,6 @@ Cilium, Network Policy, 'Services based'. A reference without a namespace means 
 """
 from __future__ import annotations
 
-import dataclasses
 import typing
 
 from ..addresses import prefix, written
@@ -24,7 +23,7 @@ def rewrite(work: Work, entry: Entry, word: str) -> typing.List[Entry]:
     value = dict(entry.value)
     listed = value.pop("toServices", None)
     if not listed:
-        return [dataclasses.replace(entry, value={"toEndpoints": [], **value} if listed is not None else value)]
+        return [entry.with_value({"toEndpoints": [], **value} if listed is not None else value)]
     found = [it for one in listed for it in meant(work, one)]
     pods = [of_pods(it) for it in found if it.selector]
     behind = work.state.cluster.behind
@@ -34,7 +33,7 @@ def rewrite(work: Work, entry: Entry, word: str) -> typing.List[Entry]:
             work.lacks(f"the Service {it.name} has no selector, and no EndpointSlice of it is in the state")
     made = [{**value, "toEndpoints": pods}] if pods else []
     made += [{**value, "toCIDR": addresses}] if addresses else []
-    return [dataclasses.replace(entry, value=it) for it in made or [{}]]
+    return [entry.with_value(it) for it in made or [{}]]
 
 
 def of_pods(service: Service) -> dict:

@@ -28,6 +28,9 @@ class Entry:
     # The label without which a pod of the subject isn't meant: it has a port of some name and number.
     port_label: str = ""
 
+    def with_value(self, value: dict) -> Entry:
+        return Entry(self.number, value, self.marks, self.port_label)
+
 
 @dataclasses.dataclass
 class Rule:
