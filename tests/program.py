@@ -6,18 +6,27 @@ sources that were proved, and of the program that was built from them; and behin
 edits it saw refused. A build without such a note, or whose sources or program have changed since, is never used. The same
 goes for connections.
 
+Whether a build is that of the sources is asked by each question of the front door. So the checksum of sources is kept in
+policyd.sources, with the place, size and times of each file that it was taken of, and where these are the same it isn't
+taken anew. What the gate notes is always taken anew.
+
     tests/program.py sources      prints the checksums of the sources as they stand, of each program
     tests/program.py keep SUMS [LOG]
         after `rt ci` passed, whose words are in the file LOG: notes its builds, where the sources still have these checksums
 """
+import functools
 import hashlib
+import os
 import pathlib
 import re
+import shutil
 import subprocess
 import sys
 import time
 
 TOP = pathlib.Path(__file__).resolve().parent.parent
+# A file that was changed less than so many seconds ago may be changed once more without other times.
+SETTLED = 2
 
 
 def crate_of(line):
@@ -35,6 +44,23 @@ def sum_of(path):
     return hashlib.sha256(path.read_bytes()).hexdigest() if path.is_file() else "none"
 
 
+def walked(folder):
+    """The files below a folder, in whatever order."""
+    return (f"{at}/{name}" for at, _, names in os.walk(folder) for name in names)
+
+
+def files_in(folder):
+    return sorted(it for it in map(pathlib.Path, walked(folder)) if it.is_file())
+
+
+def write_whole(path, text):
+    """Writes a file so that whoever reads it meanwhile has it as it was, or whole."""
+    made = path.with_name(f"{path.name}.{os.getpid()}")
+    made.write_text(text)
+    os.replace(made, path)
+
+
+@functools.lru_cache(maxsize=None)
 def kit():
     try:
         return subprocess.run(["rt", "version"], stdout=subprocess.PIPE, stderr=subprocess.DEVNULL).stdout
@@ -59,7 +85,7 @@ class Build:
 
     def __init__(self, name):
         self.name, self.crate = name, TOP / "crates" / name
-        self.program, self.note = self.crate / "out" / name, self.crate / "out" / f"{name}.note"
+        self.program, self.note, self.seen = (self.crate / "out" / f"{name}{end}" for end in ("", ".note", ".sources"))
 
     def parts(self):
         """The crates that the program stands on, lowest first, and the program last."""
@@ -80,16 +106,41 @@ class Build:
         for name in sorted(self.parts()):
             total.update(repr((name, listed[name])).encode())
             for part in ("src", "specs", "proofs"):
-                for path in sorted((TOP / "crates" / name / part).rglob("*")):
-                    if path.is_file():
-                        total.update(repr((str(path.relative_to(TOP)), path.read_bytes())).encode())
+                for path in files_in(TOP / "crates" / name / part):
+                    total.update(repr((str(path.relative_to(TOP)), path.read_bytes())).encode())
         return total.hexdigest()
+
+    def known_sources(self):
+        """That checksum as it was taken last, where no file has been changed since; else it is taken anew."""
+        stamp, newest = self.stamp()
+        kept = self.seen.read_text().split() if self.seen.is_file() else []
+        if kept[:1] == [stamp]:
+            return kept[1]
+        found = self.sources()
+        if self.seen.parent.is_dir() and newest + SETTLED < time.time() and self.stamp()[0] == stamp:
+            write_whole(self.seen, f"{stamp}\n{found}\n")
+        return found
+
+    def stamp(self):
+        """A checksum of the places, sizes and times of what the program is made from, and when the last of it was changed."""
+        total, listed, newest = hashlib.sha256(), crates(), 0
+        rt = os.path.realpath(shutil.which("rt") or "no kit")
+        folders = [f"{TOP}/crates/{name}/{part}" for name in sorted(self.parts()) for part in ("src", "specs", "proofs")]
+        total.update(repr([(name, listed[name]) for name in sorted(self.parts())]).encode())
+        for path in [rt, os.path.join(os.path.dirname(rt), "..", "KIT-ID"), *(it for folder in folders for it in walked(folder))]:
+            try:
+                it = os.stat(path)
+            except OSError:
+                continue
+            total.update(repr((path, it.st_ino, it.st_size, it.st_mtime_ns, it.st_ctime_ns)).encode())
+            newest = max(newest, it.st_mtime, it.st_ctime)
+        return total.hexdigest(), newest
 
     def is_proved(self):
         """Whether a proved build of the sources, as they stand now, is there."""
         if not self.note.is_file() or not self.program.is_file():
             return False
-        return self.note.read_text().split()[:2] == [self.sources(), sum_of(self.program)]
+        return self.note.read_text().split()[:2] == [self.known_sources(), sum_of(self.program)]
 
     def edits_refused(self):
         """How many must-fail edits the gate that kept the build saw refused; None where no gate did."""

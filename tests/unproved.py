@@ -62,7 +62,7 @@ class Unproved:
 
     def is_kept(self):
         """Whether a build of the sources, as they stand now, is there."""
-        return self.note.is_file() and self.kept.is_file() and self.note.read_text().split() == [self.of.sources(), program.sum_of(self.kept)]
+        return self.note.is_file() and self.kept.is_file() and self.note.read_text().split() == [self.of.known_sources(), program.sum_of(self.kept)]
 
     def tried(self, folder, given):
         """What `rt try` answers to a file of input, while links to what it runs are taken in the folder."""
