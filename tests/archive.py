@@ -45,7 +45,7 @@ class Door:
             stack.enter_context(replaced(main.sys, stdin=stdin))
             stack.enter_context(replaced(main.programs, **known))
             stack.enter_context(replaced(core.Core, play=lambda _, *asked: front_random.in_process(*asked)))
-            stack.enter_context(replaced(opened.Opened, play=lambda _, lines: front_random.lines_of_connections(lines)))
+            stack.enter_context(replaced(opened.Opened, play=lambda _, *asked: front_random.lines_of_connections(*asked)))
             try:
                 status = main.asked_for(list(words), "wenirako")
             except SystemExit as ended:

@@ -24,21 +24,22 @@ from judge.reading import read_address, read_line  # noqa: E402
 from lib import state as bridge  # noqa: E402
 from lib.labels import Filter  # noqa: E402
 from wenirako import core, diffing, listing, programs, states  # noqa: E402
+from wenirako import opened as front_door  # noqa: E402
 from wenirako.asked import Asked  # noqa: E402
 from wenirako.progress import Progress  # noqa: E402
 
 PACKETS = 300
 # What two answers are compared by.
-SAID = ("summary", "cells", "rows", "status")
+SAID = ("summary", "cells", "rows", "status", "notes", "more")
 
 
 def in_process(lines, numbers):
     return standin.answers("".join(f"{it}\n" for it in lines).encode())
 
 
-def lines_of_connections(lines):
+def lines_of_connections(lines, words=()):
     """What connections writes of a script, by tests/judge."""
-    written, status = opened.told("".join(f"{it}\n" for it in lines).encode())
+    written, status = opened.told("".join(f"{it}\n" for it in lines).encode(), halves="--halves" in words)
     assert status in (0, 1, 3), status
     return written.decode().splitlines()
 
@@ -56,12 +57,23 @@ def whole_list(of):
 
 
 def differences(of_states, report):
-    """What an answer says otherwise where it asks for whole connections, and whether it asked so, in lines."""
-    scripts = []
-    lists = lambda lines: scripts.append(lines) or lines_of_connections(lines)
-    alone, over = (report(asked(of_states, lists=it)) for it in (None, lists))
-    wrong = [f"{name}: {getattr(alone, name)}, and over connections {getattr(over, name)}" for name in SAID if getattr(alone, name) != getattr(over, name)]
+    """What an answer says otherwise where it asks for whole connections, and whether it asked so, in lines.
+
+    Of a change connections tells the halves too, or doesn't know that word, as one of an earlier commit: then it holds the rows.
+    """
+    scripts, alone = [], report(asked(of_states))
+    wrong = []
+    for what, lists in (("connections", lines_of_connections), ("connections without halves", without_halves)):
+        over = report(asked(of_states, lists=lambda lines, words=(): scripts.append(lines) or lists(lines, words)))
+        wrong += [f"{name}: {getattr(alone, name)}, and over {what} {getattr(over, name)}" for name in SAID if getattr(alone, name) != getattr(over, name)]
     return wrong + ([] if scripts else ["connections wasn't asked"])
+
+
+def without_halves(lines, words=(), lists=lines_of_connections):
+    """What a connections of an earlier commit writes."""
+    if words:
+        raise front_door.NoWord(f"no word {words}")
+    return lists(lines)
 
 
 def judged(state):

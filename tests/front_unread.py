@@ -84,7 +84,7 @@ def what_is_refused_unforeseen_is_not_read(folder, wrong):
     state = ["--state", door.write("state.json", listed(NAMESPACE, *PODS, odd))]
     plain, lists = front_random.in_process, front_random.lines_of_connections
     other = lambda lines: [nothing if '"odd"' in it else it for it in lines]
-    with replaced(front_random, in_process=lambda lines, numbers: plain(other(lines), numbers), lines_of_connections=lambda lines: lists(other(lines))):
+    with replaced(front_random, in_process=lambda lines, numbers: plain(other(lines), numbers), lines_of_connections=lambda lines, words=(): lists(other(lines), words)):
         status, out, err = door.call("list", "--to", "shop/cart", "--from", "shop/web", *state)
     row = ["shop/web", "shop/cart", "every protocol and port", "egress: no policy isolates it; ingress: no policy isolates it; unsure: shop/odd isn't read whole"]
     told(wrong, "the row", (status, stripped("\n".join(out.splitlines()[2:]))), (4, [row]))

@@ -52,6 +52,11 @@ def report_of(made, node=None):
     return diffing.report(front_random.asked(states.States(made.before, made.after, made.skipped), node))
 
 
+def differences(made):
+    """What the answer about a change says otherwise where connections is asked, in lines."""
+    return front_random.differences(states.States(made.before, made.after, made.skipped), diffing.report)
+
+
 def rows_of(made, node=None):
     """The rows that are shown, as JSON has them."""
     return report_of(made, node).rows

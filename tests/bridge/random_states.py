@@ -137,11 +137,21 @@ def is_end(rows, one):
     return any("cidr" in it and of(it["cidr"]) and not any(map(of, it["except"])) for it in rows)
 
 
+def drawn(pick):
+    """The objects of a state, and a policy that comes."""
+    return [*cluster(pick), *(made(pick, f"p{at}") for at in range(5))], made(pick, f"p{pick.randrange(6)}")
+
+
+def play_over(seed):
+    """What is wrong with the answer about one random change where connections is asked, in lines."""
+    items, new = drawn(random.Random(seed))
+    return judged.differences(judged.changed(items, [new]))
+
+
 def play(seed):
     """What is wrong with the rows of one random change, in lines, and how many packets change."""
     pick = random.Random(seed)
-    items = [*cluster(pick), *(made(pick, f"p{at}") for at in range(5))]
-    new = made(pick, f"p{pick.randrange(6)}")
+    items, new = drawn(pick)
     change = judged.changed(items, [new])
     if change.before.all_unsure or any(it.refused for state in change.states for it in state.rewritten.values()):
         return [f"seed {seed}: something isn't read: {[str(it) for it in change.before.all_unsure]}"], 0

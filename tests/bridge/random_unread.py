@@ -162,6 +162,12 @@ def again(pick, item):
             return found
 
 
+def play_over(seed):
+    """What is wrong with the answer about a random change where connections is asked, in lines."""
+    drawn = Drawn(random.Random(seed))
+    return judged.differences(judged.changed(drawn.before, drawn.added, drawn.removed))
+
+
 def play(seed):
     """What is wrong with the rows of a random change, in lines, and how many of the packets are unsure."""
     pick = random.Random(seed)

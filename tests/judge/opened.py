@@ -1,4 +1,4 @@
-"""Which connections scripts leave open, and which a change opens or shuts, written from docs/RULES.md ("Connections") alone.
+"""Which connections scripts leave open, and which a change opens or shuts or has a half of, from docs/RULES.md ("Connections") alone.
 
 `told` gives the bytes that `connections` writes of its input and its exit status. It asks the verdict of each pair of ends at
 each port at which something begins or may have ended, and shares nothing with the program.
@@ -160,7 +160,7 @@ def rows(ends, ports, said, members):
                 yield line(**{"from": one.name, "to": other.name}, protocol=protocol, ports=[first, last], **members(found))
 
 
-def one_script(script, *options):
+def one_script(script, halves, *options):
     state, refused = left(script, *options)
     scan = Scan(state)
     said = lambda *packet: (lambda halves: halves if is_open(halves) else None)(scan.halves(*packet))
@@ -169,7 +169,7 @@ def one_script(script, *options):
     return told, 1 if refused else 0
 
 
-def two_scripts(before, after, *options):
+def two_scripts(before, after, halves, *options):
     states, refused = zip(*(left(it, *options) for it in (before, after)))
     regions = sorted({prefix for state in states for prefix in prefixes(state)})
     sides = [ends(state, regions) for state in states]
@@ -178,7 +178,8 @@ def two_scripts(before, after, *options):
 
     def said(one, other, *packet):
         then, now = (scan.halves(side[one.key], side[other.key], *packet) for scan, side in zip(scans, keys))
-        return None if is_open(then) == is_open(now) else (then, now)
+        same = then == now if halves else is_open(then) == is_open(now)
+        return None if same else (then, now)
 
     told = [line(side=side, line=at, answer=answer) for side, lines in zip(("before", "after"), refused) for at, answer in lines]
     changes = [line(side=name, end=end.name) for name, side, others in zip(("before", "after"), sides, reversed(keys)) for end in side if end.key not in others]
@@ -187,8 +188,8 @@ def two_scripts(before, after, *options):
     return told + changes, 1 if any(refused) else 3 if changes else 0
 
 
-def told(given, mode="default", localhost=True):
-    """What `connections` writes of its input, and its exit status."""
+def told(given, mode="default", localhost=True, halves=False):
+    """What `connections` writes of its input, and its exit status; `halves` tells each change of a half too."""
     scripts = divided(given)
-    lines, status = (one_script if len(scripts) == 1 else two_scripts)(*scripts, mode, localhost)
+    lines, status = (one_script if len(scripts) == 1 else two_scripts)(*scripts, halves, mode, localhost)
     return "".join(lines).encode(), status

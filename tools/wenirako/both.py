@@ -16,8 +16,9 @@ from .selecting import EGRESS, INGRESS
 class Both:
     """A half before and after a change, with those of one connection that has it, and whether it may change."""
 
-    def __init__(self, before: Wanted, after: Wanted, may_change: bool):
-        self.before, self.after, self.may_change = before, after, may_change
+    def __init__(self, before: Wanted, after: Wanted, may_change: bool, is_unsure: bool):
+        """`is_unsure` is so where something that isn't read touches it, before or after."""
+        self.before, self.after, self.may_change, self.is_unsure = before, after, may_change, is_unsure
 
 
 class Boths:
@@ -47,7 +48,7 @@ class Boths:
         is_same = before[1:] == after[1:]
         key = (*keys, *numbers, is_same)
         if key not in self.made:
-            self.made[key] = Both(before, after, keys[0] != keys[1] or self.are_doubted(numbers, is_same))
+            self.made[key] = Both(before, after, keys[0] != keys[1] or self.are_doubted(numbers, is_same), any(numbers))
         return self.made[key]
 
     def number(self, phase: int, at: int, direction: str, *_: object) -> int:

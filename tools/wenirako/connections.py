@@ -69,7 +69,7 @@ def stretches(halves: Halves, source: End, target: End, phase: int) -> Iterable[
 def open_stretches(halves: Halves, source: End, target: End, phase: int, told: Mapping[str, Ranges]) -> Iterable[Stretch]:
     """A connection's stretches that are open, where it is told at which ports of which protocol it is."""
     asked = wanted(source, target, phase) if told else []
-    for protocol, low, high, segments in joined([halves.passing(*it) for it in asked]) if asked else ():
+    for protocol, low, high, segments in joined([halves.unasked(*it, ALLOWED) for it in asked]) if asked else ():
         if is_within(told.get(protocol, ()), low, high):
             halves.words.update((it.question, ALLOWED) for it in segments)
             yield Stretch(protocol, low, high, tuple((it[2], segment) for it, segment in zip(asked, segments)))

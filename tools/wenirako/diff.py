@@ -9,79 +9,24 @@ is shown too, and marked, though both verdicts are alike.
 """
 from __future__ import annotations
 
-from typing import Callable, Iterable, NamedTuple, Optional
+from typing import Iterable, Mapping, Optional
 
 from lib.reading import Bad
 
 from .both import Both, Boths, wanted_of
+from .changes import HALVES, Changes, Heard
 from .connections import Wanted, pairs_with, profiles
-from .core import ALLOWED, BY_RULE
-from .ends import End, Outside
+from .ends import End, Group, Outside
 from .halves import Halves, Segment, joined
-from .holding import Held
+from .holding import hold
 from .naming import Names
-from .opened import Opened, Untold
+from .opened import NoWord, Opened, Untold
 from .reasons import NO_ENTRY, of_change
 from .rows import Line, Ports, Rows, Told
 from .rows import alike as alike_ports
-from .selecting import DIRECTIONS, EGRESS, Half
+from .selecting import DIRECTIONS, EGRESS, INGRESS, Half
 from .states import States
-
-
-class Stretch(NamedTuple):
-    """A stretch of ports in which a connection changes, or a half of it does, with its halves before and after."""
-
-    protocol: str
-    low: int
-    high: int
-    halves: tuple[tuple[Wanted, Wanted, Segment, Segment], ...]
-    # The verdicts before and after, and what isn't read and may turn one of them.
-    words: tuple[str, str]
-    unsure: tuple[str, ...]
-
-    @property
-    def is_shown(self) -> bool:
-        """Whether the connection changes, or may for what isn't read."""
-        return self.changes or bool(self.unsure)
-
-    @property
-    def changes(self) -> bool:
-        """Whether the connection is open before or after alone, as far as it is read."""
-        return (self.words[0] == ALLOWED) != (self.words[1] == ALLOWED)
-
-    @property
-    def is_half(self) -> bool:
-        """Whether a half of it changes."""
-        return any(before.is_allowed != after.is_allowed for *_, before, after in self.halves)
-
-    @property
-    def is_allowed(self) -> bool:
-        return self.words[1] == ALLOWED
-
-    def asks(self, before: Segment, after: Segment) -> bool:
-        """Whether what is told of a half depends on the entries that decide it: not of what passes where the other half
-        shuts, nor where no entry allowed it before and none does after."""
-        return self.is_allowed or after.word == BY_RULE or before.is_allowed and not after.is_allowed
-
-    def is_told_as(self, other: Stretch) -> bool:
-        """Whether another stretch of the same connection has the same verdicts, and is told alike."""
-        if (self.protocol, self.words, self.unsure) != (other.protocol, other.words, other.unsure):
-            return False
-        return all(alike(*one, *two, self.asks(*one) or other.asks(*two)) for one, two in zip(self.segments(), other.segments()))
-
-    def segments(self) -> list[tuple[Segment, Segment]]:
-        return [it[2:] for it in self.halves]
-
-
-def joined_alike(found: Iterable[Stretch], names: Callable[[Stretch], tuple]) -> list[Stretch]:
-    """Stretches, with those made one that touch and are told alike, with the same names beside the world."""
-    made: list[Stretch] = []
-    for it in found:
-        if made and made[-1].high + 1 == it.low and made[-1].is_told_as(it) and names(made[-1]) == names(it):
-            made[-1] = made[-1]._replace(high=it.high)
-        else:
-            made.append(it)
-    return made
+from .stretch import Changed, Stretch, joined_alike, word_of
 
 
 def new_of(halves: tuple[Half, Half]) -> list[str]:
@@ -89,23 +34,6 @@ def new_of(halves: tuple[Half, Half]) -> list[str]:
     before, after = halves
     old = {*before.rules}
     return list(dict.fromkeys(it.policy.name for it in after.rules if it not in old and after.direction in it.part.isolates()))
-
-
-# A connection by its ends, and its stretches.
-Changed = tuple[End, End, list[Stretch]]
-
-
-def alike(before: Segment, after: Segment, other_before: Segment, other_after: Segment, is_asked: bool) -> bool:
-    """Whether a half is told alike in two stretches: where its entries are asked about, in the same segments alone."""
-    if is_asked:
-        return before is other_before and after is other_after
-    return (before.word, after.word) == (other_before.word, other_after.word)
-
-
-def word_of(segments: Iterable[Segment]) -> str:
-    """The verdict on a connection by its halves'."""
-    words = [it.word for it in segments]
-    return BY_RULE if BY_RULE in words else next((it for it in words if it != ALLOWED), ALLOWED)
 
 
 class Diff:
@@ -121,25 +49,65 @@ class Diff:
         self.beside, self.boths = self.halves.beside, Boths(self.halves)
         self.kept: dict[tuple, list[Stretch]] = {}
         self.texts: dict[tuple, Optional[str]] = {}
-        candidates = {pair: self.boths.of(*pair) for pair in self.candidates()}
-        self.halves.ask(wanted_of(it for boths in candidates.values() for it in boths if it.may_change), "asking about what may change")
-        moving = {pair: boths for pair, boths in candidates.items() if any(it.may_change and self.boths.moves(it) for it in boths)}
-        self.halves.ask(wanted_of(it for boths in moving.values() for it in boths), "asking about other halves")
-        found = [(*pair, self.changed(boths)) for pair, boths in moving.items()]
-        self.hold(found)
+        self.groups = self.halves.merged(it for it in self.universe.groups if it.before is not None and it.after is not None)
+        changes = Changes(self.opened, self.groups) if self.opened.program() is not None else None
+        heard = self.heard(changes) if changes is not None else None
+        found = [(*pair, self.of_heard(*pair, it)) for pair, it in heard.items() if not self.is_untold(*pair)] if heard is not None else []
+        if heard is None or self.beside.has_names or self.beside.has_doubts:
+            found += self.judged({pair: self.boths.of(*pair) for pair in self.candidates() if heard is None or self.is_untold(*pair)})
+        if changes is not None and heard is None and self.opened.program() is not None:
+            self.hold(changes, found)
         once = (it for listed in self.kept.values() for it in listed)
         self.halves.explain((segment for it in once for pair in it.segments() if it.asks(*pair) for segment in pair), "asking for reasons")
         return found
 
-    def hold(self, found: Iterable[Changed]) -> None:
-        """Complains where `connections` is there, and says that other connections change."""
-        if self.opened.program() is not None:
-            told = (it for it in found if not any(isinstance(end, Outside) and end.kind == "name" for end in it[:2]))
-            known = ((source, target, it) for source, target, listed in told for it in listed if it.changes)
-            try:
-                Held(self.opened, self.groups).hold((source, target, it.protocol, it.low, it.high, it.is_allowed) for source, target, it in known)
-            except Untold as why:
-                self.opened.lacks("what opens and shuts is by policyd alone", why)
+    # What connections tells.
+
+    def heard(self, changes: Changes) -> Optional[Mapping[tuple[End, End], Heard]]:
+        """What connections tells of halves that change; None where it can't."""
+        try:
+            return changes.told(HALVES)
+        except NoWord:
+            return None
+        except Untold as why:
+            self.opened.lacks("what opens and shuts is by policyd alone", why)
+            return None
+
+    def is_untold(self, source: End, target: End) -> bool:
+        """Whether connections can't tell of a connection: an end is the unknown addresses of a name, or something isn't read."""
+        if self.beside.has_names and any(isinstance(it, Outside) and it.kind == "name" for it in (source, target)):
+            return True
+        return self.beside.has_doubts and any(it.is_unsure for it in self.boths.of(source, target))
+
+    def of_heard(self, source: End, target: End, heard: Heard) -> list[Stretch]:
+        """The stretches in which a connection changes that connections tells of, made once for all that are told alike."""
+        ways = ((source, EGRESS, target), (target, INGRESS, source))
+        # (where nothing is asked of a half's entries, its words are all that is told of it)
+        is_told = [it or self.beside.has_names for it in heard.asks]
+        key = (heard, *(self.boths.one(*it) if told else it[1] for it, told in zip(ways, is_told) if isinstance(it[0], Group)))
+        if key not in self.kept:
+            self.kept[key] = joined_alike((it for it in self.cut(self.boths.of(source, target), heard) if it.is_shown or it.is_half), self.names_beside)
+        return self.kept[key]
+
+    def cut(self, boths: tuple[Both, ...], heard: Heard) -> Iterable[Stretch]:
+        """What connections tells of, in parts in each of which the same entries decide."""
+        before, after = [it.before for it in boths], [it.after for it in boths]
+        for protocol, low, high, segments in joined([self.halves.beside_names(*it) for it in (*before, *after)]):
+            said = heard.at(protocol, low, high)
+            if said is not None:
+                words = [each[it[2] == INGRESS] for each in (said.before, said.after) for it in before]
+                known = [self.halves.told(*it) for it in zip(segments, words)]
+                halves = tuple(zip(before, after, known, known[len(before) :]))
+                yield Stretch(protocol, low, high, halves, (word_of(known[: len(before)]), word_of(known[len(before) :])), ())
+
+    def hold(self, changes: Changes, found: Iterable[Changed]) -> None:
+        """Complains where a `connections` that doesn't tell of halves says that other connections change."""
+        told = (it for it in found if not any(isinstance(end, Outside) and end.kind == "name" for end in it[:2]))
+        known = ((source, target, it) for source, target, listed in told for it in listed if it.changes)
+        try:
+            hold(changes, ((source, target, it.protocol, it.low, it.high, it.is_allowed) for source, target, it in known))
+        except Untold as why:
+            self.opened.lacks("what opens and shuts is by policyd alone", why)
 
     def hold_unforeseen(self) -> None:
         """Of a policy that comes or goes and that is refused for an unforeseen reason, nothing can be said."""
@@ -153,7 +121,7 @@ class Diff:
 
     def candidates(self) -> list[tuple[End, End]]:
         """Pairs of a source and a target of which a half may change."""
-        groups = self.groups = self.halves.merged(it for it in self.universe.groups if it.before is not None and it.after is not None)
+        groups = self.groups
         relabelled = [it for it in groups if it.before != it.after]
         found: dict[tuple[End, End], None] = {}
         for direction in DIRECTIONS:
@@ -166,7 +134,14 @@ class Diff:
                         found[pair] = None
         return list(found)
 
-    # What changes.
+    # What policyd says.
+
+    def judged(self, candidates: Mapping[tuple[End, End], tuple[Both, ...]]) -> list[Changed]:
+        """The connections of these that change, or of which a half does."""
+        self.halves.ask(wanted_of(it for boths in candidates.values() for it in boths if it.may_change), "asking about what may change")
+        moving = {pair: boths for pair, boths in candidates.items() if any(it.may_change and self.boths.moves(it) for it in boths)}
+        self.halves.ask(wanted_of(it for boths in moving.values() for it in boths), "asking about other halves")
+        return [(*pair, self.changed(boths)) for pair, boths in moving.items()]
 
     def changed(self, boths: tuple[Both, ...]) -> list[Stretch]:
         """The stretches in which a connection changes, made once for all that are told alike."""

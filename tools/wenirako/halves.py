@@ -135,14 +135,29 @@ class Halves:
         question = lambda protocol, low: Question(phase, at, half.direction, remote, protocol, low)
         return {protocol: [(low, high, question(protocol, low)) for low, high in cuts.items()] for protocol, (cuts, _) in self.stretches(half).items()}
 
-    def passing(self, phase: int, at: int, direction: str, side: Side) -> Profile:
-        """A half as it is where all of it is allowed: each stretch, with the question that asks for its reasons."""
+    def unasked(self, phase: int, at: int, direction: str, side: Side, word: str = "") -> Profile:
+        """A half that wasn't asked about: each stretch, with this word and the question that asks for its reasons."""
         half, remote = self.half(phase, at, direction), self.remote(side)
-        key = ("passing", half, self.alike(half, side))
+        key = ("unasked", half, self.alike(half, side), word)
         if key not in self.kept and remote is not None:
-            phase, at = self.stand_ins.setdefault(half, (phase, at))
-            each = {protocol: [Segment(low, high, ALLOWED, it) for low, high, it in listed] for protocol, listed in self.questions(half, phase, at, remote).items()}
+            stand_in = self.stand_ins.setdefault(half, (phase, at))
+            each = {protocol: [Segment(low, high, word, it) for low, high, it in listed] for protocol, listed in self.questions(half, *stand_in, remote).items()}
             self.kept[key] = {like: each[protocol] for protocol, (_, alike) in self.stretches(half).items() for like in alike}
+        return self.kept[key]
+
+    def beside_names(self, phase: int, at: int, direction: str, side: Side) -> Profile:
+        """A half that wasn't asked about; of the world with a cut wherever an entry that opens unknown addresses begins or ends."""
+        entries = self.beside.names(phase, at, direction) if isinstance(side, Outside) and side.is_world else []
+        found = self.unasked(phase, at, direction, side)
+        return parted(found, entries) if entries else found
+
+    def told(self, segment: Segment, word: str) -> Segment:
+        """A segment of which the word is told by connections; made once."""
+        if self.words.setdefault(segment.question, word) != word:
+            raise NoAnswer(f"connections says {word} of {segment.question}, and {self.words[segment.question]} was said of it")
+        key = ("told", segment)
+        if key not in self.kept:
+            self.kept[key] = segment._replace(word=word)
         return self.kept[key]
 
     def key(self, phase: int, at: int, direction: str, side: Side) -> tuple:

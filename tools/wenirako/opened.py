@@ -20,7 +20,7 @@ from .ends import ENTITIES, End, Group, Outside
 from .halves import Halves
 from .programs import Program
 from .progress import Progress
-from .statuses import BAD, NOTHING, TELLS
+from .statuses import BAD, BAD_WORDS, NOTHING, TELLS
 
 # It is asked where the connections in question are no fewer than one of so many that it goes through.
 SHARE = 4
@@ -36,6 +36,10 @@ Open = Mapping[str, Ranges]
 
 class Untold(Exception):
     """Why `connections` can't tell what policyd may."""
+
+
+class NoWord(Exception):
+    """A `connections` of another commit doesn't know a word that it is asked with."""
 
 
 class Opened:
@@ -81,17 +85,17 @@ class Opened:
 
     def said(self, ends: Sequence[int], phase: int, asked: Collection[tuple[Key, Key]]) -> Mapping[tuple[Key, Key], Open]:
         """What is open of connections between sets of labels, and between them and what is no pod."""
-        return by_pairs(self.answers([self.script({name_of(at): at for at in ends}, phase)], "asking what is open"), asked)
+        return by_pairs(map(json.loads, self.answers([self.script({name_of(at): at for at in ends}, phase)], "asking what is open")), asked)
 
     def script(self, sets: Mapping[str, int], phase: int) -> list[str]:
         """The policies of a state, and sets of labels by names."""
         labels = lambda at: self.halves.universe.sets[at].labels
         return [*(line_of("", {"op": "identity", "name": name, "labels": labels(at)}) for name, at in sets.items()), *(it.line for it in self.halves.policies[phase])]
 
-    def answers(self, scripts: Sequence[Sequence[str]], what: str) -> Iterable[dict]:
-        """What is written of a script, or of two, read line by line, but for what is refused, which has to be as was foreseen."""
+    def answers(self, scripts: Sequence[Sequence[str]], what: str, words: Sequence[str] = ()) -> Iterable[str]:
+        """The lines that are written of a script, or of two, but for what is refused, which has to be as was foreseen."""
         self.progress.begin(what, 1)
-        first, others = parted(map(json.loads, self.play([*scripts[0], *(line for it in scripts[1:] for line in (DIVIDER, *it))])))
+        first, others = parted(self.play([*scripts[0], *(line for it in scripts[1:] for line in (DIVIDER, *it))], words))
         self.progress.end()
         refused = {scripts[it.get("side") == AFTER][it["line"] - 1]: it["answer"].split(" ", 1)[1] for it in first}
         policies = {*self.halves.documents} & {line for it in scripts for line in it}
@@ -101,12 +105,14 @@ class Opened:
             raise Misjudged(refused)
         return others
 
-    def play(self, lines: Sequence[str]) -> Iterator[str]:
-        """What the program writes of a script, line by line."""
+    def play(self, lines: Sequence[str], words: Sequence[str] = ()) -> Iterator[str]:
+        """What the program writes of a script with these words, line by line."""
         program = self.program()
         assert program is not None
         with tempfile.TemporaryFile() as written:
-            done = children.run(program.command, "".join(f"{it}\n" for it in lines).encode(), tick=self.progress.tick, stdout=written)
+            done = children.run([*program.command, *words], "".join(f"{it}\n" for it in lines).encode(), tick=self.progress.tick, stdout=written)
+            if done.status == BAD_WORDS and words:
+                raise NoWord(done.said("connections"))
             if done.status not in (NOTHING, BAD, TELLS):
                 raise (Untold if done.status in (MEMORY, TOO_LONG) else NoAnswer)(done.said("connections"))
             written.seek(0)
@@ -146,13 +152,14 @@ def name_of(at: Optional[int]) -> str:
     return f"i{at}"
 
 
-def parted(listed: Iterable[dict]) -> tuple[list[dict], Iterable[dict]]:
-    """Lines of what is refused, which stand first, and the others."""
+def parted(listed: Iterable[str]) -> tuple[list[dict], Iterable[str]]:
+    """Lines of what is refused, which stand first, read, and the others."""
     refused: list[dict] = []
     others = iter(listed)
-    for it in others:
+    for line in others:
+        it = json.loads(line)
         if "answer" not in it:
-            return refused, itertools.chain([it], others)
+            return refused, itertools.chain([line], others)
         refused.append(it)
     return refused, others
 
