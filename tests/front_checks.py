@@ -758,6 +758,16 @@ def one_formatter_lays_them_out(_, wrong):
     told(wrong, "whether black would change something: `black tools recipes`", done.returncode, 0)
 
 
+def their_types_fit(_, wrong):
+    """`mypy` finds nothing, where one that knows Python 3.9 is there."""
+    if shutil.which("mypy") is None or not subprocess.run(["mypy", "--version"], stdout=subprocess.PIPE, text=True).stdout.startswith("mypy 1.0"):
+        print("left out, since no mypy 1.0 is there: the types of tools and recipes")
+        return
+    with tempfile.TemporaryDirectory() as kept:
+        done = subprocess.run(["mypy", "--cache-dir", kept], cwd=TOP, stdout=subprocess.PIPE, text=True)
+    told(wrong, "what mypy finds: `mypy` at the top", done.stdout.splitlines()[-1:] if done.returncode else [], [])
+
+
 def random_changes_are_told(_, wrong):
     for seed in (3, 7):
         wrong += front_random.play(seed)[0]
@@ -780,7 +790,7 @@ def checks():
     found = (a_change_is_told, forms_agree, what_is_open, connections_are_asked, connections_are_asked_of_much, connections_cannot_tell, a_change_is_held, prefixes_are_asked_once, why_is_told, expectations_are_held, flows_are_replayed)
     found += (two_states_are_compared, slips_are_asked_of_the_bridge, workloads_and_namespaces, names_are_ends, worlds_are_told_apart, names_of_each_family, pods_of_both_families_are_ends, live_pods_have_their_addresses, words_agree, bash_completes, kubectl_is_asked)
     found += (children_end_too, children_that_start_end_too, signals_are_not_lost, other_programs_are_not_asked, progress_lives, ports_are_read, unions_and_flat_ranges)
-    found += (forms_are_safe, prefixes_lie_in_each_other, flows_are_read, modules_are_small, one_formatter_lays_them_out, random_changes_are_told)
+    found += (forms_are_safe, prefixes_lie_in_each_other, flows_are_read, modules_are_small, one_formatter_lays_them_out, their_types_fit, random_changes_are_told)
     asking = (a_change_is_told, forms_agree, what_is_open, expectations_are_held, two_states_are_compared, workloads_and_namespaces, names_are_ends, worlds_are_told_apart, names_of_each_family)
     yield from ((f"front door {it.__name__.replace('_', ' ')}", lambda it=it: run(it)) for it in found)
     yield from ((f"front door {it.__name__.replace('_', ' ')}, over connections", lambda it=it: over_connections(it)) for it in asking)

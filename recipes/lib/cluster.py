@@ -56,11 +56,21 @@ class Cluster:
         return found
 
     def begin(self, choice: Filter, cluster: str, given: list, relabelled: typing.Sequence = ()) -> None:
-        self.namespaces, self.pods, self.policies, self.templates = {}, {}, [], []
+        self.namespaces: typing.Dict[str, typing.Dict[str, str]] = {}
+        self.pods: typing.Dict[str, Pod] = {}
+        self.policies: typing.List[typing.Union[Policy, network.NetworkPolicy]] = []
+        self.templates: typing.List[Pod] = []
         # What addresses are: the name of a Service by its own ones and by those outside the cluster, the node's name.
-        self.services, self.balancers, self.nodes = {}, {}, {}
-        self.listed_services, self.behind, self.groups, self.deciding = {}, {}, {}, []
-        self.left_out, self.unread, self.kinds = {}, {}, {}
+        self.services: typing.Dict[str, str] = {}
+        self.balancers: typing.Dict[str, str] = {}
+        self.nodes: typing.Dict[str, str] = {}
+        self.listed_services: typing.Dict[str, services.Service] = {}
+        self.behind: typing.Dict[str, typing.List[str]] = {}
+        self.groups: typing.Dict[str, typing.Tuple[dict, typing.List[str]]] = {}
+        self.deciding: typing.List[deciding.Deciding] = []
+        self.left_out: typing.Dict[str, typing.List[str]] = {}
+        self.unread: typing.Dict[typing.Tuple[str, str], int] = {}
+        self.kinds: typing.Dict[str, int] = {}
         self.cluster, self.choice, self.given = cluster, choice, given
         self.has_services = False
         for place, value in given:
@@ -81,7 +91,9 @@ class Cluster:
 
     def settle_pods(self) -> None:
         """The pods that are endpoints, and those that come."""
-        self.live, by_address, coming = [], {}, []
+        self.live: typing.List[Pod] = []
+        by_address: typing.Dict[str, typing.List[Pod]] = {}
+        coming: typing.List[Pod] = []
         for pod in self.pods.values():
             reason = pod.reason()
             if reason:

@@ -9,6 +9,7 @@ from __future__ import annotations
 
 import argparse
 import re
+import typing
 
 from .reading import Bad
 from .words import Once, cluster_name
@@ -67,7 +68,8 @@ class Filter:
         self.is_off = is_off
         more = [Pattern(it) for it in listed.split()]
         self.patterns = [*(Pattern(it) for it in DEFAULT), *more]
-        self.is_closed, self.known = any(not it.is_out for it in more), {}
+        self.is_closed = any(not it.is_out for it in more)
+        self.known: typing.Dict[typing.Tuple[str, str], bool] = {}
 
     def counts(self, key: str, source: str = "k8s") -> bool:
         if (source, key) not in self.known:

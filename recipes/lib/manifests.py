@@ -25,13 +25,16 @@ READ = {
     (network.API, network.KIND),
 }
 Objects = typing.List[typing.Tuple[str, dict]]
+# A policy's kind, namespace and name.
+Key = typing.Tuple[str, str, str]
 
 
-def key_of(value: dict) -> tuple:
+def key_of(value: dict) -> Key:
     """An object's kind, namespace and name."""
-    metadata = value.get("metadata") if isinstance(value.get("metadata"), dict) else {}
+    told = value.get("metadata")
+    metadata: dict = told if isinstance(told, dict) else {}
     namespace = "" if value["kind"] in WITHOUT_NAMESPACE else str(metadata.get("namespace") or "default")
-    return value["kind"], namespace, metadata.get("name")
+    return value["kind"], namespace, metadata.get("name", "")
 
 
 def named(key: tuple) -> str:
@@ -42,7 +45,7 @@ class Manifests:
     """The objects of files, by their keys, and the kinds that were skipped."""
 
     def __init__(self, names: typing.Iterable[str]):
-        self.objects: typing.Dict[tuple, typing.Tuple[str, dict]] = {}
+        self.objects: typing.Dict[Key, typing.Tuple[str, dict]] = {}
         self.skipped: typing.Dict[tuple, int] = {}
         for name in names:
             count = len(self.objects)
@@ -66,15 +69,16 @@ class Manifests:
             yield f"skipped: {count} {kind} ({api})"
 
 
-def removed(before: State, texts: typing.Iterable[str]) -> typing.List[tuple]:
+def removed(before: State, texts: typing.Iterable[str]) -> typing.List[Key]:
     """The keys of the policies that texts such as `cnp/pay/web` name."""
-    found: typing.List[tuple] = []
+    found: typing.List[Key] = []
     for text in texts:
-        kind, *names = text.split("/")
-        kind = {**SHORT, **{it.lower(): it for it in KINDS}}.get(kind.lower())
-        key = (kind, *(["", *names] if kind == CLUSTER_WIDE else names))
-        if kind is None or len(key) != 3:
+        word, *names = text.split("/")
+        kind = {**SHORT, **{it.lower(): it for it in KINDS}}.get(word.lower())
+        names = ["", *names] if kind == CLUSTER_WIDE else names
+        if kind is None or len(names) != 2:
             raise Bad(f"--remove {text}: it is {NAMESPACED}/NAMESPACE/NAME, {CLUSTER_WIDE}/NAME or {network.KIND}/NAMESPACE/NAME; cnp, ccnp and netpol do for the kinds")
+        key = kind, names[0], names[1]
         if key not in before.policies:
             listed = sorted(named(it) for it in before.policies if it[0] == kind)
             raise Bad(f"--remove {text}: the state has no such policy; of its kind it has {', '.join(listed) or 'none'}")

@@ -117,7 +117,7 @@ def is_read(asked: Asked) -> bool:
 
 def requirements(selector: dict, namespace: str) -> typing.List[Asked]:
     """What a subject asks of labels: source, key, operator and values. A namespaced one is bound to its namespace."""
-    asked = [(*source_and_key(key), "In", [value]) for key, value in (selector.get("matchLabels") or {}).items()]
+    asked: typing.List[Asked] = [(*source_and_key(key), "In", [value]) for key, value in (selector.get("matchLabels") or {}).items()]
     for it in selector.get("matchExpressions") or []:
         asked.append((*source_and_key(it["key"]), it["operator"], it.get("values") or []))
     if namespace and not any(it[:2] == ("reserved", "init") for it in asked):

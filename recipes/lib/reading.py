@@ -47,7 +47,7 @@ def no_constant(name: str) -> typing.NoReturn:
     raise ValueError(f"{name} is no number")
 
 
-def documents(text: str, whole: str = "standard input", part: str = "document", warned: typing.Optional[typing.List[str]] = None) -> typing.Iterator[typing.Tuple[str, object]]:
+def documents(text: str, whole: str = "standard input", part: str = "document", warned: typing.Optional[typing.List[str]] = None) -> typing.Iterator[typing.Tuple[str, typing.Any]]:
     """The JSON values that stand one after another in the text, each with its place; kubectl's warnings go to a list."""
     warned = [] if warned is None else warned
     at, number = past_lines_of_kubectl(text, 0, warned, whole), 0
@@ -61,7 +61,8 @@ def documents(text: str, whole: str = "standard input", part: str = "document", 
 def past_lines_of_kubectl(text: str, at: int, warned: typing.List[str], whole: str) -> int:
     """Where the text goes on behind blanks and kubectl's warnings; Bad where kubectl says there that it failed."""
     while True:
-        at = BLANKS.match(text, at).end()
+        blank = BLANKS.match(text, at)
+        at = blank.end() if blank else at
         warns, fails = WARNS.match(text, at), FAILS.match(text, at)
         if fails:
             raise Bad(f"{whole} has what kubectl said where it failed, so it isn't all that was asked for: {fails[0]}")
@@ -82,8 +83,8 @@ def of_json(text: str, at: int, part: str, warned: typing.List[str], whole: str)
         try:
             value, at = decoder.raw_decode(text, at)
         except ValueError as error:
-            at = f", at line {error.lineno}, column {error.colno} of the input" if isinstance(error, json.JSONDecodeError) else ""
-            raise Bad(f"{part} {number}: no JSON: {getattr(error, 'msg', error)}{at}")
+            where = f", at line {error.lineno}, column {error.colno} of the input" if isinstance(error, json.JSONDecodeError) else ""
+            raise Bad(f"{part} {number}: no JSON: {getattr(error, 'msg', error)}{where}")
         except RecursionError:
             raise Bad(f"{part} {number}: it is nested too deeply")
         yield value
@@ -105,7 +106,7 @@ def loader(yaml: typing.Any) -> type:
     """PyYAML's safe loader with the texts that kubectl reads as texts: dates, `yes` and `no`, and numbers like 1:30."""
 
     class Loader(yaml.SafeLoader):
-        yaml_implicit_resolvers = {}
+        yaml_implicit_resolvers: typing.Dict[str, list] = {}
 
     plain = "tag:yaml.org,2002:"
     for name, form, firsts in (

@@ -15,7 +15,7 @@ BYTES_MOST, LINES_MOST = 67_108_864, 1_000_000
 
 def chosen(cluster: Cluster, node: typing.Optional[str]) -> typing.List[Pod]:
     """The pods that are endpoints."""
-    nodes = {}
+    nodes: typing.Dict[str, int] = {}
     for pod in cluster.live:
         nodes[pod.node] = nodes.get(pod.node, 0) + 1
     told = ", ".join(f"{name or 'none'} ({count})" for name, count in sorted(nodes.items()))
@@ -29,7 +29,7 @@ def chosen(cluster: Cluster, node: typing.Optional[str]) -> typing.List[Pod]:
 
 def numbers_of(cluster: Cluster, pods: typing.Sequence[Pod]) -> typing.Dict[tuple, int]:
     """The numbers that policyd gives the label sets: the least free one, in the order of the lines."""
-    numbers = {}
+    numbers: typing.Dict[tuple, int] = {}
     for pod in [*pods, *cluster.live]:
         numbers.setdefault(pod.labels, IDENTITIES_FROM + len(numbers))
     return numbers

@@ -18,7 +18,7 @@ class State:
     `names` has further names of ports that pods are told apart by, as another state's policies ask about them.
     """
 
-    def __init__(self, cluster: Cluster, names: typing.Iterable[str] = (), known: typing.Optional[typing.Mapping[tuple, rewriting.Rewritten]] = None):
+    def __init__(self, cluster: Cluster, names: typing.Iterable[str] = (), known: typing.Optional[typing.Mapping[typing.Tuple[str, str, str], rewriting.Rewritten]] = None):
         """`known` has policies as they were rewritten, where all that they are judged in is the same."""
         self.cluster, self.known = cluster, known or {}
         # The policies as they are written, by their keys.
@@ -91,8 +91,16 @@ class State:
 
 def of_deciding(found: Deciding) -> Unsure:
     """An object that decides beside policies, as what isn't read of one."""
-    how = {"directions": found.directions(), "isolates": not found.overrides, "overrides": found.overrides, "selector": found.selects, "said": repr(found.spec)}
-    return Unsure(found.name, "it decides beside policies", "", **how)
+    return Unsure(
+        found.name,
+        "it decides beside policies",
+        "",
+        directions=found.directions(),
+        isolates=not found.overrides,
+        overrides=found.overrides,
+        selector=found.selects,
+        said=repr(found.spec),
+    )
 
 
 def read(text: str, choice: Filter, cluster: str = "default", whole: str = "standard input", part: str = "document") -> State:

@@ -9,7 +9,7 @@ from __future__ import annotations
 import re
 import typing
 
-from .addresses import lies_in, prefix
+from .addresses import known, lies_in, prefix
 
 ANY, TEXT, NAME, NUMBER, BOOL = "any", "text", "name", "number", "bool"
 # The name of a shape of the table, of a text or a number, or a list of one: its items are of that.
@@ -141,12 +141,12 @@ def leaf(value: object, shape: str, path: str) -> None:
     elif shape == BOOL:
         fits = isinstance(value, bool)
     else:
-        fits = isinstance(value, str) and (shape != NAME or re.fullmatch(r"[a-z0-9.-]{1,253}", value))
+        fits = isinstance(value, str) and (shape != NAME or re.fullmatch(r"[a-z0-9.-]{1,253}", value) is not None)
     if not fits:
         raise Unread("wrong-shape", path)
-    if shape == "port text" and re.search("[A-Za-z]", value):
+    if shape == "port text" and re.search("[A-Za-z]", str(value)):
         raise Unread("named-port", path)
-    if shape == "protocol" and value.upper() in ("ICMP", "ICMPV6"):
+    if shape == "protocol" and str(value).upper() in ("ICMP", "ICMPV6"):
         raise Unread("icmp", path)
 
 
@@ -190,7 +190,7 @@ def judge_entry(entry: dict, path: str) -> None:
     texts = [*listed, *(text for it in sets for text in [it["cidr"], *(it.get("except") or [])])]
     if any(prefix(it) is None for it in texts):
         raise Unread("bad-cidr", path)
-    if not all(lies_in(prefix(text), prefix(it["cidr"])) for it in sets for text in it.get("except") or []):
+    if not all(lies_in(known(text), known(it["cidr"])) for it in sets for text in it.get("except") or []):
         raise Unread("except-outside", path)
     if any(it not in ENTITIES for it in peers(entry, "Entities")):
         raise Unread("unknown-entity", path)
@@ -251,7 +251,7 @@ def judge_network_entry(listed: typing.Sequence[dict], ports: typing.Sequence[di
 def judge_blocks(blocks: typing.Sequence[dict], path: str) -> None:
     if any(prefix(text) is None for it in blocks for text in [it["cidr"], *(it.get("except") or [])]):
         raise Unread("bad-cidr", path)
-    if not all(lies_in(prefix(text), prefix(it["cidr"])) for it in blocks for text in it.get("except") or []):
+    if not all(lies_in(known(text), known(it["cidr"])) for it in blocks for text in it.get("except") or []):
         raise Unread("except-outside", path)
 
 

@@ -38,7 +38,7 @@ def slips(state: State, only: typing.Optional[typing.Collection[tuple]] = None) 
     return found
 
 
-def of_policy(ground: Ground, policy: Policy) -> typing.List[tuple]:
+def of_policy(ground: Ground, policy: Policy) -> typing.List[typing.Tuple[str, str, str]]:
     """The slips of one policy, as triples of kind, place and text."""
     whole = list(subjects.of_policy(ground, policy))
     if any(kind == "policy-without-effect" for kind, _, _ in whole):

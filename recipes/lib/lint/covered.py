@@ -103,7 +103,7 @@ def covers(ground: Ground) -> typing.List[Cover]:
 def of_part(ground: Ground, whole: Rewritten, part: Policy, marked: typing.Container[str], order: int) -> typing.Iterator[tuple]:
     front = "" if part.namespace else "/"
     for number, rule in enumerate(rules_of(ground, part)):
-        subject = ground.matching(requirements(rule["endpointSelector"], part.namespace))
+        subject = ground.matching(tuple(requirements(rule["endpointSelector"], part.namespace)))
         for section in SECTIONS:
             for at, entry in enumerate(rule.get(section) or []):
                 answer = f"{front}{part.name}#{number}.{section}[{at}]"
@@ -128,7 +128,7 @@ def cover_of(ground: Ground, part: Policy, place: str, order: int, whole: Rewrit
     is_nothing = not peers and not value.get("toPorts")
     if "cluster" in entities:
         sets, entities = frozenset(range(len(ground.sets))), [*entities, *(it for it in ENTITIES if it not in ("all", "cluster", WORLD, *FAMILIES.values()))]
-    prefixes = [(prefix(it), ()) for it in value.get(f"{word}CIDR") or []]
+    prefixes: typing.List[tuple] = [(prefix(it), ()) for it in value.get(f"{word}CIDR") or []]
     prefixes += [(prefix(it["cidr"]), tuple(map(prefix, it.get("except") or []))) for it in value.get(f"{word}CIDRSet") or []]
     ranges = ports.ranges(value) if value.get("toPorts") else {it: [(0, ports.LAST)] for it in ports.PROTOCOLS}
     is_every = "all" in entities or not peers and not is_nothing

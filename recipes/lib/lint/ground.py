@@ -9,6 +9,7 @@ import typing
 from ..addresses import NETWORKS
 from ..label_index import LabelIndex
 from ..pods import CLUSTER_KEY, CORE_CLUSTER, NAMESPACE_KEY, OWN_PREFIX
+from ..policies import Asked as One
 from ..policies import requirements
 from ..rewriting import clusters, network, rules
 from ..rewriting.results import Rewritten
@@ -22,7 +23,7 @@ if typing.TYPE_CHECKING:
     from ..policies import Policy
     from ..state import State
 
-Asked = typing.Tuple[tuple, ...]
+Asked = typing.Tuple[One, ...]
 
 
 @dataclasses.dataclass(frozen=True)
@@ -48,7 +49,8 @@ class Ground:
 
     def __init__(self, state: State):
         self.state, self.cluster = state, state.cluster
-        self.work = Work(None, state, Rewritten(None))
+        # (selectors are rewritten for no policy)
+        self.work = Work(None, state, Rewritten(None))  # type: ignore[arg-type]
         self.pods = [it for it in state.ends if it.stands_for != ANY_OTHER]
         by_labels: typing.Dict[tuple, list] = {}
         for it in state.ends:
@@ -59,7 +61,7 @@ class Ground:
         # What entries cover, worked out where it is asked.
         self.covers: typing.Optional[list] = None
 
-    def matching(self, asked: typing.Iterable[tuple]) -> typing.FrozenSet[int]:
+    def matching(self, asked: Asked) -> typing.FrozenSet[int]:
         """The numbers of the sets of labels of which all that is asked is so."""
         return self.index.matching(asked)
 

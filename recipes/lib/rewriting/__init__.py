@@ -56,8 +56,11 @@ def assembled(work: Work, made: typing.List[Rule], name: str) -> Policy:
     if name == policy.key[2] and documents == policy.rules() and not {*policy.document} - {*SHAPES["policy"]}:
         note_places(work, made, policy.name)
         return policy
-    document = {it: value for it, value in policy.document.items() if it in ("apiVersion", "kind", "metadata")}
-    document.update({"spec": documents[0]} if len(documents) == 1 else {"specs": documents})
+    document: typing.Dict[str, typing.Any] = {it: value for it, value in policy.document.items() if it in ("apiVersion", "kind", "metadata")}
+    if len(documents) == 1:
+        document["spec"] = documents[0]
+    else:
+        document["specs"] = documents
     if name != policy.key[2]:
         document.update({"apiVersion": "cilium.io/v2", "kind": NAMESPACED})
         document["metadata"] = {"name": name, "namespace": policy.namespace}

@@ -36,11 +36,12 @@ def prefixes(work: Work, item: dict) -> typing.List[dict]:
 
 def with_exceptions(text: str, rest: dict) -> typing.Iterator[dict]:
     """A prefix of a group with those of the exceptions that lie in it, or nothing where one of them has all of it."""
-    whole, listed = read(text), rest.get("except") or []
-    if whole is None or any(read(it) is None for it in listed):
+    whole, listed = read(text), [(it, read(it)) for it in rest.get("except") or []]
+    outer = [(it, found) for it, found in listed if found is not None]
+    if whole is None or len(outer) < len(listed):
         yield {**rest, "cidr": text}
-    elif not any(lies_in(whole, read(it)) for it in listed):
-        inside = [it for it in listed if lies_in(read(it), whole)]
+    elif not any(lies_in(whole, found) for _, found in outer):
+        inside = [it for it, found in outer if lies_in(found, whole)]
         yield {**{key: it for key, it in rest.items() if key != "except"}, "cidr": text, **({"except": inside} if inside else {})}
 
 

@@ -41,7 +41,7 @@ def written(work: Work, member: str, at: int, item: dict) -> str:
     if not isinstance(item, dict):
         raise Refused(f"wrong-shape at {path}")
     if member != "toFQDNs":
-        inner = next((it for it in item.values() if isinstance(it, dict)), {})
+        inner: dict = next((it for it in item.values() if isinstance(it, dict)), {})
         texts = [str(one) for it in inner.values() for one in (it if isinstance(it, list) else [it])]
         return f"group {', '.join(texts)}"
     text = item.get("matchName") or item.get("matchPattern")

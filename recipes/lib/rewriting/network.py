@@ -81,14 +81,14 @@ def entries(work: Work, entry: dict, word: str) -> typing.List[dict]:
         entry = {**entry, word: [{**it, "ipBlock": endings.block_of(it["ipBlock"])} if isinstance(it, dict) and "ipBlock" in it else it for it in entry[word]]}
     try:
         check(entry, word, work.path)
-    except Unread as found:
-        if refused_by_cilium(found.what):
-            raise Refused(f"{found.what} at {found.path}")
-        work.entry_is_unsure(entry, found.what, found.path)
+    except Unread as unread:
+        if refused_by_cilium(unread.what):
+            raise Refused(f"{unread.what} at {unread.path}")
+        work.entry_is_unsure(entry, unread.what, unread.path)
         return [{}]
     peers, ports = entry.get(word) or [], [port_of(it) for it in entry.get("ports") or []]
     items = [{"ports": ports[at : at + PORTS_MOST]} for at in range(0, len(ports), PORTS_MOST)]
-    rest = {"toPorts": items} if items else {}
+    rest: typing.Dict[str, list] = {"toPorts": items} if items else {}
     if not peers:
         return [rest or {f"{word}Entities": ["all"]}]
     pods = [of_peer(work, it) for it in peers if it.get("ipBlock") is None]

@@ -16,8 +16,10 @@ KNOWN = {*SHAPES["rule"], "nodeSelector"}
 def written(work: Work) -> typing.List[typing.Tuple[int, dict]]:
     """The rules of a document with their numbers; Refused where the document is none that the API server keeps."""
     document = work.policy.document
-    listed = [] if document.get("spec") is None else [("spec", document["spec"])]
-    more = document.get("specs")
+    listed: typing.List[typing.Tuple[str, typing.Any]] = []
+    if document.get("spec") is not None:
+        listed.append(("spec", document["spec"]))
+    more: typing.Any = document.get("specs")
     if more is not None and not isinstance(more, list):
         raise Refused("wrong-shape at specs")
     listed += [(f"specs[{at}]", it) for at, it in enumerate(more or [])]

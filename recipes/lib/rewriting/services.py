@@ -6,7 +6,7 @@ from __future__ import annotations
 
 import typing
 
-from ..addresses import prefix, written
+from ..addresses import known, written
 from ..policies import NAMESPACE_KEY, holds, requirements
 from ..unread import Unread
 from .work import Entry, Work
@@ -27,11 +27,11 @@ def rewrite(work: Work, entry: Entry, word: str) -> typing.List[Entry]:
     found = [it for one in listed for it in meant(work, one)]
     pods = [of_pods(it) for it in found if it.selector]
     behind = work.state.cluster.behind
-    addresses = [written(prefix(one)) for it in found if not it.selector and not it.is_name for one in behind.get(it.name, [])]
+    addresses = [written(known(one)) for it in found if not it.selector and not it.is_name for one in behind.get(it.name, [])]
     for it in found:
         if not it.selector and not it.is_name and it.name not in behind:
             work.lacks(f"the Service {it.name} has no selector, and no EndpointSlice of it is in the state")
-    made = [{**value, "toEndpoints": pods}] if pods else []
+    made: typing.List[dict] = [{**value, "toEndpoints": pods}] if pods else []
     made += [{**value, "toCIDR": addresses}] if addresses else []
     return [entry.with_value(it) for it in made or [{}]]
 
