@@ -12,6 +12,7 @@ pub mod Joined
 pub mod Scan
 pub mod Reached
 pub mod StartLists
+pub mod StartPlaces
 pub mod Slots
 pub mod Sums
 pub mod Balance

@@ -7,7 +7,7 @@ use pol_addr::{Addr, Family};
 
 /// The bits of an address of one family. Contracts see the address (`seen`).
 pub(crate) trait Bits: Copy {
-    ghost use Rattle.std.specs.Prelude.{◌≡◌, ◌-◌, ◌*◌, ◌^◌, ◌≤◌, ◌<◌, nat_lt};
+    ghost use Rattle.std.specs.Prelude.{◌≡◌, ◌-◌, ◌*◌, ◌^◌, ◌≤◌, ◌<◌, ◌/◌, nat_lt};
     ghost use Rattle.pol_addr.specs.declared.family.Family.{Family};
     ghost use Rattle.pol_addr.specs.declared.address.Addr.{Addr};
     ghost use Rattle.pol_addr.specs.Families.{width};
@@ -33,8 +33,10 @@ pub(crate) trait Bits: Copy {
         ensures addr { result ≡ seen self }
         ensures family { family_of result ≡ family };
 
-    /// The first 32 bits. No clause speaks of them: they say where a look-up is sought among the starts.
-    fn high(self) -> u32;
+    /// The first 32 bits.
+    fn high(self) -> u32
+        ensures value { result ≡ bits_of (seen self) / 2 ^ (width family - 32) }
+        ensures family { family_of (seen self) ≡ family };
 
     /// The address of the family whose first `len` bits are `place`, with zeros behind them.
     fn beginning(place: u32, len: u8) -> Addr
@@ -78,6 +80,7 @@ impl Bits for u32 {
         self
     }
 
+    #[inline(always)]
     fn beginning(place: u32, len: u8) -> Addr {
         Addr::V4(place << (32 - len))
     }
@@ -118,6 +121,7 @@ impl Bits for u128 {
         (self >> 96) as u32
     }
 
+    #[inline(always)]
     fn beginning(place: u32, len: u8) -> Addr {
         Addr::V6(u128::from(place) << (128 - len))
     }

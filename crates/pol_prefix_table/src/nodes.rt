@@ -1,11 +1,12 @@
 //! Nodes by key.
-ghost use Rattle.std.specs.Prelude.{◌≡◌, ◌+◌, ◌<◌, ◌≤◌, ◌↔◌, ◌^◌, ◌/◌, [], length, max, Some, None, IsTrue, IfOk, OnOk};
+ghost use Rattle.std.specs.Prelude.{◌≡◌, ◌+◌, ◌<◌, ◌≤◌, ◌↔◌, ◌^◌, ◌/◌, [], length, max, Some, None, IsTrue, IfOk, OnOk, option_map};
 ghost use Rattle.pol_addr.specs.Address.{family_of};
 ghost use Rattle.slab.specs.Slab.{get, ContainsKey, HasRoomFor, Updates, slab_len};
 
 use crate::bits::Bits;
 use crate::node::PrefixNode;
 use crate::slot::NodeSlot;
+use pol_addr::Prefix;
 use std::alloc::{AllocError as Memory, Global};
 use std::marker::Model;
 
@@ -81,6 +82,32 @@ impl<B: Bits> Nodes<B> {
         ensures family { family_of result.prefix.addr ≡ B.family }
     {
         self.slots[key].node()
+    }
+
+    /// The key of a node has 32 bits.
+    #[inline(always)]
+    pub(crate) fn keys_are_small(&self, key: usize)
+        requires { ContainsKey self.now key }
+        ensures { key < 2 ^ 32 }
+    {
+        let _ = self.slots.len();
+    }
+
+    /// The prefix of the node under this key.
+    #[inline(always)]
+    pub(crate) fn prefix_at(&self, key: usize) -> Prefix
+        requires { ContainsKey self.now key }
+        ensures { option_map (λ n. n.prefix) (get self.now key) ≡ Some result }
+    {
+        self.slots[key].prefix()
+    }
+
+    /// The number of the node under this key.
+    pub(crate) fn number_at(&self, key: usize) -> Option<u32>
+        requires { ContainsKey self.now key }
+        ensures { option_map (λ n. n.number) (get self.now key) ≡ Some result }
+    {
+        self.slots[key].number()
     }
 
     /// Makes room for so many more nodes. Where it grows, it does so by a sixteenth: few slots are spare then, and to insert stays

@@ -1,5 +1,5 @@
 //! What a key has: a node, or nothing, in 20 bytes for IPv4 and 32 for IPv6.
-ghost use Rattle.std.specs.Prelude.{◌≡◌, ◌<◌, ◌^◌, None, IsSome, is_some};
+ghost use Rattle.std.specs.Prelude.{◌≡◌, ◌<◌, ◌^◌, None, Some, IsSome, is_some, option_map};
 ghost use Rattle.slab.specs.declared.Entry.TheVariants.{Vacant, Occupied};
 ghost use Rattle.pol_addr.specs.Address.{family_of};
 ghost use Rattle.pol_addr.specs.Cidr.{IsPrefix};
@@ -78,6 +78,34 @@ impl<B: Bits> NodeSlot<B> {
                 low,
                 high,
             },
+            NodeSlot::Free(_) => unreachable!(),
+        }
+    }
+
+    /// The prefix of the node that is here.
+    #[inline(always)]
+    pub(crate) fn prefix(&self) -> Prefix
+        requires there { IsSome (node_in B.seen self.now) }
+        requires valid { IsValid B.seen self.now }
+        ensures { option_map (λ n. n.prefix) (node_in B.seen self.now) ≡ Some result }
+    {
+        match *self {
+            NodeSlot::Taken { len, bits, .. } => Prefix::new(bits.addr(), len),
+            NodeSlot::Free(_) => unreachable!(),
+        }
+    }
+
+    /// The number of the node that is here. Not inlined before it is optimised, or the walk takes a branch that can't be foretold.
+    pub(crate) fn number(&self) -> Option<u32>
+        requires { IsSome (node_in B.seen self.now) }
+        ensures { option_map (λ n. n.number) (node_in B.seen self.now) ≡ Some result }
+    {
+        match *self {
+            NodeSlot::Taken {
+                numbered,
+                number,
+                ..
+            } => { if numbered { Some(number) } else { None } }
             NodeSlot::Free(_) => unreachable!(),
         }
     }

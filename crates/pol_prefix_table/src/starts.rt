@@ -1,5 +1,5 @@
 //! Where look-ups start: the longest node over each prefix of a few bits.
-ghost use Rattle.std.specs.Prelude.{◌≡◌, ◌≤◌, ◌<◌, ◌^◌, IfSome, IfNone, IfOk, false};
+ghost use Rattle.std.specs.Prelude.{◌≡◌, ◌≤◌, ◌<◌, ◌^◌, IfSome, IfNone, IfOk, false, true};
 ghost use Rattle.std.specs.List.Sorted.{IsNonDecreasingBy, IsPartitionPoint};
 ghost use Rattle.slab.specs.Slab.{get};
 ghost use Rattle.pol_addr.specs.Address.{bits_of, family_of};
@@ -9,25 +9,38 @@ ghost use Rattle.pol_prefix_table.specs.Starts.{HasReached, AreStarts, AreStarts
 
 use crate::bits::Bits;
 use crate::nodes::Nodes;
-use crate::start::Start;
+use crate::start::{Start, prefix_at};
 use crate::walk::{Reached, at_root, to_end};
-use pol_addr::Prefix;
+use pol_addr::{Family, Prefix};
 use std::alloc::{AllocError as Memory, Global};
 
 /// The most bits that a prefix with a start has.
-pub(crate) const START_BITS: u8 = 12;
+pub(crate) const START_BITS: u8 = 13;
+
+/// For how many first bits a large table has starts. The memory of IPv4 has a bound.
+fn most_bits(family: Family) -> u8
+    ensures some { 0 < result }
+    ensures few { result ≤ START_BITS }
+{
+    match family {
+        Family::Ipv4 => 12,
+        Family::Ipv6 => START_BITS,
+    }
+}
 
 /// For how many first bits a table of so many nodes has starts. It has none where the root is as near.
-fn bits_for(nodes: usize) -> Option<u8>
+fn bits_for(family: Family, nodes: usize) -> Option<u8>
     ensures some { IfSome result (λ bits. 0 < bits) }
     ensures few { IfSome result (λ bits. bits ≤ START_BITS) }
 {
     if nodes < 64 {
         None
-    } else if nodes < 65_536 {
+    } else if nodes < 1_024 {
         Some(8)
+    } else if nodes < 65_536 {
+        Some(10)
     } else {
-        Some(START_BITS)
+        Some(most_bits(family))
     }
 }
 
@@ -38,8 +51,33 @@ fn start_over<B: Bits>(nodes: &Nodes<B>, over: Prefix) -> Reached
     requires family { family_of over.addr ≡ B.family }
     ensures to { result.to ≡ over }
     ensures reached { HasReached nodes.now result }
+    ensures key { result.at < 2 ^ 32 }
 {
-    to_end(nodes, at_root(nodes, over))
+    let start = to_end(nodes, at_root(nodes, over));
+    nodes.keys_are_small(start.at);
+    start
+}
+
+/// A walk goes on to a prefix that its own covers.
+fn walk_on<B: Bits>(nodes: &Nodes<B>, from: &Reached, to: Prefix) -> Reached
+    requires trie { IsTrie B.family nodes.now }
+    requires reached { HasReached nodes.now from.now }
+    requires over { covers from.now.to to ≡ true }
+    ensures to { result.to ≡ to }
+    ensures reached { HasReached nodes.now result }
+    ensures key { result.at < 2 ^ 32 }
+{
+    let start = to_end(
+        nodes,
+        Reached {
+            to,
+            at: from.at,
+            number: from.number,
+            visits: from.visits,
+        },
+    );
+    nodes.keys_are_small(start.at);
+    start
 }
 
 /// Makes starts for more bits, where the table has outgrown those that it has.
@@ -48,24 +86,13 @@ pub(crate) fn grow<B: Bits>(nodes: &Nodes<B>, starts: &mut Vec<Start<B>>) -> Res
     requires starts { AreStarts B.family nodes.now starts.old.items }
     ensures { AreStarts B.family nodes.now starts.new.items }
 {
-    let Some(bits) = bits_for(nodes.len()) else {
+    let Some(bits) = bits_for(B::family(), nodes.len()) else {
         return Ok(());
     };
     if starts.len() >= 1 << bits || !nodes.contains(0) {
         return Ok(());
     }
     fill(nodes, starts, bits)
-}
-
-/// The prefix of this length that begins with the bits of a place.
-fn prefix_at<B: Bits>(place: u32, bits: u8) -> Prefix
-    requires some { 0 < bits }
-    requires few { bits ≤ START_BITS }
-    requires small { place < 2 ^ bits }
-    ensures value { result ≡ beginning B.family bits place }
-    ensures family { family_of result.addr ≡ B.family }
-{
-    Prefix::new(B::beginning(place, bits), bits)
 }
 
 /// Makes the starts of all prefixes of this length.
@@ -79,16 +106,17 @@ fn fill<B: Bits>(nodes: &Nodes<B>, starts: &mut Vec<Start<B>>, bits: u8) -> Resu
     starts.clear();
     for place in 0..1u32 << bits {
         let start = start_over(nodes, prefix_at::<B>(place, bits));
-        starts.push(Start::of(start))?;
+        starts.push(Start::of(place, bits, start))?;
     }
     Ok(())
 }
 
-/// Makes the start once more, where the prefix covers the start's. Whether it does.
+/// Makes the start once more, where the prefix to which a walk has led covers the start's. Whether it does.
 #[inline(always)]
-fn renew_one<B: Bits>(nodes: &Nodes<B>, over: &Prefix, start: &mut Start<B>) -> bool
+fn renew_one<B: Bits>(nodes: &Nodes<B>, over: &Prefix, from: &Reached, start: &mut Start<B>) -> bool
     requires trie { IsTrie B.family nodes.now }
-    requires rooted { HasRoot B.family (get nodes.now) }
+    requires from { HasReached nodes.now from.now }
+    requires from_over { from.now.to ≡ over.now }
     requires outside { covers over.now start.old.to ≡ false → HasReached nodes.now start.old }
     ensures covered { result ≡ covers over.now start.old.to }
     ensures to { start.new.to ≡ start.old.to }
@@ -98,7 +126,7 @@ fn renew_one<B: Bits>(nodes: &Nodes<B>, over: &Prefix, start: &mut Start<B>) -> 
     if !over.covers(&to) {
         return false;
     }
-    *start = Start::of(start_over(nodes, to));
+    *start = start.renewed(walk_on(nodes, from, to));
     true
 }
 
@@ -121,8 +149,9 @@ pub(crate) fn renew<B: Bits>(nodes: &Nodes<B>, starts: &mut Vec<Start<B>>, over:
     if over.len() > START_BITS {
         return;
     }
+    let from = start_over(nodes, *over);
     for i in starts_below(starts.as_slice(), B::of(over.network()))..starts.len() {
-        if !renew_one(nodes, over, &mut starts[i]) {
+        if !renew_one(nodes, over, &from, &mut starts[i]) {
             return;
         }
     }
@@ -134,25 +163,25 @@ fn place_of(high: u32, starts: usize) -> usize {
     ((starts as u64).wrapping_mul(u64::from(high)) >> 32) as usize
 }
 
-/// Where a walk may begin: at a start whose prefix covers its own, or else at the root.
+/// Where a walk to an address may begin: at a start whose prefix contains it, or else at the root.
 #[inline(always)]
-fn from_start<B: Bits>(nodes: &Nodes<B>, start: Reached, to: Prefix) -> Reached
+fn from_start<B: Bits>(nodes: &Nodes<B>, start: &Start<B>, bits: B) -> Reached
     requires trie { IsTrie B.family nodes.now }
     requires rooted { HasRoot B.family (get nodes.now) }
-    requires family { family_of to.addr ≡ B.family }
-    requires start { HasReached nodes.now start }
-    ensures to { result.to ≡ to }
+    requires start { HasReached nodes.now start.now }
+    ensures to { result.to ≡ host_prefix (B.seen bits) }
     ensures reached { HasReached nodes.now result }
 {
-    if start.to.covers(&to) {
-        Reached {
-            to,
-            at: start.at,
-            number: start.number,
-            visits: start.visits,
-        }
-    } else {
-        at_root(nodes, to)
+    let to = Prefix::host(bits.addr());
+    if !start.contains(bits) {
+        return at_root(nodes, to);
+    }
+    let walk = start.reached();
+    Reached {
+        to,
+        at: walk.at,
+        number: walk.number,
+        visits: walk.visits,
     }
 }
 
@@ -165,10 +194,9 @@ fn start_of<B: Bits>(nodes: &Nodes<B>, starts: &[Start<B>], bits: B) -> Reached
     ensures to { result.to ≡ host_prefix (B.seen bits) }
     ensures reached { HasReached nodes.now result }
 {
-    let to = Prefix::host(bits.addr());
     match starts.get(place_of(bits.high(), starts.len())) {
-        Some(start) => from_start(nodes, start.reached(), to),
-        None => at_root(nodes, to),
+        Some(start) => from_start(nodes, start, bits),
+        None => at_root(nodes, Prefix::host(bits.addr())),
     }
 }
 
@@ -192,7 +220,7 @@ pub(crate) fn copied<B: Bits>(alloc: Global, starts: &[Start<B>]) -> Result<Vec<
 {
     let mut copy = Vec::new(alloc);
     for start in starts {
-        copy.push(Start::of(start.reached()))?;
+        copy.push(start.renewed(start.reached()))?;
     }
     Ok(copy)
 }

@@ -64,6 +64,7 @@ impl PrefixTable {
     }
 
     /// The number of the longest prefix that contains the address: None exactly where none does. It takes no memory.
+    #[inline(always)]
     pub fn find(&self, addr: Addr) -> Option<u32>
         ensures scan { result ≡ look_up self.now addr }
         ensures found { IfSome result (IsLongestMatch self.now addr) }

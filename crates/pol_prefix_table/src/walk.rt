@@ -40,8 +40,8 @@ pub(crate) fn step<B: Bits>(
     ensures deepest { IfNone result (IsDeepest nodes.now target.now limit at) }
 {
     let next = toward(&nodes.at(at), target)?;
-    let node = nodes.at(next);
-    if node.prefix.len() < limit && node.prefix.covers(target) {
+    let prefix = nodes.prefix_at(next);
+    if prefix.len() < limit && prefix.covers(target) {
         Some(next)
     } else {
         None
@@ -125,7 +125,7 @@ pub(crate) fn to_end<B: Bits>(nodes: &Nodes<B>, from: Reached) -> Reached
     let mut visits = from.visits;
     while let Some(next) = step(nodes, at, &to, limit) {
         at = next;
-        number = nodes.at(at).number.or(number);
+        number = nodes.number_at(at).or(number);
         visits += 1;
     }
     Reached {

@@ -1,6 +1,5 @@
 use Rattle.std.proofs.Common.{sym, ap, subst, ◌∙◌, slice_get, length, arith}
 use Rattle.std.proofs.lemmas.Nat.{one_shl}
-use Rattle.pol_addr.specs.Address.{family_of}
 use Rattle.pol_prefix_table.specs.Starts.{HasReached, beginning}
 use Rattle.pol_prefix_table.proofs.StartLists.{starts_pushed, length_pushed}
 use Rattle.pol_prefix_table.proofs.starts.fill.Goals as goal
@@ -8,8 +7,11 @@ use Rattle.pol_prefix_table.proofs.starts.fill.Goals as goal
 pub prefix_at-requires-clause-small : goal.prefix_at-requires-clause-small
 prefix_at-requires-clause-small g c = omega (arith, c.loop-place-test.true, one_shl c.args.bits 32 (omega (arith, c.requires.few)))
 
-pub of-requires : goal.of-requires
-of-requires g c = ap (λ p. family_of p.addr) c.start_over-start.ensures.to ∙ c.prefix_at.ensures.family
+pub of-requires-clause-small : goal.of-requires-clause-small
+of-requires-clause-small g c = omega (arith, c.loop-place-test.true, one_shl c.args.bits 32 (omega (arith, c.requires.few)))
+
+pub of-requires-clause-to : goal.of-requires-clause-to
+of-requires-clause-to g c = c.start_over-start.ensures.to ∙ c.prefix_at.ensures.value
 
 pub returns-in_err-push : goal.returns-in_err-push
 returns-in_err-push g c = record {

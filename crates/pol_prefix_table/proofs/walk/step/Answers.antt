@@ -1,4 +1,7 @@
-use Rattle.std.proofs.Common.{◌≡◌, ◌<◌, true, is_some, sym, ap, ◌∙◌, arith}
+use Rattle.std.proofs.Common.{◌≡◌, ◌<◌, true, is_some, option_map, sym, ap, ◌∙◌, arith}
+use Rattle.std.proofs.lemmas.Option.{same_Some}
+use Rattle.pol_addr.specs.declared.network.Prefix.{Prefix}
+use Rattle.pol_prefix_table.specs.declared.node.PrefixNode.{PrefixNode}
 use Rattle.std.proofs.lemmas.Bool.{both_ways}
 use Rattle.pol_addr.specs.Prefix.{covers}
 use Rattle.pol_prefix_table.proofs.Steps.{child_there, deepest_at_end, deepest_before, none_between, len_at-node, at_node}
@@ -10,8 +13,8 @@ returns-in_err-next-clause-deepest g c =
     let h = at_node c.args.nodes.now c.args.target.now c.args.limit c.args.at c.at.result c.requires.stands c.at.ensures.node in
     rw c.from_residual.ensures (deepest_at_end c.args.nodes.now c.requires.trie.tree c.args.target.now c.toward.ensures.valid c.args.limit c.args.at c.at.result h (sym c.in_err-next.ensures.next))
 
-pub at-node-requires : goal.at-node-requires
-at-node-requires g c =
+pub prefix_at-prefix-requires : goal.prefix_at-prefix-requires
+prefix_at-prefix-requires g c =
     let (_, is_c, _, _) = child_there c.args.nodes.now c.requires.trie.tree c.args.target.now c.toward.ensures.valid c.args.at c.at.result c.in_ok-next.next c.at.ensures.node (sym c.in_ok-next.ensures.next) in
     ap is_some is_c
 
@@ -23,14 +26,28 @@ returns-then-covers-clause-deeper g c =
 pub returns-then-covers-clause-between : goal.returns-then-covers-clause-between
 returns-then-covers-clause-between g c =
     let h = at_node c.args.nodes.now c.args.target.now c.args.limit c.args.at c.at.result c.requires.stands c.at.ensures.node in
-    none_between c.args.nodes.now c.requires.trie.tree c.args.target.now c.toward.ensures.valid c.args.at c.at.result c.in_ok-next.next c.at-node.result c.at.ensures.node h.over (sym c.in_ok-next.ensures.next) c.at-node.ensures.node
+    let (n, is_c, _, _) = child_there c.args.nodes.now c.requires.trie.tree c.args.target.now c.toward.ensures.valid c.args.at c.at.result c.in_ok-next.next c.at.ensures.node (sym c.in_ok-next.ensures.next) in
+    none_between c.args.nodes.now c.requires.trie.tree c.args.target.now c.toward.ensures.valid c.args.at c.at.result c.in_ok-next.next n c.at.ensures.node h.over (sym c.in_ok-next.ensures.next) is_c
 
 pub returns-else-len-limit-clause-deepest : goal.returns-else-len-limit-clause-deepest
 returns-else-len-limit-clause-deepest g c =
     let h = at_node c.args.nodes.now c.args.target.now c.args.limit c.args.at c.at.result c.requires.stands c.at.ensures.node in
-    let far : covers c.at-node.result.prefix c.args.target.now ≡ true → c.at-node.result.prefix.len < c.args.limit → ⊥ =
+    let (n, is_c, _, _) = child_there c.args.nodes.now c.requires.trie.tree c.args.target.now c.toward.ensures.valid c.args.at c.at.result c.in_ok-next.next c.at.ensures.node (sym c.in_ok-next.ensures.next) in
+    let same : n.prefix ≡ c.prefix_at-prefix.result = same_Some n.prefix c.prefix_at-prefix.result (sym (ap (option_map (λ (m : PrefixNode). m.prefix)) is_c) ∙ c.prefix_at-prefix.ensures) in
+    let far : covers n.prefix c.args.target.now ≡ true → n.prefix.len < c.args.limit → ⊥ =
     elim c.else-len-limit.branch [
-      | else-len-limit-via-then-len-limit+else-covers w ↦ λ over _. both_ways _ w.if-covers.false (w.covers.ensures.value ∙ over)
-      | else-len-limit-via-else-len-limit w ↦ λ _ short. omega (arith, short, c.len.ensures.value, w.if-len-limit.false)
+      | else-len-limit-via-then-len-limit+else-covers w ↦ λ over _. both_ways _ w.if-covers.false (w.covers.ensures.value ∙ ap (λ (p : Prefix). covers p c.args.target.now) (sym same) ∙ over)
+      | else-len-limit-via-else-len-limit w ↦ λ _ short. omega (arith, short, c.len.ensures.value, w.if-len-limit.false, ap (λ (p : Prefix). p.len) same)
     ] in
-    deepest_before c.args.nodes.now c.requires.trie.tree c.args.target.now c.toward.ensures.valid c.args.limit c.args.at c.at.result h c.in_ok-next.next c.at-node.result (sym c.in_ok-next.ensures.next) c.at-node.ensures.node far
+    deepest_before c.args.nodes.now c.requires.trie.tree c.args.target.now c.toward.ensures.valid c.args.limit c.args.at c.at.result h c.in_ok-next.next n (sym c.in_ok-next.ensures.next) is_c far
+
+pub returns-then-covers-clause-stands : goal.returns-then-covers-clause-stands
+returns-then-covers-clause-stands g c =
+    let (n, is_c, _, _) = child_there c.args.nodes.now c.requires.trie.tree c.args.target.now c.toward.ensures.valid c.args.at c.at.result c.in_ok-next.next c.at.ensures.node (sym c.in_ok-next.ensures.next) in
+    let same : n.prefix ≡ c.prefix_at-prefix.result = same_Some n.prefix c.prefix_at-prefix.result (sym (ap (option_map (λ (m : PrefixNode). m.prefix)) is_c) ∙ c.prefix_at-prefix.ensures) in
+    record {
+      node = n;
+      there = is_c;
+      over = ap (λ (p : Prefix). covers p c.args.target.now) same ∙ sym c.covers.ensures.value ∙ c.if-covers.true;
+      short = omega (arith, c.len.ensures.value, c.if-len-limit.true, ap (λ (p : Prefix). p.len) same);
+    }

@@ -3,7 +3,7 @@ use Rattle.pol_addr.specs.Address.{family_of}
 use Rattle.pol_addr.specs.Prefix.{prefix_of}
 use Rattle.pol_addr.proofs.ByFamily.{width_least}
 use Rattle.pol_prefix_table.proofs.StartLists.{family_of-beginning}
-use Rattle.pol_prefix_table.proofs.starts.prefix_at.Goals as goal
+use Rattle.pol_prefix_table.proofs.start.prefix_at.Goals as goal
 
 pub new-requires : goal.new-requires
 new-requires g c = omega (arith, c.requires.few, width_least c.beginning.result)
