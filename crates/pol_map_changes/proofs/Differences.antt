@@ -75,7 +75,7 @@ unfolding IsStrictlySortedBy
 whole_ascends [] s = tt
 whole_ascends (e ∷ es) s = (every-map (λ d. change_order (Set e.0 e.1) d ≡ Less) (λ (x : Entry). Set x.0 x.1) es s.0, whole_ascends es s.1)
 
-said_whole : (es : List Entry) (q : MapKey) → said (whole es) q ≡ difference_at None (finite.find key_cmp q es)
+pub said_whole : (es : List Entry) (q : MapKey) → said (whole es) q ≡ difference_at None (finite.find key_cmp q es)
 said_whole [] q = refl
 said_whole (e ∷ es) q =
     elim (eq_by_cmp key_cmp q e.0) as (λ b. cond b (Some (Some e.1)) (said (whole es) q) ≡ difference_at None (cond b (Some e.1) (finite.find key_cmp q es))) [

@@ -3,3 +3,5 @@ pub mod Counting
 pub mod Differences
 pub mod Merging
 pub mod Making
+pub mod LeavingOut
+pub mod Searching

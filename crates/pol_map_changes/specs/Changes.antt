@@ -1,6 +1,6 @@
 -- Lists of changes of a policy map: what a list says of a key, what it makes of a table, and when it is the difference of
 -- two tables. A table is a finite map from keys to kinds, as `PolicyTrie` is seen.
-use Rattle.std.specs.Prelude.{◌≡◌, ℕ, Bool, true, false, List, [], ◌∷◌, map, take, count_by, is_some, Option, Some, None, if◌then◌else◌}
+use Rattle.std.specs.Prelude.{◌≡◌, ℕ, ◌+◌, ◌≤◌, Bool, true, false, List, [], ◌∷◌, length, map, take, count_by, is_some, Option, Some, None, if◌then◌else◌}
 use Rattle.std.specs.FinMap as finite
 use Rattle.std.specs.List.Sorted.{IsStrictlySortedBy}
 use Rattle.std.specs.declared.cmp.Ordering.{Ordering}
@@ -51,6 +51,15 @@ IsChangedPartly changes before now = (made : ℕ) × (now ≡ changed (take made
 -- how many changes put a key or give it another kind
 abbrev pub set_count : List Change → ℕ
 set_count changes = count_by (λ c. is_some (kind_after c)) changes
+
+-- ---- changes of the keys of a base
+-- the table has no other keys than those that the base names
+abbrev pub HasOnlyKeysOf : List Change → PolicyMap → Type 0
+HasOnlyKeysOf base table = (key : MapKey) → said base key ≡ None → finite.get table key ≡ None
+
+-- beside what is set, no more changes than the base has
+abbrev pub AreFew : List Change → List Change → Type 0
+AreFew base changes = length changes ≤ length base + set_count changes
 
 -- ---- the difference of two tables
 abbrev pub same_kind : Kind → Kind → Bool

@@ -1,3 +1,4 @@
 pub mod Changes
 pub mod Merged
+pub mod LeftOut
 pub mod Laws

@@ -1,11 +1,12 @@
 //! Lists of changes.
-ghost use Rattle.std.specs.Prelude.{◌≡◌, ◌↔◌, ◌++◌, ◌≤◌, IfOk, IsTrue, length, drop};
+ghost use Rattle.std.specs.Prelude.{◌≡◌, ◌↔◌, ◌++◌, ◌≤◌, IfOk, IsTrue, filter, is_some, length, drop};
 ghost use Rattle.std.specs.Option.{option_or};
 ghost use Rattle.std.specs.List.Sorted.{IsStrictlySortedBy};
 ghost use Rattle.pol_mapkey.specs.MapKey.{key_cmp};
 ghost use Rattle.pol_mapkey.specs.declared.MapKey.{MapKey};
 ghost use Rattle.pol_trie.specs.PolicyMap.{PolicyMap};
-ghost use Rattle.pol_map_changes.specs.Changes.{IsAscending, change_order, changed, said, whole};
+ghost use Rattle.pol_map_changes.specs.Changes.{AreFew, HasOnlyKeysOf, IsAscending, change_order, changed, said, whole};
+ghost use Rattle.pol_map_changes.specs.LeftOut.{matters};
 ghost use Rattle.pol_map_changes.specs.Merged.{merged};
 
 use crate::change::Change;
@@ -72,6 +73,23 @@ fn merged(alloc: Global, earlier: &[Change], later: &[Change]) -> Result<Vec<Cha
     Ok(both)
 }
 
+/// Whether the change sets a key, or clears one that `base` names.
+fn matters(base: &ChangeList, change: &Change) -> bool
+    ensures { result ≡ matters base.now change.now }
+{
+    match change {
+        Change::Set(_, _) => true,
+        Change::Clear(key) => base.names(key),
+    }
+}
+
+/// Leaves out the changes that don't matter.
+fn leave_out(changes: &mut Vec<Change>, base: &ChangeList)
+    ensures { changes.new.items ≡ filter (matters base.now) changes.old.items }
+{
+    changes.retain(|change| matters(base, change));
+}
+
 impl ChangeList {
     /// The list of changes that are in key order, each key once. It takes no memory.
     pub fn from_vec(changes: Vec<Change>) -> ChangeList
@@ -130,6 +148,30 @@ impl ChangeList {
         let mut changes = Vec::with_capacity(alloc, self.len())?;
         changes.extend_from_slice(self.changes.as_slice())?;
         Ok(ChangeList { changes })
+    }
+
+    /// Whether a change is of the key.
+    fn names(&self, key: &MapKey) -> bool
+        ensures { result ≡ is_some (said self.now key.now) }
+    {
+        match self
+            .changes
+            .binary_search_by_key(key, |change| change.key())
+        {
+            Ok(_) => true,
+            Err(_) => false,
+        }
+    }
+
+    /// Leaves out each `Clear` of a key that `base` doesn't name: of a table that has no other keys than those, the list
+    /// makes what it made before. It takes no memory.
+    pub fn leave_out_clears(&mut self, base: &ChangeList)
+        ensures leads { (table : PolicyMap) → HasOnlyKeysOf base.now table → changed self.new table ≡ changed self.old table }
+        ensures few { AreFew base.now self.new }
+        ensures ascending { IsAscending self.new }
+    {
+        base.fits_together();
+        leave_out(&mut self.changes, base);
     }
 
     #[tactic(auto, using(crate::proofs::Merging::merged_ascends, crate::proofs::Merging::merged_said, crate::proofs::Merging::merged_leads))]
