@@ -37,7 +37,7 @@ fn moved_keys(
     ensures once { IfOk result (λ keys. IsStrictlySortedBy key_cmp keys.items) }
     ensures has { IfOk result (λ keys. (q : OneKey) (k : OneKind) → 0 < times come.now q k + times gone.now q k → has_key q keys.items ≡ true) }
 {
-    let mut moved = Vec::with_capacity(alloc, come.len().max(gone.len()))?;
+    let mut moved = Vec::with_capacity(alloc, come.len().saturating_add(gone.len()))?;
     push_keys(come, &mut moved)?;
     push_keys(gone, &mut moved)?;
     Ok(in_order(moved))
