@@ -468,6 +468,8 @@ def bash_completes(folder, wrong):
         (["wenirako", "list", "--by", ""], " ".join(listing.BY)),
         (["wenirako", "why", "--form"], "--format"),
         (["wenirako", "diff", "--format", "ht"], "html"),
+        (["wenirako", "completion", ""], "bash"),
+        (["wenirako", "play", "--p"], "--prove"),
     ):
         names = " ".join(f"'{it}'" for it in line)
         text = f"source '{script}'; COMP_WORDS=({names}); COMP_CWORD={len(line) - 1}; _wenirako; echo ${{COMPREPLY[@]}}"

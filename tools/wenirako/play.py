@@ -24,6 +24,7 @@ import signal
 import subprocess
 import sys
 import tempfile
+import textwrap
 from typing import IO, Optional, Sequence
 
 from . import children, programs
@@ -31,6 +32,8 @@ from .programs import TOP, NoProgram, Program
 from .progress import Progress
 from .statuses import BAD_WORDS, NO_ANSWER, NOTHING
 
+# How wide a line of help is at most, and what stands for a blank that isn't cut at.
+WIDEST, GLUE = 120, "\0"
 # Signals by which a program is told to end, or is ended for want of memory: no fault of its own.
 TOLD_TO_END = (signal.SIGHUP, signal.SIGINT, signal.SIGKILL, signal.SIGTERM)
 DEMO = TOP / "examples" / "star-wars.jsonl"
@@ -42,6 +45,13 @@ READ_MOST = 67_108_864 + 1
 
 def say(text: str) -> None:
     print(f"play: {text}", file=sys.stderr, flush=True)
+
+
+def fitted(text: str) -> str:
+    """A text whose long lines, of words in brackets, are cut between these, so that it fits a screen."""
+    whole = lambda line: re.sub(r"\[[^]]*\]", lambda it: it[0].replace(" ", GLUE), line)
+    cut = lambda line: textwrap.fill(whole(line), WIDEST, subsequent_indent="    ", break_long_words=False, break_on_hyphens=False)
+    return "\n".join(cut(it).replace(GLUE, " ") if len(it) > WIDEST else it for it in text.split("\n"))
 
 
 # What is asked, before anything is built.
@@ -184,7 +194,7 @@ def main(words: list[str], has_demo: bool = False) -> int:
     wants_proof = words[:1] == ["--prove"]
     words = words[wants_proof:]
     if {"-h", "--help"} & {*words}:
-        print(__doc__, end="")
+        print(fitted(__doc__), end="")
         return NOTHING
     if words == ["--version"]:
         print(programs.version())
@@ -192,7 +202,7 @@ def main(words: list[str], has_demo: bool = False) -> int:
     wrong = wrong_words(words, has_demo)
     if wrong:
         say(wrong)
-        print(*__doc__.split("\n\n")[1:4:2], sep="\n", file=sys.stderr)
+        print(fitted("\n".join(__doc__.split("\n\n")[1:4:2])), file=sys.stderr)
         return BAD_WORDS
     name = words[0] if words else str(DEMO)
     try:

@@ -151,6 +151,7 @@ BASH = """# What completes the words of wenirako in bash: eval "$(wenirako compl
 _wenirako() {{
     local word="${{COMP_WORDS[COMP_CWORD]}}" before="${{COMP_WORDS[COMP_CWORD-1]}}" words=""
     if [ "$COMP_CWORD" = 1 ]; then COMPREPLY=($(compgen -W "{questions} play completion --help --version" -- "$word")); return; fi
+    if [ "$COMP_CWORD" = 2 ] && [ "$before" = completion ]; then COMPREPLY=(bash); return; fi
     case "$before" in
     {files}) COMPREPLY=($(compgen -f -- "$word")); return ;;
 {choices}    esac
@@ -172,5 +173,6 @@ def completion() -> str:
     listed: dict[str, Sequence[str]] = {**CHOICES, "--format": DRAWN}
     files = "|".join(option for option, (metavar, _, _) in OPTIONS.items() if metavar == "FILE")
     choices = "".join(f'    {option}) COMPREPLY=($(compgen -W "{" ".join(values)}" -- "$word")); return ;;\n' for option, values in listed.items())
-    options = "".join(f'    {name}) words="{" ".join(options_of(name))}" ;;\n' for name in QUESTIONS)
+    known = {**{name: options_of(name) for name in QUESTIONS}, "play": ["--prove", "--help", "--version"]}
+    options = "".join(f'    {name}) words="{" ".join(each)}" ;;\n' for name, each in known.items())
     return BASH.format(questions=" ".join(QUESTIONS), files=files, choices=choices, options=options)
