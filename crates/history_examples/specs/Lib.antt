@@ -1,8 +1,6 @@
 pub mod Held
 pub mod Hints
 pub mod Histories
-pub mod Machines
 pub mod Rounds
 pub mod Sessions
 pub mod Steps
-pub mod Stopped

@@ -13,8 +13,8 @@ use Rattle.pol_history.proofs.Small.{some_is_none}
 use Rattle.pol_run_laws.specs.Placed.{Allows}
 use Rattle.pol_run_laws.specs.Session.{PlaysOn, requests_done}
 use Rattle.pol_sessions.specs.Sessions.{HasStopped}
-use Rattle.history_examples.specs.Stopped.{adds, added, done, new_pass, of_another, of_both, sets, twice}
-use Rattle.history_examples.proofs.stopped.sessions_that_stop.Goals as goal
+use Rattle.session_examples.specs.Stopped.{adds, added, done, new_pass, of_another, of_both, sets, twice}
+use Rattle.session_examples.proofs.stopped.sessions_that_stop.Goals as goal
 
 -- ---- what is so
 

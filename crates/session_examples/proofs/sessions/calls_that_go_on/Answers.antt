@@ -1,8 +1,8 @@
 use Rattle.std.proofs.Common.{◌≡◌, [], refl, arith}
 use Rattle.pol_run.specs.ExampleLines.{unlimited}
 use Rattle.pol_history.proofs.LegalEvents.{each_legal}
-use Rattle.history_examples.specs.Stopped.{added}
-use Rattle.history_examples.proofs.sessions.calls_that_go_on.Goals as goal
+use Rattle.session_examples.specs.Stopped.{added}
+use Rattle.session_examples.proofs.sessions.calls_that_go_on.Goals as goal
 
 pub returns-clause-commits : goal.returns-clause-commits
 returns-clause-commits c = record {

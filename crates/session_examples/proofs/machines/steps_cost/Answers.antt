@@ -1,5 +1,5 @@
 use Rattle.std.proofs.Common.{◌≡◌, ◌≤◌, refl, arith}
-use Rattle.history_examples.proofs.machines.steps_cost.Goals as goal
+use Rattle.session_examples.proofs.machines.steps_cost.Goals as goal
 
 pub returns-clause-look : goal.returns-clause-look
 returns-clause-look c = λ s query. omega arith

@@ -3,7 +3,7 @@ ghost use Rattle.std.specs.Prelude.{[], ◌∷◌};
 ghost use Rattle.pol_answer.specs.declared.answer.Answer.TheVariants as answer;
 ghost use Rattle.pol_run.specs.ExampleLines.{first_number, unlimited};
 ghost use Rattle.pol_sessions.specs.Sessions.{GoesOn, IsScriptPlayed};
-ghost use Rattle.history_examples.specs.Stopped.{added, adds, another_pass, done, looks, new_pass, syncs};
+ghost use Rattle.session_examples.specs.Stopped.{added, adds, another_pass, done, looks, new_pass, syncs};
 
 /// The call of a line answers as it may, and the session's pass goes on by it ('profile').
 pub fn calls_that_go_on()

@@ -2,7 +2,7 @@
 ghost use Rattle.std.specs.Prelude.{[], ◌∷◌};
 ghost use Rattle.pol_run.specs.ExampleLines.{unlimited};
 ghost use Rattle.pol_sessions.specs.Sessions.{HasStopped};
-ghost use Rattle.history_examples.specs.Stopped.{adds, added, another_pass, done, idle, new_pass, of_another, of_both, sets, twice};
+ghost use Rattle.session_examples.specs.Stopped.{adds, added, another_pass, done, idle, new_pass, of_another, of_both, sets, twice};
 
 /// Memory was wanting at the second line, or at the first one, and another pass went on. Else some line asks for what was
 /// committed, and its commit was seen; it is the session's pass, whose history goes on and is legal ('profile').

@@ -12,22 +12,20 @@ ghost use Rattle.pol_model.specs.After.{start};
 ghost use Rattle.pol_model.specs.State.{State as OneState};
 ghost use Rattle.pol_model.specs.declared.options.Options.{Options as AllOptions};
 ghost use Rattle.pol_model.specs.declared.request.Query.{Query as OneQuery};
-ghost use Rattle.history_examples.specs.Held as held;
-ghost use Rattle.history_examples.specs.Histories as history;
-ghost use Rattle.history_examples.specs.Machines.{db_row, machine_at, two_full, web_row};
+ghost use Rattle.session_examples.specs.Machines.{added, db_row, machine_at, one_full, row, two_full, web_row};
 
 /// Rows are those of the live endpoints whose maps are too large, by name ('profile').
 pub fn rows_are_listed()
-    ensures one { ListsRows (at_most 1) history.full (held.row ∷ []) }
+    ensures one { ListsRows (at_most 1) one_full (row ∷ []) }
     ensures two { ListsRows (at_most 1) two_full (db_row ∷ web_row ∷ []) }
-    ensures lacks_one { ListsRows (at_most 1) history.full [] → ⊥ }
+    ensures lacks_one { ListsRows (at_most 1) one_full [] → ⊥ }
     ensures by_slot { ListsRows (at_most 1) two_full (web_row ∷ db_row ∷ []) → ⊥ }
 {}
 
 /// A synchronisation tells the revision at which it was asked for ('profile').
 pub fn syncs_tell_revisions()
-    ensures is { IsSaid (at_most 2) (machine_at history.added) Sync (Synced 1 []) }
-    ensures another_revision { IsSaid (at_most 2) (machine_at history.added) Sync (Synced 0 []) → ⊥ }
+    ensures is { IsSaid (at_most 2) (machine_at added) Sync (Synced 1 []) }
+    ensures another_revision { IsSaid (at_most 2) (machine_at added) Sync (Synced 0 []) → ⊥ }
 {}
 
 /// What is left after want of memory is a machine after a beginning of the events, not after others ('profile').

@@ -1,6 +1,6 @@
 use Rattle.std.proofs.Common.{◌≡◌, [], refl, arith}
 use Rattle.std.proofs.lemmas.List.Sorted.{IsPermutation-refl}
-use Rattle.history_examples.proofs.machines.syncs_tell_revisions.Goals as goal
+use Rattle.session_examples.proofs.machines.syncs_tell_revisions.Goals as goal
 
 pub returns-clause-is : goal.returns-clause-is
 returns-clause-is c = (refl, record { those = IsPermutation-refl []; sorted = tt })

@@ -6,7 +6,7 @@ use Rattle.pol_history.specs.declared.machine.Event.TheVariants as step
 use Rattle.pol_machine.specs.Serial.{StandsWithin}
 use Rattle.pol_machine.specs.Stands.{Stands, Stored}
 use Rattle.pol_model.specs.declared.request.Request.{Request}
-use Rattle.history_examples.proofs.machines.beginnings_are_left.Goals as goal
+use Rattle.session_examples.proofs.machines.beginnings_are_left.Goals as goal
 
 none_in_front : (xs ys : List Event) → xs ++ ys ≡ [] → xs ≡ []
 none_in_front [] ys is = refl

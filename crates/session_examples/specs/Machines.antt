@@ -10,6 +10,16 @@ use Rattle.pol_run.specs.ExampleLines.{add_db, add_web, db, full, web}
 abbrev pub machine_at : List HistoryEvent → Machine
 machine_at history = record machine_start { history = history }
 
+-- an endpoint was added, and its map of two entries was reported as too large
+abbrev pub added : List HistoryEvent
+added = commit 0 0 add_web ∷ []
+
+abbrev pub one_full : List HistoryEvent
+one_full = commit 0 0 add_web ∷ blocked 1 1 2 ∷ []
+
+abbrev pub row : FullSlot
+row = full web 1 2
+
 -- two endpoints, whose maps of two entries are too large
 abbrev pub two_full : List HistoryEvent
 two_full =

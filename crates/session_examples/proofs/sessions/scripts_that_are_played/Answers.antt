@@ -4,8 +4,8 @@ use Rattle.pol_history.specs.Grows.{PassState, nothing_yet}
 use Rattle.pol_history.specs.declared.event.HistoryEvent.{HistoryEvent}
 use Rattle.pol_history.proofs.Lists.{no_element}
 use Rattle.pol_run_laws.proofs.Places.{element_at}
-use Rattle.history_examples.specs.Stopped.{new_pass}
-use Rattle.history_examples.proofs.sessions.scripts_that_are_played.Goals as goal
+use Rattle.session_examples.specs.Stopped.{new_pass}
+use Rattle.session_examples.proofs.sessions.scripts_that_are_played.Goals as goal
 
 one_seat : (i j : ℕ) (one other : PassState) → slice_get (new_pass ∷ []) i ≡ Some one → slice_get (new_pass ∷ []) j ≡ Some other
     → one.number ≡ other.number → i ≡ j
