@@ -9,6 +9,7 @@ use Rattle.pol_history.specs.declared.event.EndpointId.{EndpointId}
 use Rattle.pol_history.specs.declared.event.HistoryEvent.{HistoryEvent}
 use Rattle.pol_history.specs.declared.event.HistoryEvent.TheVariants as event
 use Rattle.pol_history.specs.Commits.{live_endpoint}
+use Rattle.pol_history.specs.Reports.{Reports}
 use Rattle.pol_history.proofs.Lists.{no_element}
 use Rattle.pol_history.proofs.Same.{live-parts}
 use Rattle.pol_history.proofs.Small.{some_same}
@@ -40,6 +41,11 @@ abbrev pub IsNoReport : HistoryEvent → Type 0
 IsNoReport (event.Commit pass number request) = ⊤
 IsNoReport (event.Publish endpoint revision table) = ⊥
 IsNoReport (event.Blocked endpoint revision count) = ⊥
+
+pub no_report : (e : HistoryEvent) (revision : ℕ) → IsNoReport e → Reports e (web_since 1) revision → ⊥
+no_report (event.Commit pass number request) revision none reports = absurd reports
+no_report (event.Publish endpoint of table) revision none reports = absurd none
+no_report (event.Blocked endpoint of count) revision none reports = absurd none
 
 -- a published map is empty, and of the endpoint that was added at revision 1
 abbrev pub IsEmptyOfWeb : HistoryEvent → Type 0

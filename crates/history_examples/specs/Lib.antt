@@ -1,3 +1,4 @@
+pub mod Conditions
 pub mod Held
 pub mod Hints
 pub mod Histories

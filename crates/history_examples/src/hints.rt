@@ -21,4 +21,5 @@ pub fn hints_that_are_put()
     ensures is { (queue : TableId) (share : Share) → HintsBelow 2 (pass queue share [] 0) (pass queue share (Put 1 ∷ []) 1) }
     ensures of_a_slot_above { (queue : TableId) (share : Share) → HintsBelow 1 (pass queue share [] 0) (pass queue share (Put 1 ∷ []) 1) → ⊥ }
     ensures one_is_taken { (queue : TableId) (share : Share) → HintsBelow 2 (pass queue share [] 0) (pass queue share (Put 1 ∷ Taken 1 ∷ []) 2) → ⊥ }
+    ensures one_is_forgotten { (queue : TableId) (share : Share) → HintsBelow 2 (pass queue share (Put 1 ∷ []) 1) (pass queue share [] 1) → ⊥ }
 {}

@@ -6,7 +6,7 @@ use Rattle.pol_history.specs.ExampleEvents.{open_map, web, web_since}
 use Rattle.pol_history.specs.Reports.{Reports}
 use Rattle.pol_run_laws.proofs.Places.{element_at}
 use Rattle.history_examples.specs.Histories as history
-use Rattle.history_examples.proofs.OneEndpoint.{HasTwo}
+use Rattle.history_examples.proofs.OneEndpoint.{HasTwo, IsNoReport, no_report}
 use Rattle.history_examples.proofs.held.reports.Goals as goal
 
 -- a published map is of revision 1, and a report of a map that is too large is of `web`
@@ -27,6 +27,16 @@ pub returns-clause-published_before : goal.returns-clause-published_before
 returns-clause-published_before c = λ it.
     let no : 2 ≡ 1 = element_at IsFirst history.published it.place (event.Publish (web_since 1) 2 it.table) (tt, (refl, tt)) it.there in omega (arith, no)
 
+-- a published map is of the endpoint that was added at revision 1
+abbrev IsSinceOne : HistoryEvent → Type 0
+IsSinceOne (event.Commit pass number request) = ⊤
+IsSinceOne (event.Publish endpoint revision table) = endpoint.added ≡ 1
+IsSinceOne (event.Blocked endpoint revision count) = ⊤
+
+pub returns-clause-published_of_another : goal.returns-clause-published_of_another
+returns-clause-published_of_another c = λ it.
+    let no : 2 ≡ 1 = element_at IsSinceOne history.published it.place (event.Publish (web_since 2) 1 it.table) (tt, (refl, tt)) it.there in omega (arith, no)
+
 pub returns-clause-blocked : goal.returns-clause-blocked
 returns-clause-blocked c = record { place = 1; endpoint = web_since 1; there = refl; name = refl }
 
@@ -38,6 +48,10 @@ returns-clause-of_another_name c = λ it.
 pub returns-clause-of_another_count : goal.returns-clause-of_another_count
 returns-clause-of_another_count c = λ it.
     let no : 3 ≡ 2 = element_at HasTwo history.full it.place (event.Blocked it.endpoint 1 3) (tt, (refl, tt)) it.there in omega (arith, no)
+
+pub returns-clause-at_another_revision : goal.returns-clause-at_another_revision
+returns-clause-at_another_revision c = λ it.
+    let no : 2 ≡ 1 = element_at IsFirst history.full it.place (event.Blocked it.endpoint 2 2) (tt, (refl, tt)) it.there in omega (arith, no)
 
 pub returns-clause-reported : goal.returns-clause-reported
 returns-clause-reported c = record { place = 1; of = 1; report = record { event = event.Publish (web_since 1) 1 open_map; there = refl; reports = (refl, refl) }; newer = omega arith }
@@ -52,3 +66,7 @@ pub returns-clause-reported_before : goal.returns-clause-reported_before
 returns-clause-reported_before c = λ it.
     let first = first_only it.report.event it.of (element_at IsFirst history.published it.place it.report.event (tt, (refl, tt)) it.report.there) it.report.reports in
     let newer : 2 ≤ it.of = it.newer in omega (arith, first, newer)
+
+pub returns-clause-not_reported : goal.returns-clause-not_reported
+returns-clause-not_reported c = λ it.
+    no_report it.report.event it.of (element_at IsNoReport history.added it.place it.report.event (tt, tt) it.report.there) it.report.reports

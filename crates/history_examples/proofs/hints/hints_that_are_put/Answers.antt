@@ -1,4 +1,4 @@
-use Rattle.std.proofs.Common.{◌≡◌, ℕ, ◌<◌, List, [], ◌∷◌, length, refl, ap, subst, sym, arith}
+use Rattle.std.proofs.Common.{◌≡◌, ℕ, suc, ◌<◌, List, [], ◌∷◌, length, refl, ap, subst, sym, arith}
 use Rattle.std.specs.List.{AllByRecursion}
 use Rattle.history_examples.proofs.hints.hints_that_are_put.Goals as goal
 
@@ -14,3 +14,7 @@ returns-clause-of_a_slot_above c = λ queue share it.
 pub returns-clause-one_is_taken : goal.returns-clause-one_is_taken
 returns-clause-one_is_taken c = λ queue share it.
     let wrong : 1 ≡ 0 = ap (λ (slots : List ℕ). length slots) it.takes_none in omega (arith, wrong)
+
+pub returns-clause-one_is_forgotten : goal.returns-clause-one_is_forgotten
+returns-clause-one_is_forgotten c = λ queue share it.
+    let wrong : 0 ≡ suc (length it.put) = ap (λ (slots : List ℕ). length slots) it.puts in omega (arith, wrong)
