@@ -1,0 +1,2 @@
+pub mod NumbersOfRuns
+pub mod SizesLeft
