@@ -11,6 +11,7 @@ pub fn calls_that_go_on()
     ensures asks { GoesOn unlimited new_pass looks (answer.NoEndpoint 0) new_pass }
     ensures not_allowed { GoesOn unlimited new_pass syncs (answer.Phase 1) new_pass → ⊥ }
     ensures of_another_pass { GoesOn unlimited new_pass looks (answer.NoEndpoint 0) another_pass → ⊥ }
+    ensures commits_unasked { GoesOn unlimited new_pass looks (answer.NoEndpoint 0) (done []) → ⊥ }
 {}
 
 /// So many sessions play the script, each by a pass that is new, and what was seen in the end is what some pass has seen

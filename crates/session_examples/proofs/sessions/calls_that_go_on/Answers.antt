@@ -1,4 +1,5 @@
-use Rattle.std.proofs.Common.{◌≡◌, [], refl, arith}
+use Rattle.std.proofs.Common.{◌≡◌, List, [], length, refl, ap, arith}
+use Rattle.pol_model.specs.declared.request.Request.{Request}
 use Rattle.pol_run.specs.ExampleLines.{unlimited}
 use Rattle.pol_history.proofs.LegalEvents.{each_legal}
 use Rattle.session_examples.specs.Stopped.{added}
@@ -24,3 +25,7 @@ returns-clause-not_allowed c = λ it. it.allowed
 
 pub returns-clause-of_another_pass : goal.returns-clause-of_another_pass
 returns-clause-of_another_pass c = λ it. let wrong : 2 ≡ 1 = it.grows.number in omega (arith, wrong)
+
+pub returns-clause-commits_unasked : goal.returns-clause-commits_unasked
+returns-clause-commits_unasked c = λ it.
+    let wrong : 1 ≡ 0 = ap (λ (requests : List Request). length requests) it.grows.grows.mine in omega (arith, wrong)
