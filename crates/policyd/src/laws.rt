@@ -1,17 +1,27 @@
 //! What lacks a condition of what the program promises. Each function does nothing: its contract is the law.
-ghost use Rattle.std.specs.Prelude.{◌≡◌, ℕ, List, Option, [], ◌∷◌, false, None, true};
+ghost use Rattle.std.specs.Prelude.{◌≡◌, ℕ, List, Option, [], ◌∷◌, false, map, None, Some, true};
+ghost use Rattle.pol_answer.specs.Text.{texts_of};
+ghost use Rattle.pol_answer.specs.declared.answer.Answer.TheVariants as answer;
+ghost use Rattle.pol_generated.specs.Requests.{requests_asked};
 ghost use Rattle.pol_history.specs.ExampleEvents.{add_web, commit, open_map, publish};
 ghost use Rattle.pol_map_dump.specs.AtEnd.{is_live};
 ghost use Rattle.pol_model.specs.declared.options.Options.{Options as AllOptions};
 ghost use Rattle.policyd.specs.Headline.{HoldsText, LeavesHistory, LeavesRounds, WritesFinding, WritesMap};
 
-/// What was seen in the end is told by a run, and is legal and holds what the text says: a history with a commit, or with a map of
-/// an endpoint that isn't there, is none of a script without lines ('profile').
+/// A run of a script without lines leaves nothing: no history with a commit, or with a map of an endpoint that isn't there, no text,
+/// and it writes nothing. And what was seen in the end is told: without rounds too it is a legal history, of the endpoints that are
+/// added first ('profile').
 pub(crate) fn runs_that_leave_nothing()
+    ensures is { (options : AllOptions) → LeavesHistory options (Some []) (Some []) [] (Some []) }
     ensures nothing_seen { (options : AllOptions) (old new : Option (List ℕ)) (script : List ℕ) → LeavesHistory options old new script None → ⊥ }
-    ensures no_rounds_seen { (options : AllOptions) (rounds : ℕ) → LeavesRounds options rounds None → ⊥ }
+    ensures not_written { (options : AllOptions) → LeavesHistory options (Some []) (Some (10 ∷ [])) [] (Some []) → ⊥ }
+    ensures another_text { (options : AllOptions) → HoldsText options [] (10 ∷ []) [] → ⊥ }
+    ensures answer_to_no_line { (options : AllOptions) → HoldsText options [] (texts_of (answer.Phase 1 ∷ [])) [] → ⊥ }
     ensures not_held { (options : AllOptions) → HoldsText options [] [] (commit 0 0 add_web ∷ []) → ⊥ }
     ensures not_legal { (options : AllOptions) → HoldsText options [] [] (publish 1 1 open_map ∷ []) → ⊥ }
+    ensures no_rounds_seen { (options : AllOptions) (rounds : ℕ) → LeavesRounds options rounds None → ⊥ }
+    ensures rounds_not_asked { (options : AllOptions) → LeavesRounds options 0 (Some []) → ⊥ }
+    ensures rounds_not_legal { (options : AllOptions) → LeavesRounds options 0 (Some (publish 1 1 open_map ∷ map (commit 0 0) (requests_asked 0))) → ⊥ }
 {}
 
 /// With `--map` the status is 0 where an endpoint of the name is live in the end, and 1 where none is. With `--audit` it is 1 where
