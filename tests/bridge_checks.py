@@ -4,8 +4,8 @@ from bridge import lint_checks, made_checks, random_states, random_unread, rewri
 # The random states that are played; in one of those with something unread the policy that goes alone speaks of a name.
 SEEDS = range(1, 13)
 UNREAD = (*SEEDS, 111)
-# Of these the answer is compared with that over connections.
-OVER = (1, 5, 9)
+# Of these the answer is compared with that over connections; in two of the first, names have rows of their own.
+OVER, OVER_UNREAD = (1, 8, 14), (1, 5, 9)
 
 
 def run(check):
@@ -25,5 +25,5 @@ def checks():
     named += [(f"bridge random state {it}", lambda it=it: random_states.play(it)[0]) for it in SEEDS]
     named += [(f"bridge slips of random state {it}", lambda it=it: random_states.play_slips(it)[0]) for it in SEEDS]
     named += [(f"bridge random state {it}, over connections", lambda it=it: random_states.play_over(it)) for it in OVER]
-    named += [(f"bridge random state with something unread {it}, over connections", lambda it=it: random_unread.play_over(it)) for it in OVER]
+    named += [(f"bridge random state with something unread {it}, over connections", lambda it=it: random_unread.play_over(it)) for it in OVER_UNREAD]
     return [*named, *((f"bridge random state with something unread {it}", lambda it=it: random_unread.play(it)[0]) for it in UNREAD)]

@@ -83,8 +83,7 @@ class Diff:
         """The stretches in which a connection changes that connections tells of, made once for all that are told alike."""
         ways: tuple[tuple[End, str, End], ...] = ((source, EGRESS, target), (target, INGRESS, source))
         # (where nothing is asked of a half's entries, its words are all that is told of it)
-        is_told = [it or self.beside.has_names for it in heard.asks]
-        key = (heard, *(self.boths.one(one, way, other) if told else way for (one, way, other), told in zip(ways, is_told) if isinstance(one, Group)))
+        key = (heard, *(self.boths.one(one, way, other) if is_asked else way for (one, way, other), is_asked in zip(ways, heard.asks) if isinstance(one, Group)))
         if key not in self.kept:
             self.kept[key] = joined_alike((it for it in self.cut(self.boths.of(source, target), heard) if it.is_shown or it.is_half), self.names_beside)
         return self.kept[key]
