@@ -45,3 +45,9 @@ returns-clause-of_one_that_has_gone c = λ it.
     let is = element_at IsOfWeb published_though_gone it.published.place (event.Publish it.endpoint 2 it.published.table) (tt, (tt, (refl, tt))) it.published.there in
     let lives = subst (λ (e : EndpointId). Lives (state_after unlimited published_though_gone 2) e) is it.lives in
     no_element lives.row lives.found
+
+pub returns-clause-added_lives : goal.returns-clause-added_lives
+returns-clause-added_lives c = record { row = web_row 1; found = refl }
+
+pub returns-clause-gone_is_published : goal.returns-clause-gone_is_published
+returns-clause-gone_is_published c = record { place = 2; table = open_map; there = refl }
