@@ -4,8 +4,8 @@
     tests/random_connections.py PROGRAM [FIRST [LAST]]     plays those of the seeds FIRST to LAST, 1 to 3 without them
 
 Of an odd seed there are two scripts, of which the second is the first with some lines left out, doubled or new. The lines
-are those of tests/random_scripts.py; of two seeds of four, without those that are refused. A play that takes over two
-minutes has failed.
+are those of tests/random_scripts.py; of two seeds of four, without those that are refused. Of four seeds of eight, halves
+are told. A play that takes over two minutes has failed.
 """
 import random
 import subprocess
@@ -53,7 +53,7 @@ def given(seed):
     if seed % 4 > 1:
         scripts = [without_refusals(it) for it in scripts]
     words = ["--enable-policy", pick.choice(MODES), "--allow-localhost", pick.choice(["always", "policy"])]
-    return words, b"--\n".join(text(it) for it in scripts)
+    return words + ["--halves"] * (seed % 8 > 3), b"--\n".join(text(it) for it in scripts)
 
 
 def play(command, seed):
@@ -63,7 +63,7 @@ def play(command, seed):
         ended = subprocess.run([*command, *words], input=scripts, stdout=subprocess.PIPE, stderr=subprocess.PIPE, timeout=SECONDS)
     except subprocess.TimeoutExpired:
         return [f"no end within {SECONDS} seconds"]
-    told, status = opened.told(scripts, words[1], words[3] == "always")
+    told, status = opened.told(scripts, words[1], words[3] == "always", "--halves" in words)
     wrong = [] if status == ended.returncode else [f"status {ended.returncode}, and not {status}", *compare.lines_of(ended.stderr)[-5:]]
     return wrong + compare.difference(f"seed {seed}", told, ended.stdout)[:40]
 

@@ -2,7 +2,7 @@
 use Rattle.std.proofs.Common.{◌≡◌, ℕ, true, List, Option, refl, subst, ap, ◌∙◌}
 use Rattle.std.specs.Io.KnownBytes.{Appends}
 use Rattle.pol_streams.specs.Bytes.{AppendsPart}
-use Rattle.pol_model.specs.declared.options.Options.{Options}
+use Rattle.pol_command_line.specs.declared.connections.ConnectionWords.{ConnectionWords}
 use Rattle.connections.specs.declared.status.RunEnd.{RunEnd}
 use Rattle.connections.specs.declared.status.RunEnd.TheVariants.{Same, Refused, Usage, Changes, Write, Memory, TooLong, Read}
 use Rattle.connections.specs.Ends.{has_read_all, is_answered, status_number}
@@ -20,13 +20,13 @@ has_read Memory h = absurd (cc)
 has_read TooLong h = absurd (cc)
 has_read Read h = absurd (cc)
 
-module _ (options : Options) (old new : Option (List ℕ)) (input text written : List ℕ) (is : text ≡ told_text options input) (all : written ≡ text) where
-  pub writes : (status told : RunEnd) → status_number told ≡ told_status options input → status ≡ told → Appends old new written
-      → WritesConnections options old new input (status_number status)
+module _ (asked : ConnectionWords) (old new : Option (List ℕ)) (input text written : List ℕ) (is : text ≡ told_text asked input) (all : written ≡ text) where
+  pub writes : (status told : RunEnd) → status_number told ≡ told_status asked input → status ≡ told → Appends old new written
+      → WritesConnections asked old new input (status_number status)
   writes status told marked same appended = record {
     written = subst (λ (xs : List ℕ). Appends old new xs) (all ∙ is) appended;
     marked = ap status_number same ∙ marked;
   }
 
-  pub writes_part : AppendsPart old new written → AppendsPart old new (told_text options input)
+  pub writes_part : AppendsPart old new written → AppendsPart old new (told_text asked input)
   writes_part appended = subst (λ (xs : List ℕ). AppendsPart old new xs) (all ∙ is) appended

@@ -6,6 +6,7 @@ use Rattle.pol_connections.specs.Connections.{changes_of, connections_of, ends_a
 use Rattle.pol_connection_text.specs.declared.side.ChangeSide.{ChangeSide}
 use Rattle.pol_connection_text.specs.declared.side.ChangeSide.TheVariants.{Before, After}
 use Rattle.pol_connection_text.specs.Text.{change_text, connections_text, refusal_text}
+use Rattle.pol_command_line.specs.declared.connections.ConnectionWords.{ConnectionWords}
 use Rattle.pol_model.specs.declared.options.Options.{Options}
 use Rattle.pol_model.specs.State.{State}
 use Rattle.pol_run.specs.Run.{readings_of}
@@ -33,36 +34,38 @@ one_text options readings =
 abbrev pub one_status : Options → List Reading → ℕ
 one_status options readings = status_of (not (is_none (refusals_of options readings))) false
 
--- ---- two: what is refused of each, and what changes from the end of the first to the end of the second
-abbrev pub states_text : Options → State → State → List ℕ
-states_text options s t = change_text (ends_alone t s) (ends_alone s t) (changes_of options s t)
+-- ---- two: what is refused of each, and what changes from the end of the first to the end of the second, of connections or of
+-- halves of them
+abbrev pub states_text : Bool → Options → State → State → List ℕ
+states_text halves options s t = change_text (ends_alone t s) (ends_alone s t) (changes_of halves options s t)
 
-abbrev pub two_text : Options → List Reading → List Reading → List ℕ
-two_text options before after =
+abbrev pub two_text : Bool → Options → List Reading → List Reading → List ℕ
+two_text halves options before after =
     refusals_text (Some Before) (refusals_of options before) ++ refusals_text (Some After) (refusals_of options after)
-    ++ states_text options (state_after options before) (state_after options after)
+    ++ states_text halves options (state_after options before) (state_after options after)
 
--- whether nothing changes: no name comes or goes, and no connection opens or shuts
-abbrev pub is_same : Options → State → State → Bool
-is_same options s t = is_none (ends_alone t s) && is_none (ends_alone s t) && is_none (changes_of options s t)
+-- whether nothing changes: no name comes or goes, and no connection opens or shuts, nor has a half of one another word where
+-- halves are told
+abbrev pub is_same : Bool → Options → State → State → Bool
+is_same halves options s t = is_none (ends_alone t s) && is_none (ends_alone s t) && is_none (changes_of halves options s t)
 
-abbrev pub two_status : Options → List Reading → List Reading → ℕ
-two_status options before after =
+abbrev pub two_status : Bool → Options → List Reading → List Reading → ℕ
+two_status halves options before after =
     status_of (not (is_none (refusals_of options before) && is_none (refusals_of options after)))
-    (not (is_same options (state_after options before) (state_after options after)))
+    (not (is_same halves options (state_after options before) (state_after options after)))
 
 -- ---- the input: one script, where no line divides it
-abbrev pub parts_text : Options → List ℕ → Option (List ℕ) → List ℕ
-parts_text options front None = one_text options (readings_of front)
-parts_text options front (Some back) = two_text options (readings_of front) (readings_of back)
+abbrev pub parts_text : ConnectionWords → List ℕ → Option (List ℕ) → List ℕ
+parts_text asked front None = one_text asked.options (readings_of front)
+parts_text asked front (Some back) = two_text asked.halves asked.options (readings_of front) (readings_of back)
 
-abbrev pub parts_status : Options → List ℕ → Option (List ℕ) → ℕ
-parts_status options front None = one_status options (readings_of front)
-parts_status options front (Some back) = two_status options (readings_of front) (readings_of back)
+abbrev pub parts_status : ConnectionWords → List ℕ → Option (List ℕ) → ℕ
+parts_status asked front None = one_status asked.options (readings_of front)
+parts_status asked front (Some back) = two_status asked.halves asked.options (readings_of front) (readings_of back)
 
 -- What is written of the input, and the exit status.
-abbrev pub told_text : Options → List ℕ → List ℕ
-told_text options input = parts_text options (parts_of input).front (parts_of input).back
+abbrev pub told_text : ConnectionWords → List ℕ → List ℕ
+told_text asked input = parts_text asked (parts_of input).front (parts_of input).back
 
-abbrev pub told_status : Options → List ℕ → ℕ
-told_status options input = parts_status options (parts_of input).front (parts_of input).back
+abbrev pub told_status : ConnectionWords → List ℕ → ℕ
+told_status asked input = parts_status asked (parts_of input).front (parts_of input).back

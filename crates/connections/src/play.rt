@@ -12,14 +12,14 @@ ghost use Rattle.connections.specs.Told.{told_text};
 use crate::source::input_of;
 use crate::status::RunEnd;
 use crate::tell::tell;
-use pol_command_line::{WordsError, read_options};
+use pol_command_line::{ConnectionWords, WordsError, read_options};
 use pol_data::Memory;
-use pol_model::Options;
 use pol_streams::{Failed, Sink, Source, write_all};
 use std::alloc::Global;
 
 /// Reads a script from the source, or two with the line `--` between them, and writes which connections are open at its end,
-/// or which open and shut from the end of the first to that of the second; before that, what of them was refused.
+/// or which open and shut from the end of the first to that of the second, or of which a half changes, where halves are asked
+/// for; before that, what of them was refused.
 ///
 /// Words that don't fit are status `Usage`, and nothing is read then. The whole source is read before a line of it is
 /// (`Read`, `TooLong`), and nothing is written before all is known (`Write`). Want of memory may come at any point before the
@@ -43,13 +43,13 @@ pub fn play_connections<S: Source, K: Sink>(
     ensures at_end { IsTrue (has_read_all result) → IsAtEnd (S.left source.new) }
 
     // What is written.
-    ensures connections { IsTrue (is_answered result) → IfSome (options_given (map string_bytes words.now)) (λ options.
+    ensures connections { IsTrue (is_answered result) → IfSome (options_given (map string_bytes words.now)) (λ asked.
         IfSome (S.left source.old) (λ input.
-        WritesConnections options (K.written sink.old) (K.written sink.new) input (status_number result))) }
+        WritesConnections asked (K.written sink.old) (K.written sink.new) input (status_number result))) }
     ensures write { result ≡ RunEnd.Write → Rose (K.faults sink.old) (K.faults sink.new) }
-    ensures part { result ≡ RunEnd.Write → IfSome (options_given (map string_bytes words.now)) (λ options.
+    ensures part { result ≡ RunEnd.Write → IfSome (options_given (map string_bytes words.now)) (λ asked.
         IfSome (S.left source.old) (λ input.
-        AppendsPart (K.written sink.old) (K.written sink.new) (told_text options input))) }
+        AppendsPart (K.written sink.old) (K.written sink.new) (told_text asked input))) }
     ensures silent { IsTrue (is_silent result) → Keeps (K.written sink.old) (K.written sink.new) }
 
     // Without a fault all is written, want of memory aside.
@@ -62,18 +62,18 @@ pub fn play_connections<S: Source, K: Sink>(
     match read_options(alloc, words) {
         Err(WordsError::Misfit) => RunEnd::Usage,
         Err(WordsError::Memory) => RunEnd::Memory,
-        Ok(options) => play_source(alloc, options, source, sink),
+        Ok(asked) => play_source(alloc, asked, source, sink),
     }
 }
 
-/// The same, under these options.
+/// The same, where this is asked.
 fn play_source<S: Source, K: Sink>(
     alloc: Global,
-    options: Options,
+    asked: ConnectionWords,
     source: &mut S,
     sink: &mut K,
 ) -> RunEnd
-    requires { options.map_max ≡ None }
+    requires { asked.options.map_max ≡ None }
     ensures no_usage { result ≡ RunEnd.Usage → ⊥ }
     ensures read { result ≡ RunEnd.Read → Rose (S.faults source.old) (S.faults source.new) }
     ensures too_long { result ≡ RunEnd.TooLong → IfSome (S.left source.old) (λ input. IsTrue (is_too_long input)) }
@@ -81,10 +81,10 @@ fn play_source<S: Source, K: Sink>(
     ensures taken { ConsumesSome (S.left source.old) (S.left source.new) }
     ensures at_end { IsTrue (has_read_all result) → IsAtEnd (S.left source.new) }
     ensures connections { IsTrue (is_answered result) → IfSome (S.left source.old) (λ input.
-        WritesConnections options (K.written sink.old) (K.written sink.new) input (status_number result)) }
+        WritesConnections asked (K.written sink.old) (K.written sink.new) input (status_number result)) }
     ensures write { result ≡ RunEnd.Write → Rose (K.faults sink.old) (K.faults sink.new) }
     ensures part { result ≡ RunEnd.Write → IfSome (S.left source.old) (λ input.
-        AppendsPart (K.written sink.old) (K.written sink.new) (told_text options input)) }
+        AppendsPart (K.written sink.old) (K.written sink.new) (told_text asked input)) }
     ensures silent { IsTrue (is_silent result) → Keeps (K.written sink.old) (K.written sink.new) }
     ensures complete { DidNotRise (S.faults source.old) (S.faults source.new)
         → DidNotRise (K.faults sink.old) (K.faults sink.new)
@@ -92,23 +92,23 @@ fn play_source<S: Source, K: Sink>(
         → IsTrue (is_answered result) ⊎ (result ≡ RunEnd.Memory) }
 {
     match input_of(alloc, source) {
-        Ok(input) => write_told(alloc, options, input.as_slice(), sink),
+        Ok(input) => write_told(alloc, asked, input.as_slice(), sink),
         Err(status) => status,
     }
 }
 
 /// What is told of the input is written.
-fn write_told<K: Sink>(alloc: Global, options: Options, input: &[u8], sink: &mut K) -> RunEnd
-    requires { options.map_max ≡ None }
+fn write_told<K: Sink>(alloc: Global, asked: ConnectionWords, input: &[u8], sink: &mut K) -> RunEnd
+    requires { asked.options.map_max ≡ None }
     ensures end { IsTrue (has_read_all result) ⊎ (result ≡ RunEnd.Memory) }
     ensures write { result ≡ RunEnd.Write → Rose (K.faults sink.old) (K.faults sink.new) }
     ensures silent { result ≡ RunEnd.Memory → Keeps (K.written sink.old) (K.written sink.new) }
     ensures connections { IsTrue (is_answered result)
-        → WritesConnections options (K.written sink.old) (K.written sink.new) input.now (status_number result) }
+        → WritesConnections asked (K.written sink.old) (K.written sink.new) input.now (status_number result) }
     ensures part { result ≡ RunEnd.Write
-        → AppendsPart (K.written sink.old) (K.written sink.new) (told_text options input.now) }
+        → AppendsPart (K.written sink.old) (K.written sink.new) (told_text asked input.now) }
 {
-    match tell(alloc, options, input) {
+    match tell(alloc, asked, input) {
         Err(Memory) => RunEnd::Memory,
         Ok(told) => write_text(told.text.as_slice(), told.status, sink),
     }

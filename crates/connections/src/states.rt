@@ -72,6 +72,7 @@ fn both_refused(alloc: Global, before: &[Refusal], after: &[Refusal]) -> Result<
 /// The text with what changes from one state to another behind it, and whether something does.
 fn with_change(
     alloc: Global,
+    halves: bool,
     text: Vec<u8>,
     before: &Repo,
     after: &Repo,
@@ -79,12 +80,12 @@ fn with_change(
     requires idle { before.now.prepared ≡ None }
     requires idle_after { after.now.prepared ≡ None }
     requires options { before.now.options ≡ after.now.options }
-    ensures text { IfOk result (λ told. told.0.items ≡ text.items ++ states_text after.now.options (state_in before.now) (state_in after.now)) }
-    ensures changes { IfOk result (λ told. told.1 ≡ not (is_same after.now.options (state_in before.now) (state_in after.now))) }
+    ensures text { IfOk result (λ told. told.0.items ≡ text.items ++ states_text halves after.now.options (state_in before.now) (state_in after.now)) }
+    ensures changes { IfOk result (λ told. told.1 ≡ not (is_same halves after.now.options (state_in before.now) (state_in after.now))) }
 {
     let gone = ends_alone(alloc, after, before)?;
     let new = ends_alone(alloc, before, after)?;
-    let changed = changed_connections(alloc, before, after)?;
+    let changed = changed_connections(alloc, halves, before, after)?;
     let same = gone.is_empty() && new.is_empty() && changed.is_empty();
     let text = change_text(
         alloc,
@@ -99,6 +100,7 @@ fn with_change(
 /// What is told of two states.
 pub(crate) fn two_states(
     alloc: Global,
+    halves: bool,
     before: &Repo,
     after: &Repo,
     refused_before: &[Refusal],
@@ -109,14 +111,14 @@ pub(crate) fn two_states(
     requires options { before.now.options ≡ after.now.options }
     ensures text { IfOk result (λ told. told.text.items
         ≡ refusals_text (Some ChangeSide.Before) refused_before.now ++ refusals_text (Some ChangeSide.After) refused_after.now
-        ++ states_text after.now.options (state_in before.now) (state_in after.now)) }
+        ++ states_text halves after.now.options (state_in before.now) (state_in after.now)) }
     ensures status { IfOk result (λ told. status_number told.status
         ≡ status_of (not (is_none refused_before.now && is_none refused_after.now))
-        (not (is_same after.now.options (state_in before.now) (state_in after.now)))) }
+        (not (is_same halves after.now.options (state_in before.now) (state_in after.now)))) }
     ensures answered { IfOk result (λ told. IsTrue (is_answered told.status)) }
 {
     let text = both_refused(alloc, refused_before, refused_after)?;
-    let (text, changes) = with_change(alloc, text, before, after)?;
+    let (text, changes) = with_change(alloc, halves, text, before, after)?;
     let refused = !(refused_before.is_empty() && refused_after.is_empty());
     Ok(Told {
         text,

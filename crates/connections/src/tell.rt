@@ -6,6 +6,7 @@ ghost use Rattle.connections.specs.Told.{one_status, one_text, told_status, told
 
 use crate::states::{one_state, two_states};
 use crate::status::RunEnd;
+use pol_command_line::ConnectionWords;
 use pol_compare::parts_of;
 use pol_data::Memory;
 use pol_model::Options;
@@ -22,16 +23,16 @@ pub(crate) struct Told {
 }
 
 /// What is told of the input: of one script, or of two with the line `--` between them.
-pub(crate) fn tell(alloc: Global, options: Options, input: &[u8]) -> Result<Told, Memory>
-    requires { options.map_max ≡ None }
-    ensures text { IfOk result (λ told. told.text.items ≡ told_text options input.now) }
-    ensures status { IfOk result (λ told. status_number told.status ≡ told_status options input.now) }
+pub(crate) fn tell(alloc: Global, asked: ConnectionWords, input: &[u8]) -> Result<Told, Memory>
+    requires { asked.options.map_max ≡ None }
+    ensures text { IfOk result (λ told. told.text.items ≡ told_text asked input.now) }
+    ensures status { IfOk result (λ told. status_number told.status ≡ told_status asked input.now) }
     ensures answered { IfOk result (λ told. IsTrue (is_answered told.status)) }
 {
     let (front, back) = parts_of(input);
     match back {
-        None => one_script(alloc, options, front),
-        Some(back) => two_scripts(alloc, options, front, back),
+        None => one_script(alloc, asked.options, front),
+        Some(back) => two_scripts(alloc, asked, front, back),
     }
 }
 
@@ -60,41 +61,47 @@ fn one_over(alloc: Global, repo: &mut Repo, readings: Vec<Reading>) -> Result<To
 }
 
 /// What is told of two scripts.
-fn two_scripts(alloc: Global, options: Options, front: &[u8], back: &[u8]) -> Result<Told, Memory>
-    requires { options.map_max ≡ None }
-    ensures text { IfOk result (λ told. told.text.items ≡ two_text options (readings_of front.now) (readings_of back.now)) }
-    ensures status { IfOk result (λ told. status_number told.status ≡ two_status options (readings_of front.now) (readings_of back.now)) }
+fn two_scripts(
+    alloc: Global,
+    asked: ConnectionWords,
+    front: &[u8],
+    back: &[u8],
+) -> Result<Told, Memory>
+    requires { asked.options.map_max ≡ None }
+    ensures text { IfOk result (λ told. told.text.items ≡ two_text asked.halves asked.options (readings_of front.now) (readings_of back.now)) }
+    ensures status { IfOk result (λ told. status_number told.status ≡ two_status asked.halves asked.options (readings_of front.now) (readings_of back.now)) }
     ensures answered { IfOk result (λ told. IsTrue (is_answered told.status)) }
 {
     let one = read_script(alloc, front)?;
     let other = read_script(alloc, back)?;
-    let mut before = Repo::new(alloc, options.mode, options.localhost)?;
-    two_beside(alloc, options, &mut before, one, other)
+    let mut before = Repo::new(alloc, asked.options.mode, asked.options.localhost)?;
+    two_beside(alloc, asked, &mut before, one, other)
 }
 
 /// The same, beside a repository without a request.
 fn two_beside(
     alloc: Global,
-    options: Options,
+    asked: ConnectionWords,
     before: &mut Repo,
     one: Vec<Reading>,
     other: Vec<Reading>,
 ) -> Result<Told, Memory>
     requires first { before.old.journal ≡ [] }
     requires idle { before.old.prepared ≡ None }
-    requires options { before.old.options ≡ options }
-    requires no_limit { options.map_max ≡ None }
-    ensures text { IfOk result (λ told. told.text.items ≡ two_text options one.items other.items) }
-    ensures status { IfOk result (λ told. status_number told.status ≡ two_status options one.items other.items) }
+    requires options { before.old.options ≡ asked.options }
+    requires no_limit { asked.options.map_max ≡ None }
+    ensures text { IfOk result (λ told. told.text.items ≡ two_text asked.halves asked.options one.items other.items) }
+    ensures status { IfOk result (λ told. status_number told.status ≡ two_status asked.halves asked.options one.items other.items) }
     ensures answered { IfOk result (λ told. IsTrue (is_answered told.status)) }
 {
-    let mut after = Repo::new(alloc, options.mode, options.localhost)?;
-    two_over(alloc, before, &mut after, one, other)
+    let mut after = Repo::new(alloc, asked.options.mode, asked.options.localhost)?;
+    two_over(alloc, asked.halves, before, &mut after, one, other)
 }
 
 /// The same, over two repositories without a request.
 fn two_over(
     alloc: Global,
+    halves: bool,
     before: &mut Repo,
     after: &mut Repo,
     one: Vec<Reading>,
@@ -105,14 +112,15 @@ fn two_over(
     requires idle { before.old.prepared ≡ None }
     requires idle_after { after.old.prepared ≡ None }
     requires options { before.old.options ≡ after.old.options }
-    ensures text { IfOk result (λ told. told.text.items ≡ two_text after.old.options one.items other.items) }
-    ensures status { IfOk result (λ told. status_number told.status ≡ two_status after.old.options one.items other.items) }
+    ensures text { IfOk result (λ told. told.text.items ≡ two_text halves after.old.options one.items other.items) }
+    ensures status { IfOk result (λ told. status_number told.status ≡ two_status halves after.old.options one.items other.items) }
     ensures answered { IfOk result (λ told. IsTrue (is_answered told.status)) }
 {
     let refused_before = commit_all(alloc, before, one)?;
     let refused_after = commit_all(alloc, after, other)?;
     two_states(
         alloc,
+        halves,
         before,
         after,
         refused_before.as_slice(),

@@ -6,7 +6,7 @@ use Rattle.clap.specs.Kinds.{HasKind, Kinds}
 use Rattle.clap.specs.declared.error.Error.{Error}
 use Rattle.clap.specs.declared.error.kind.ErrorKind.TheVariants as kind
 use Rattle.clap.proofs.OnLiterals.{clap_on_literals}
-use Rattle.pol_model.specs.declared.options.Options.{Options}
+use Rattle.pol_command_line.specs.declared.connections.ConnectionWords.{ConnectionWords}
 use Rattle.pol_command_line.specs.declared.WordsError.{WordsError}
 use Rattle.pol_command_line.specs.declared.WordsError.TheVariants.{Misfit}
 use Rattle.pol_command_line.specs.Options.{options_given, options_in, options_without}
@@ -41,9 +41,9 @@ pub misfitting : (words : List Text) (error : Error) → HasKind (fault_of conne
 misfitting words error has other = refused (fault_of connections_grammar words) words error has other
 
 -- what is answered for equal to equal
-pub told : (w v : Option Options) (r : Result Options WordsError) → w ≡ v → IfOk r (λ given. v ≡ Some given) → IfOk r (λ given. w ≡ Some given)
+pub told : (w v : Option ConnectionWords) (r : Result ConnectionWords WordsError) → w ≡ v → IfOk r (λ given. v ≡ Some given) → IfOk r (λ given. w ≡ Some given)
 told w v (Ok given) same is = same ∙ is
 told w v (Err error) same is = tt
 
-pub told_none : (w v : Option Options) (r : Result Options WordsError) → w ≡ v → (IsErrOf r Misfit → v ≡ None) → IsErrOf r Misfit → w ≡ None
+pub told_none : (w v : Option ConnectionWords) (r : Result ConnectionWords WordsError) → w ≡ v → (IsErrOf r Misfit → v ≡ None) → IsErrOf r Misfit → w ≡ None
 told_none w v r same none misfit = same ∙ none misfit

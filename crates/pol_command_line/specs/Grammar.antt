@@ -1,4 +1,4 @@
--- The command lines, as clap reads them: of policyd seven options, of connections two, each once at most, and no other word.
+-- The command lines, as clap reads them: of policyd seven options, of connections three, each once at most, and no other word.
 use Rattle.std.specs.Prelude.{ℕ, true, [], ◌∷◌, codes, Some}
 use Rattle.clap.specs.Words.{App, Rule, Text, new_app, new_rule, with_rule}
 use Rattle.clap.specs.Simple.{on_top}
@@ -42,5 +42,7 @@ grammar = with_rule
 
 abbrev pub connections_grammar : App
 connections_grammar = with_rule
+    (with_rule
     (with_rule (no_options (codes "connections")) (or_default (codes "default") (option (codes "enable-policy"))))
-    (or_default (codes "always") (option (codes "allow-localhost")))
+    (or_default (codes "always") (option (codes "allow-localhost"))))
+    (flag (codes "halves"))

@@ -77,9 +77,11 @@ pub fn words_that_do_not_fit()
 
 /// What some words of the program `connections` give ('profile').
 pub fn words_of_connections()
-    ensures none { options_given [] ≡ Some (record { mode = Default; localhost = true; map_max = None }) }
-    ensures both { options_given (codes "--allow-localhost=policy" ∷ codes "--enable-policy" ∷ codes "never" ∷ [])
-        ≡ Some (record { mode = Never; localhost = false; map_max = None }) }
+    ensures none { options_given [] ≡ Some (record { options = record { mode = Default; localhost = true; map_max = None }; halves = false }) }
+    ensures all { options_given (codes "--allow-localhost=policy" ∷ codes "--halves" ∷ codes "--enable-policy" ∷ codes "never" ∷ [])
+        ≡ Some (record { options = record { mode = Never; localhost = false; map_max = None }; halves = true }) }
+    ensures two_halves { options_given (codes "--halves" ∷ codes "--halves" ∷ []) ≡ None }
+    ensures halves_value { options_given (codes "--halves=true" ∷ []) ≡ None }
     ensures twice { options_given (codes "--enable-policy=always" ∷ codes "--enable-policy=always" ∷ []) ≡ None }
     ensures value { options_given (codes "--allow-localhost=never" ∷ []) ≡ None }
     ensures workers { options_given (codes "--workers=2" ∷ []) ≡ None }

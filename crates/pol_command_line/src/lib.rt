@@ -21,7 +21,7 @@ pub mod laws;
 mod limit;
 mod task;
 
-pub use connections::read_options;
+pub use connections::{ConnectionWords, read_options};
 use limit::{limit_of, map_max_in};
 pub use task::Task;
 use task::task_in;

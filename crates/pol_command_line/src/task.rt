@@ -1,8 +1,8 @@
 //! What is to be done, as the words say it.
 ghost use Rattle.std.specs.Prelude.{◌≡◌, ◌≤◌, codes, None, Some, IfOk, IfSome};
 ghost use Rattle.std.specs.Str.{bytes_eq};
-ghost use Rattle.clap.specs.Words.{found_of, rows_of};
-ghost use Rattle.pol_command_line.specs.Given.{IsInRange, audit_in, generate_in, map_in, number_in, task_in, task_of};
+ghost use Rattle.clap.specs.Words.{first_of, found_of, rows_of};
+ghost use Rattle.pol_command_line.specs.Given.{IsInRange, audit_in, generate_in, is_set, map_in, number_in, task_in, task_of};
 
 use crate::{number_in, text_in};
 use clap::ArgMatches;
@@ -65,13 +65,20 @@ fn is_true(text: &str) -> bool
     }
 }
 
-fn audit_in(matches: &ArgMatches) -> bool
-    ensures { result ≡ audit_in (rows_of (found_of matches.now)) }
+/// Whether an option without a value is given.
+pub(crate) fn is_set(matches: &ArgMatches, name: &str) -> bool
+    ensures { result ≡ is_set (first_of name.now (rows_of (found_of matches.now))) }
 {
-    match text_in(matches, "audit") {
+    match text_in(matches, name) {
         None => false,
         Some(text) => is_true(text),
     }
+}
+
+fn audit_in(matches: &ArgMatches) -> bool
+    ensures { result ≡ audit_in (rows_of (found_of matches.now)) }
+{
+    is_set(matches, "audit")
 }
 
 // What is to be done where no script is generated.

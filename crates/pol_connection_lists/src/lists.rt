@@ -23,22 +23,23 @@ pub fn open_connections(alloc: Global, repo: &Repo) -> Result<Vec<Connection>, M
 
 /// The connections that a change from the state of the first repository to that of the second opens or shuts: of each pair of ends
 /// that both have, in the order of the second, and each protocol, the ranges of ports on which the connection is open before or after
-/// and not both ('profile'). The one error is want of memory.
+/// and not both ('profile'). Where halves are told, those too on which a half has another word. The one error is want of memory.
 pub fn changed_connections(
     alloc: Global,
+    halves: bool,
     before: &Repo,
     after: &Repo,
 ) -> Result<Vec<Connection>, Memory>
     requires idle_before { before.now.prepared ≡ None }
     requires idle_after { after.now.prepared ≡ None }
     requires options { before.now.options ≡ after.now.options }
-    ensures list { IfOk result (λ list. list.items ≡ changes_of after.now.options (state_in before.now) (state_in after.now)) }
+    ensures list { IfOk result (λ list. list.items ≡ changes_of halves after.now.options (state_in before.now) (state_in after.now)) }
 {
     let own_before = OwnRows::of(alloc, before)?;
     let own_after = OwnRows::of(alloc, after)?;
     let rows_before = own_before.rows(before);
     let rows_after = own_after.rows(after);
-    maps::changed_connections(alloc, &rows_before, &rows_after)
+    maps::changed_connections(alloc, halves, &rows_before, &rows_after)
 }
 
 /// The names of ends that the state of the second repository has and that of the first hasn't, in the order of ends ('profile'). The

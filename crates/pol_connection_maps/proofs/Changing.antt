@@ -13,13 +13,14 @@ use Rattle.pol_connection_maps.specs.Lists.{changed_from, changed_list, changed_
 use Rattle.pol_connection_maps.specs.Seen.{Kept, Seen, kept_asked, seen_changed}
 use Rattle.pol_connection_maps.proofs.Alike.{Agrees, AllAgree, passed, same_asked, same_halves, same_pair}
 
-module _ (options : Options) (s t : State) (before : List End) where
+module _ (halves : Bool) (options : Options) (s t : State) (before : List End) where
   -- an end of the second state, and what is seen of it in both
   record AgreesBoth (end : End) (kept : Kept) : Type 0 where
     old : End
     found : end_of end.name before ≡ Some old
     was : Agrees options s old kept.before
     is : Agrees options t end kept.after
+    told : kept.halves ≡ halves
 
   abbrev BothAgree : List End → List Kept → Type 0
   BothAgree [] [] = Unit {0}
@@ -27,15 +28,15 @@ module _ (options : Options) (s t : State) (before : List End) where
   BothAgree _ _ = ⊥
 
   same_said : (from to : End) (kf kt : Kept) → AgreesBoth from kf → AgreesBoth to kt → (proto : Proto) (port : ℕ) → port < all_ports
-      → seen_changed kf kt proto port ≡ said_changed options s before t from to proto port
+      → seen_changed kf kt proto port ≡ said_changed halves options s before t from to proto port
   same_said from to kf kt one other proto port small =
       let was = same_halves options s one.old other.old kf.before kt.before one.was other.was proto port small in
       let now = same_halves options t from to kf.after kt.after one.is other.is proto port small in
-      (λ i. record { before = Some (was i); after = now i })
-      ∙ sym (λ i. record { before = halves_before options s (one.found i) (other.found i) proto port; after = halves_of options t from to proto port })
+      (λ i. record { before = Some (was i); after = now i; halves = one.told i })
+      ∙ sym (λ i. record { before = halves_before options s (one.found i) (other.found i) proto port; after = halves_of options t from to proto port; halves = halves })
 
   abbrev pair : End → End → List Connection
-  pair from to = pair_ranges all_ports (said_changed options s before t from to) from to
+  pair from to = pair_ranges all_ports (said_changed halves options s before t from to) from to
 
   pairs : (from : End) (kf : Kept) → AgreesBoth from kf → (ends : List End) (kept : List Kept) → BothAgree ends kept
       → flat_map (changed_pair kf) (filter (kept_asked kf) kept) ≡ flat_map (pair from) (filter (is_asked from) ends)
@@ -45,7 +46,7 @@ module _ (options : Options) (s t : State) (before : List End) where
   pairs from kf one (e ∷ es) (x ∷ xs) all =
       passed (changed_pair kf) (pair from) (kept_asked kf) (is_asked from) x e xs es
       (same_asked options t from e kf.after x.after one.is all.0.is)
-      (same_pair (seen_changed kf x) (said_changed options s before t from e) from e kf.after x.after one.is.name all.0.is.name (same_said from e kf x one all.0))
+      (same_pair (seen_changed kf x) (said_changed halves options s before t from e) from e kf.after x.after one.is.name all.0.is.name (same_said from e kf x one all.0))
       (pairs from kf one es xs all.1)
 
   froms : (ends fs : List End) (kept xs : List Kept) → BothAgree ends kept → BothAgree fs xs
@@ -78,8 +79,8 @@ module _ (options : Options) (s : State) (name : EndName) where
       by false true wrong rest = absurd (let no : ⊥ = cc in no)
       by false false _ rest = rest
 
-module _ (options : Options) (s t : State) (before : List End) (was : List Seen) (old : AllAgree options s before was) where
-  both : (ends : List End) (seen : List Seen) → AllAgree options t ends seen → BothAgree options s t before (filter (has_end before) ends) (kept_ends was seen)
+module _ (halves : Bool) (options : Options) (s t : State) (before : List End) (was : List Seen) (old : AllAgree options s before was) where
+  both : (ends : List End) (seen : List Seen) → AllAgree options t ends seen → BothAgree halves options s t before (filter (has_end before) ends) (kept_ends halves was seen)
   both [] [] all = tt
   both [] (x ∷ xs) all = absurd all
   both (e ∷ es) [] all = absurd all
@@ -88,15 +89,15 @@ module _ (options : Options) (s t : State) (before : List End) (was : List Seen)
       (subst (λ p. FoundAlike options s e.name (end_of e.name before) p) (sym (ap (λ n. seen_of n was) all.0.name)) (found options s e.name before was old))
       (both es xs all.1)
     where
-      by : (o : Option End) (p : Option Seen) → end_of e.name before ≡ o → FoundAlike options s e.name o p → BothAgree options s t before (filter (has_end before) es) (kept_ends was xs)
-          → BothAgree options s t before (cond (is_some o) (e ∷ filter (has_end before) es) (filter (has_end before) es)) (cons_option (option_map (λ (was : Seen). record { before = was; after = x }) p) (kept_ends was xs))
+      by : (o : Option End) (p : Option Seen) → end_of e.name before ≡ o → FoundAlike options s e.name o p → BothAgree halves options s t before (filter (has_end before) es) (kept_ends halves was xs)
+          → BothAgree halves options s t before (cond (is_some o) (e ∷ filter (has_end before) es) (filter (has_end before) es)) (cons_option (option_map (λ (was : Seen). record { before = was; after = x; halves = halves }) p) (kept_ends halves was xs))
       by None None is alike rest = rest
       by None (Some q) is alike rest = absurd alike
       by (Some d) None is alike rest = absurd alike
-      by (Some d) (Some q) is alike rest = (record { old = d; found = is; was = alike; is = all.0 }, rest)
+      by (Some d) (Some q) is alike rest = (record { old = d; found = is; was = alike; is = all.0; told = refl }, rest)
 
   pub changed : (ends : List End) (seen : List Seen) → AllAgree options t ends seen
-      → changed_list (kept_ends was seen) ≡ all_ranges all_ports (said_changed options s before t) (filter (has_end before) ends)
+      → changed_list (kept_ends halves was seen) ≡ all_ranges all_ports (said_changed halves options s before t) (filter (has_end before) ends)
   changed ends seen all =
       let all_both = both ends seen all in
-      froms options s t before (filter (has_end before) ends) (filter (has_end before) ends) (kept_ends was seen) (kept_ends was seen) all_both all_both
+      froms halves options s t before (filter (has_end before) ends) (filter (has_end before) ends) (kept_ends halves was seen) (kept_ends halves was seen) all_both all_both

@@ -12,3 +12,5 @@ pub mod Same
 pub mod Turns
 pub mod Lookup
 pub mod Shared
+pub mod Firsts
+pub mod Around

@@ -1,5 +1,5 @@
 -- The open connections by the maps are those by the scan.
-use Rattle.std.proofs.Common.{◌≡◌, List, [], ◌∷◌, ◌++◌, filter, None, refl}
+use Rattle.std.proofs.Common.{◌≡◌, false, List, [], ◌∷◌, ◌++◌, filter, None, refl}
 use Rattle.std.specs.List.{flat_map}
 use Rattle.pol_model.specs.declared.options.Options.{Options}
 use Rattle.pol_model.specs.State.{State}
@@ -23,7 +23,7 @@ module _ (options : Options) (s : State) where
   open_pairs from sf one (e ∷ es) (x ∷ xs) all =
       passed (open_pair sf) (pair from) (seen_asked sf) (is_asked from) x e xs es (same_asked options s from e sf x one all.0)
       (same_pair (seen_alone sf x) (said_alone options s from e) from e sf x one.name all.0.name
-      (λ proto port small i. record { before = None; after = same_halves options s from e sf x one all.0 proto port small i }))
+      (λ proto port small i. record { before = None; after = same_halves options s from e sf x one all.0 proto port small i; halves = false }))
       (open_pairs from sf one es xs all.1)
 
   open_froms : (ends fs : List End) (seen xs : List Seen) → AllAgree options s ends seen → AllAgree options s fs xs

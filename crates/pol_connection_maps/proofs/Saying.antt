@@ -1,5 +1,5 @@
 -- What is found in the maps of two ends is what these say of a port.
-use Rattle.std.proofs.Common.{◌≡◌, ℕ, ◌<◌, List, Some, None, ap, ◌∙◌}
+use Rattle.std.proofs.Common.{◌≡◌, ℕ, ◌<◌, Bool, false, List, Some, None, ap, ◌∙◌}
 use Rattle.pol_ports.specs.declared.Direction.TheVariants.{Ingress, Egress}
 use Rattle.pol_ports.specs.declared.Proto.{Proto}
 use Rattle.pol_audit.specs.declared.difference.Difference.{Difference}
@@ -22,9 +22,9 @@ module _ (from to f t : Seen) (proto : Proto) (one : f ≡ from) (other : t ≡ 
 pub alone_ranges : (from to : Seen) (proto : Proto) (sent received : List Difference) → ((port : ℕ) → port < 65536 → halves_at sent received port ≡ seen_halves from to proto port)
     → ranges (open_at sent received) ≡ ranges (seen_alone from to proto)
 alone_ranges from to proto sent received same =
-    same_ranges (open_at sent received) (seen_alone from to proto) (λ port small i. record { before = None; after = same port small i })
+    same_ranges (open_at sent received) (seen_alone from to proto) (λ port small i. record { before = None; after = same port small i; halves = false })
 
-pub both_ranges : (from to : Kept) (proto : Proto) (s0 r0 s r : List Difference) → ((port : ℕ) → port < 65536 → halves_at s0 r0 port ≡ seen_halves from.before to.before proto port)
-    → ((port : ℕ) → port < 65536 → halves_at s r port ≡ seen_halves from.after to.after proto port) → ranges (changed_at s0 r0 s r) ≡ ranges (seen_changed from to proto)
-both_ranges from to proto s0 r0 s r was now =
-    same_ranges (changed_at s0 r0 s r) (seen_changed from to proto) (λ port small i. record { before = Some (was port small i); after = now port small i })
+pub both_ranges : (from to : Kept) (proto : Proto) (halves : Bool) (s0 r0 s r : List Difference) → halves ≡ from.halves → ((port : ℕ) → port < 65536 → halves_at s0 r0 port ≡ seen_halves from.before to.before proto port)
+    → ((port : ℕ) → port < 65536 → halves_at s r port ≡ seen_halves from.after to.after proto port) → ranges (changed_at halves s0 r0 s r) ≡ ranges (seen_changed from to proto)
+both_ranges from to proto halves s0 r0 s r told was now =
+    same_ranges (changed_at halves s0 r0 s r) (seen_changed from to proto) (λ port small i. record { before = Some (was port small i); after = now port small i; halves = told i })

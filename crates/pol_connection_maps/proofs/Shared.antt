@@ -108,15 +108,16 @@ alike_alone x y same = record {
 }
 
 -- an end by that name, of these numbers and entries
-abbrev kept_of : Kept → ℕ → Option (List Entry) → ℕ → Option (List Entry) → Kept
-kept_of end m before n after = record {
+abbrev kept_of : Kept → Bool → ℕ → Option (List Entry) → ℕ → Option (List Entry) → Kept
+kept_of end halves m before n after = record {
   before = record { name = end.before.name; number = m; entries = before };
   after = record { name = end.after.name; number = n; entries = after };
+  halves = halves;
 }
 
 pub alike_changed : (x y : Kept) → (x.before.number ≡ y.before.number) × (x.before.entries ≡ y.before.entries) → (x.after.number ≡ y.after.number) × (x.after.entries ≡ y.after.entries)
-    → AreAlike telling_changed x y
-alike_changed x y was is = record {
-  from = λ end i. ports_between telling_changed (kept_of x (was.0 i) (was.1 i) (is.0 i) (is.1 i)) end;
-  to = λ end i. ports_between telling_changed end (kept_of x (was.0 i) (was.1 i) (is.0 i) (is.1 i));
+    → x.halves ≡ y.halves → AreAlike telling_changed x y
+alike_changed x y was is told = record {
+  from = λ end i. ports_between telling_changed (kept_of x (told i) (was.0 i) (was.1 i) (is.0 i) (is.1 i)) end;
+  to = λ end i. ports_between telling_changed end (kept_of x (told i) (was.0 i) (was.1 i) (is.0 i) (is.1 i));
 }

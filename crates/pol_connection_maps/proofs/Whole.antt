@@ -1,5 +1,5 @@
 -- The lists by the rows of states are those of the definitions.
-use Rattle.std.proofs.Common.{◌≡◌, not, List, map, filter, ap, ◌∙◌}
+use Rattle.std.proofs.Common.{◌≡◌, not, Bool, List, map, filter, ap, ◌∙◌}
 use Rattle.pol_addr.specs.declared.network.Prefix.{Prefix}
 use Rattle.pol_model.specs.declared.options.Options.{Options}
 use Rattle.pol_model.specs.State.{State}
@@ -28,15 +28,15 @@ open_is rows regions ends list is seen made options s are keeps =
     made ∙ opened options s (ends_of regions s) ends (peopled options s rows regions ends keeps are seen)
     ∙ ap (λ (r : List Prefix). all_ranges all_ports (said_alone options s) (ends_of r s)) (is ∙ (λ i. regions_of (are.identities i) (are.identities i)))
 
-pub change_is : (before after : StateRows) (regions : List Prefix) (was now : List Seen) (kept : List Kept) (list : List Connection)
-    → regions ≡ regions_of before.identities.now after.identities.now → AreSeenOf before regions was → AreSeenOf after regions now → kept ≡ kept_ends was now → list ≡ changed_list kept
-    → (options : Options) (s t : State) → AreRowsOf options s before → AreRowsOf options t after → Keeps s → Keeps t → list ≡ changes_of options s t
+pub change_is : (halves : Bool) (before after : StateRows) (regions : List Prefix) (was now : List Seen) (kept : List Kept) (list : List Connection)
+    → regions ≡ regions_of before.identities.now after.identities.now → AreSeenOf before regions was → AreSeenOf after regions now → kept ≡ kept_ends halves was now → list ≡ changed_list kept
+    → (options : Options) (s t : State) → AreRowsOf options s before → AreRowsOf options t after → Keeps s → Keeps t → list ≡ changes_of halves options s t
 unfolding changes_below
-change_is before after regions was now kept list is seen_before seen_after both made options s t are_before are_after keeps_before keeps_after =
+change_is halves before after regions was now kept list is seen_before seen_after both made options s t are_before are_after keeps_before keeps_after =
     made ∙ ap changed_list both
-    ∙ changed options s t (ends_of regions s) was (peopled options s before regions was keeps_before are_before seen_before)
+    ∙ changed halves options s t (ends_of regions s) was (peopled options s before regions was keeps_before are_before seen_before)
     (ends_of regions t) now (peopled options t after regions now keeps_after are_after seen_after)
-    ∙ ap (λ (r : List Prefix). all_ranges all_ports (said_changed options s (ends_of r s) t) (filter (has_end (ends_of r s)) (ends_of r t)))
+    ∙ ap (λ (r : List Prefix). all_ranges all_ports (said_changed halves options s (ends_of r s) t) (filter (has_end (ends_of r s)) (ends_of r t)))
     (is ∙ (λ i. regions_of (are_before.identities i) (are_after.identities i)))
 
 pub alone_is : (one other : StateRows) (regions : List Prefix) (first second : List EndRow) (names : List EndName)

@@ -1,8 +1,6 @@
 -- The ends of a state as rows: who each is, its number, and whether it has a policy of its own.
-use Rattle.std.specs.Prelude.{ℕ, ◌++◌, true, false, List, map, filter, is_some, Option, None, Some, if◌then◌else◌}
+use Rattle.std.specs.Prelude.{ℕ, ◌++◌, true, false, List, map, filter, is_some}
 use Rattle.pol_addr.specs.declared.network.Prefix.{Prefix}
-use Rattle.pol_addr.specs.Longest.{longer}
-use Rattle.pol_addr.specs.Prefix.{covers}
 use Rattle.pol_model.specs.declared.row.Endpoint.{Endpoint}
 use Rattle.pol_model.specs.declared.row.IdentityRow.{IdentityRow}
 use Rattle.pol_model.specs.declared.row.NamedIdentity.{NamedIdentity}
@@ -39,12 +37,3 @@ end_rows rows regions =
     ++ map named_row rows.named.now
     ++ map alone_row (filter stands_alone rows.identities.now)
     ++ map (region_row rows.identities.now) regions
-
--- ---- the longest prefix around a region, row by row
--- the better of a row's prefix, if that covers the region, and the best of the others
-abbrev pub over_prefix : Prefix → ℕ → Option Prefix → Option (Prefix × ℕ) → Option (Prefix × ℕ)
-over_prefix region number None best = best
-over_prefix region number (Some prefix) best = if covers prefix region then longer (prefix, number) best else best
-
-abbrev pub over_row : Prefix → IdentityRow → Option (Prefix × ℕ) → Option (Prefix × ℕ)
-over_row region row best = over_prefix region row.number row.prefix best

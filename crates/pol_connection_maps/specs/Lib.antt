@@ -5,3 +5,4 @@ pub mod EndRows
 pub mod Seen
 pub mod Lists
 pub mod Telling
+pub mod Named

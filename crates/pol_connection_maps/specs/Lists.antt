@@ -52,12 +52,12 @@ changed_list ends = flat_map (changed_from ends) ends
 abbrev pub seen_of : EndName → List Seen → Option Seen
 seen_of name ends = find (λ end. same_name end.name name) ends
 
-abbrev pub kept_end : List Seen → Seen → Option Kept
-kept_end before end = option_map (λ old. record { before = old; after = end }) (seen_of end.name before)
+abbrev pub kept_end : Bool → List Seen → Seen → Option Kept
+kept_end halves before end = option_map (λ old. record { before = old; after = end; halves = halves }) (seen_of end.name before)
 
 -- the ends that both states have, in the order of the second
-abbrev pub kept_ends : List Seen → List Seen → List Kept
-kept_ends before after = filter_map (kept_end before) after
+abbrev pub kept_ends : Bool → List Seen → List Seen → List Kept
+kept_ends halves before after = filter_map (kept_end halves before) after
 
 -- ---- names
 -- whether some row has the name

@@ -1,5 +1,5 @@
 -- Ends with the entries of their maps, and what these say of a pair.
-use Rattle.std.specs.Prelude.{ℕ, ◌≡◌, not, ◌&&◌, Bool, List, Option, None, Some, is_some, if◌then◌else◌}
+use Rattle.std.specs.Prelude.{ℕ, ◌≡◌, not, ◌&&◌, Bool, false, List, Option, None, Some, is_some, if◌then◌else◌}
 use Rattle.pol_ports.specs.declared.Direction.{Direction}
 use Rattle.pol_ports.specs.declared.Direction.TheVariants.{Ingress, Egress}
 use Rattle.pol_ports.specs.declared.Proto.{Proto}
@@ -21,10 +21,11 @@ pub record Seen : Type 0 where
 abbrev pub seen_row : List NumberEntries → EndRow → Seen
 seen_row maps row = record { name = row.name; number = row.number; entries = if row.own then entries_at row.number maps else None }
 
--- an end that both states have
+-- an end that both states have, and whether a change of its connections is told of each half
 pub record Kept : Type 0 where
   pub before : Seen
   pub after : Seen
+  pub halves : Bool
 
 -- ---- what two ends say of a port
 abbrev pub seen_half : Option (List Entry) → Direction → ℕ → Proto → ℕ → Word
@@ -38,12 +39,13 @@ seen_halves from to proto port = record {
 }
 
 abbrev pub seen_alone : Seen → Seen → Proto → ℕ → PortSaid
-seen_alone from to proto port = record { before = None; after = seen_halves from to proto port }
+seen_alone from to proto port = record { before = None; after = seen_halves from to proto port; halves = false }
 
 abbrev pub seen_changed : Kept → Kept → Proto → ℕ → PortSaid
 seen_changed from to proto port = record {
   before = Some (seen_halves from.before to.before proto port);
   after = seen_halves from.after to.after proto port;
+  halves = from.halves;
 }
 
 -- a connection between two ends without policies isn't asked

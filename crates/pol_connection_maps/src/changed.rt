@@ -1,4 +1,4 @@
-//! The connections that a change opens or shuts.
+//! The connections that a change opens or shuts, or of which it changes a half.
 ghost use Rattle.std.specs.Prelude.{◌≡◌, IfOk};
 ghost use Rattle.pol_port_ranges.specs.Ranges.{ranges};
 ghost use Rattle.pol_connection_maps.specs.Lists.{changed_list};
@@ -16,7 +16,7 @@ use pol_ports::{Direction, Proto};
 use pol_shut_ports::changed_ranges;
 use std::alloc::Global;
 
-/// The ranges of ports of the protocol on which a connection of the two ends opens or shuts.
+/// The ranges of ports of the protocol on which a change is told of a connection of the two ends.
 fn ranges_changed(
     alloc: Global,
     from: &KeptEnd<'_>,
@@ -31,7 +31,14 @@ fn ranges_changed(
     let received_before = was_to.at(Direction::Ingress, was_from.number(), proto);
     let sent = is_from.at(Direction::Egress, is_to.number(), proto);
     let received = is_to.at(Direction::Ingress, is_from.number(), proto);
-    changed_ranges(alloc, sent_before, received_before, sent, received)
+    changed_ranges(
+        alloc,
+        from.by_halves(),
+        sent_before,
+        received_before,
+        sent,
+        received,
+    )
 }
 
 impl<'a> Tells for KeptEnd<'a> {
@@ -68,7 +75,7 @@ impl<'a> Tells for KeptEnd<'a> {
     }
 }
 
-/// The connections of these ends that open or shut.
+/// The connections of these ends of which a change is told.
 pub(crate) fn changed_list(alloc: Global, ends: &[KeptEnd<'_>]) -> Result<Vec<Connection>, Memory>
     ensures { IfOk result (λ list. list.items ≡ changed_list ends.now) }
 {

@@ -1,13 +1,15 @@
 //! The ends of a state.
-ghost use Rattle.std.specs.Prelude.{◌≡◌, ◌++◌, IfOk, OnOk, filter, map};
+ghost use Rattle.std.specs.Prelude.{◌≡◌, ◌++◌, IfOk, List, OnOk, filter, map};
 ghost use Rattle.std.specs.List.{IsDistinct};
 ghost use Rattle.std.specs.Str.{bytes_eq};
 ghost use Rattle.pol_connections.specs.Ends.{by_name, stands_alone};
 ghost use Rattle.pol_connection_maps.specs.EndRows.{alone_row, end_rows, endpoint_row, named_row, number_row, region_row};
+ghost use Rattle.pol_connection_maps.specs.Named.{AreNumbersOf};
 ghost use Rattle.pol_connection_maps.specs.Rows.{AreSound};
+ghost use Rattle.pol_model.specs.declared.row.IdentityRow.{IdentityRow as OneRow};
 
 use crate::names::numbers_by_name;
-use crate::regions::region_number;
+use crate::regions::{numbers_of_prefixes, region_number};
 use crate::rows::StateRows;
 use pol_addr::Prefix;
 use pol_connections::EndName;
@@ -95,18 +97,18 @@ fn push_reserved(out: &mut Vec<EndRow>, identities: &[IdentityRow]) -> Result<()
     Ok(())
 }
 
-/// Appends the regions.
+/// Appends the regions, where prefixes have these numbers.
 fn push_regions(
     out: &mut Vec<EndRow>,
-    identities: &[IdentityRow],
+    numbers: &BTreeMap<Prefix, u32>,
     regions: &[Prefix],
 ) -> Result<(), Memory>
-    ensures { OnOk result (out.new.items ≡ out.old.items ++ map (region_row identities.now) regions.now) }
+    ensures { OnOk result ((rows : List OneRow) → AreNumbersOf rows numbers.now → out.new.items ≡ out.old.items ++ map (region_row rows) regions.now) }
 {
     for region in regions {
         out.push(EndRow {
             name: EndName::Region(*region),
-            number: region_number(region, identities),
+            number: region_number(numbers, region),
             own: false,
         })?;
     }
@@ -122,10 +124,11 @@ pub(crate) fn end_rows(
     requires { AreSound rows.now }
     ensures { IfOk result (λ ends. ends.items ≡ end_rows rows.now regions.now) }
 {
+    let numbers = numbers_of_prefixes(alloc, rows.identities)?;
     let mut ends = Vec::new(alloc);
     push_endpoints(alloc, &mut ends, rows.endpoints)?;
     push_named(alloc, &mut ends, rows.named)?;
     push_reserved(&mut ends, rows.identities)?;
-    push_regions(&mut ends, rows.identities, regions)?;
+    push_regions(&mut ends, &numbers, regions)?;
     Ok(ends)
 }

@@ -1,21 +1,23 @@
 //! The ends that both states of a change have.
-ghost use Rattle.std.specs.Prelude.{◌≡◌, IfOk, IsTrue};
-ghost use Rattle.std.specs.Option.{option_copied};
-ghost use Rattle.pol_connections.specs.Ends.{same_name};
-ghost use Rattle.pol_connection_maps.specs.Lists.{kept_ends, seen_of};
-ghost use Rattle.pol_connection_maps.specs.Seen.{StayAsTheyAre};
+ghost use Rattle.std.specs.Prelude.{◌≡◌, IfOk, IsTrue, List};
+ghost use Rattle.pol_connection_maps.specs.Lists.{kept_ends};
+ghost use Rattle.pol_connection_maps.specs.Named.{AreFirsts};
+ghost use Rattle.pol_connection_maps.specs.Seen.{Seen as OneSeen, StayAsTheyAre};
 
 use crate::end_map::EndMap;
+use crate::named::{IsNamed, first_named, firsts_of};
 use pol_connections::EndName;
 use pol_data::Memory;
 use std::alloc::Global;
+use std::collections::BTreeMap;
 use std::marker::Model;
 
-/// An end before and after a change. A contract sees the two.
+/// An end before and after a change, and whether the change is told of each half. A contract sees the three.
 #[derive(Drop)]
 pub(crate) struct KeptEnd<'a> {
     before: &'a EndMap,
     after: &'a EndMap,
+    halves: bool,
     same: bool,
 }
 
@@ -25,40 +27,29 @@ impl<'a> Model for KeptEnd<'a> {
 
     ghost Value = { Kept };
 
-    ghost view = { λ kept. record { before = kept.before.now; after = kept.after.now } };
+    ghost view = { λ kept. record { before = kept.before.now; after = kept.after.now; halves = kept.halves } };
 
-    ghost invariant = { λ kept. IsTrue kept.same → IsAsItWas (record { before = kept.before.now; after = kept.after.now }) };
+    ghost invariant = { λ kept. IsTrue kept.same → IsAsItWas (record { before = kept.before.now; after = kept.after.now; halves = kept.halves }) };
 }
 
-/// Whether both are the name of one end.
-pub(crate) fn same_name(one: &EndName, other: &EndName) -> bool
-    ensures { result ≡ same_name one.now other.now }
-{
-    match (one, other) {
-        (EndName::Endpoint(a), EndName::Endpoint(b)) => *a == *b,
-        (EndName::Identity(a), EndName::Identity(b)) => *a == *b,
-        (EndName::Reserved(a), EndName::Reserved(b)) => *a == *b,
-        (EndName::Region(a), EndName::Region(b)) => *a == *b,
-        _ => false,
+impl IsNamed for EndMap {
+    ghost name_of = { λ end. end.name };
+
+    fn own_name(&self) -> &EndName {
+        self.name()
     }
-}
-
-/// The end of that name.
-fn end_of<'a>(name: &EndName, ends: &'a [EndMap]) -> Option<&'a EndMap>
-    ensures { option_copied result ≡ seen_of name.now ends.now }
-{
-    ends.iter().find(|end| same_name(end.name(), name))
 }
 
 impl<'a> KeptEnd<'a> {
     /// An end before and after a change.
-    fn new(before: &'a EndMap, after: &'a EndMap) -> KeptEnd<'a>
-        ensures { result ≡ record { before = before.now; after = after.now } }
+    fn new(before: &'a EndMap, after: &'a EndMap, halves: bool) -> KeptEnd<'a>
+        ensures { result ≡ record { before = before.now; after = after.now; halves = halves } }
     {
         let same = before.is_same(after);
         KeptEnd {
             before,
             after,
+            halves,
             same,
         }
     }
@@ -77,12 +68,22 @@ impl<'a> KeptEnd<'a> {
         self.after
     }
 
-    /// Whether both were seen by one number and had the same map or none, and so after the change.
+    /// Whether the change is told of each half.
+    pub(crate) fn by_halves(&self) -> bool
+        ensures { result ≡ self.now.halves }
+    {
+        self.halves
+    }
+
+    /// Whether both were seen by one number and had the same map or none, and so after the change, which is told alike of both.
     pub(crate) fn is_same(&self, other: &KeptEnd<'_>) -> bool
         ensures before { IsTrue result → (self.now.before.number ≡ other.now.before.number) × (self.now.before.entries ≡ other.now.before.entries) }
         ensures after { IsTrue result → (self.now.after.number ≡ other.now.after.number) × (self.now.after.entries ≡ other.now.after.entries) }
+        ensures halves { IsTrue result → self.now.halves ≡ other.now.halves }
     {
-        self.before.is_same(other.before) && self.after.is_same(other.after)
+        self.halves == other.halves
+            && self.before.is_same(other.before)
+            && self.after.is_same(other.after)
     }
 
     /// Whether nothing that is said of connections of the two ends changes.
@@ -93,19 +94,33 @@ impl<'a> KeptEnd<'a> {
     }
 }
 
-/// The ends of the second state that the first one has too.
-pub(crate) fn kept_ends<'a>(
+/// The ends that are among these by their names, and whether the change is told of each half.
+fn kept_among<'a>(
     alloc: Global,
-    before: &'a [EndMap],
+    halves: bool,
+    firsts: &BTreeMap<EndName, &'a EndMap>,
     after: &'a [EndMap],
 ) -> Result<Vec<KeptEnd<'a>>, Memory>
-    ensures { IfOk result (λ kept. kept.items ≡ kept_ends before.now after.now) }
+    ensures { IfOk result (λ kept. (before : List OneSeen) → AreFirsts (λ end. end.name) before firsts.now → kept.items ≡ kept_ends halves before after.now) }
 {
     let mut kept = Vec::new(alloc);
     for end in after {
-        if let Some(old) = end_of(end.name(), before) {
-            kept.push(KeptEnd::new(old, end))?;
+        if let Some(old) = first_named(firsts, end.name()) {
+            kept.push(KeptEnd::new(old, end, halves))?;
         }
     }
     Ok(kept)
+}
+
+/// The ends of the second state that the first one has too, and whether the change is told of each half.
+pub(crate) fn kept_ends<'a>(
+    alloc: Global,
+    halves: bool,
+    before: &'a [EndMap],
+    after: &'a [EndMap],
+) -> Result<Vec<KeptEnd<'a>>, Memory>
+    ensures { IfOk result (λ kept. kept.items ≡ kept_ends halves before.now after.now) }
+{
+    let firsts = firsts_of(alloc, before)?;
+    kept_among(alloc, halves, &firsts, after)
 }

@@ -12,6 +12,7 @@ mod kept;
 mod kinds;
 mod lists;
 mod maps;
+mod named;
 mod names;
 mod number;
 mod open;

@@ -46,20 +46,21 @@ pub fn open_connections(alloc: Global, rows: &StateRows<'_>) -> Result<Vec<Conne
 
 /// The connections that a change from a state with the first rows to one with the second opens or shuts: of each pair of ends that
 /// both have, in the order of the second, and each protocol, the ranges of ports on which the connection is open before or after and
-/// not both ('profile'). The one error is want of memory.
+/// not both ('profile'). Where halves are told, those too on which a half has another word. The one error is want of memory.
 pub fn changed_connections(
     alloc: Global,
+    halves: bool,
     before: &StateRows<'_>,
     after: &StateRows<'_>,
 ) -> Result<Vec<Connection>, Memory>
     requires before { AreSound before.now }
     requires after { AreSound after.now }
-    ensures { IfOk result (λ list. (options : Options) (s t : State) → AreRowsOf options s before.now → AreRowsOf options t after.now → Keeps s → Keeps t → list.items ≡ changes_of options s t) }
+    ensures { IfOk result (λ list. (options : Options) (s t : State) → AreRowsOf options s before.now → AreRowsOf options t after.now → Keeps s → Keeps t → list.items ≡ changes_of halves options s t) }
 {
     let regions = regions_of(alloc, before.identities, after.identities)?;
     let ends_before = ends_of(alloc, before, &regions)?;
     let ends_after = ends_of(alloc, after, &regions)?;
-    let kept = kept_ends(alloc, &ends_before, &ends_after)?;
+    let kept = kept_ends(alloc, halves, &ends_before, &ends_after)?;
     changed_list(alloc, &kept)
 }
 

@@ -1,15 +1,16 @@
 //! Regions of addresses, and their numbers.
-ghost use Rattle.std.specs.Prelude.{◌≡◌, ◌++◌, Some, IfOk, OnOk};
+ghost use Rattle.std.specs.Prelude.{◌≡◌, ◌≤◌, ◌∷◌, ◌++◌, List, IfOk, OnOk, option_map};
+ghost use Rattle.pol_addr.specs.Prefix.{prefix_of};
 ghost use Rattle.pol_connections.specs.Regions.{held_prefixes, longest_over, prefixes_in_order, region_number, regions_of};
-ghost use Rattle.pol_addr.specs.Longest.{longer};
 ghost use Rattle.pol_model.specs.Remote.{numbered_prefixes};
-ghost use Rattle.pol_connection_maps.specs.EndRows.{over_row};
+ghost use Rattle.pol_model.specs.declared.row.IdentityRow.{IdentityRow as OneRow};
+ghost use Rattle.pol_connection_maps.specs.Named.{AreNumbersOf, number_of};
 
 use pol_addr::Prefix;
 use pol_data::Memory;
 use pol_model::{IdentityRow, world_identity_of};
 use std::alloc::Global;
-use std::collections::BTreeSet;
+use std::collections::{BTreeMap, BTreeSet};
 
 /// Appends the prefixes that have rows.
 fn push_held(out: &mut Vec<Prefix>, identities: &[IdentityRow]) -> Result<(), Memory>
@@ -49,47 +50,57 @@ pub(crate) fn regions_of(
     ordered.iter().copied().collect(alloc)
 }
 
-/// The longer of a prefix with its number and the best of the others.
-fn longer(prefix: Prefix, number: u32, best: Option<(Prefix, u32)>) -> (Prefix, u32)
-    ensures { Some result ≡ longer (prefix, number) best }
+/// Puts the number of the row at its prefix, if it has one.
+fn put_number(numbers: &mut BTreeMap<Prefix, u32>, row: &IdentityRow) -> Result<(), Memory>
+    ensures { OnOk result ((rows : List OneRow) → AreNumbersOf rows numbers.old → AreNumbersOf (row.now ∷ rows) numbers.new) }
 {
-    match best {
-        Some(other) if prefix.len() < other.0.len() => other,
-        _ => (prefix, number),
+    if let Some(prefix) = row.prefix {
+        numbers.insert(prefix, row.number)?;
     }
+    Ok(())
 }
 
-/// The better of a row's prefix, if that covers the region, and the best of the others.
-fn over_row(
-    region: &Prefix,
-    row: &IdentityRow,
-    best: Option<(Prefix, u32)>,
-) -> Option<(Prefix, u32)>
-    ensures { result ≡ over_row region.now row.now best }
+/// The number of each prefix that has rows, by the first of them.
+pub(crate) fn numbers_of_prefixes(
+    alloc: Global,
+    identities: &[IdentityRow],
+) -> Result<BTreeMap<Prefix, u32>, Memory>
+    ensures { IfOk result (AreNumbersOf identities.now) }
 {
-    match row.prefix {
-        Some(prefix) if prefix.covers(region) => Some(longer(prefix, row.number, best)),
-        _ => best,
-    }
-}
-
-/// The longest prefix that has a row and covers the region, with its number.
-fn longest_over(region: &Prefix, identities: &[IdentityRow]) -> Option<(Prefix, u32)>
-    ensures { result ≡ longest_over region.now (numbered_prefixes identities.now) }
-{
-    let mut best = None;
+    let mut numbers = BTreeMap::new(alloc);
     for i in (0..identities.len()).rev() {
-        best = over_row(region, &identities[i], best);
+        put_number(&mut numbers, &identities[i])?;
     }
-    best
+    Ok(numbers)
+}
+
+/// The number of the prefix of this length around a region, if it has a row.
+fn number_around(numbers: &BTreeMap<Prefix, u32>, region: &Prefix, len: u8) -> Option<u32>
+    requires { len ≤ region.now.len }
+    ensures { (rows : List OneRow) → AreNumbersOf rows numbers.now → result ≡ number_of (prefix_of region.now.addr len) (numbered_prefixes rows) }
+{
+    let around = Prefix::new(region.network(), len);
+    numbers.get(&around).copied()
+}
+
+/// The number of the longest prefix around a region that has a row.
+fn longest_number(numbers: &BTreeMap<Prefix, u32>, region: &Prefix) -> Option<u32>
+    ensures { (rows : List OneRow) → AreNumbersOf rows numbers.now → result ≡ option_map (λ e. e.1) (longest_over region.now (numbered_prefixes rows)) }
+{
+    for len in (0..region.len() + 1).rev() {
+        if let Some(number) = number_around(numbers, region, len) {
+            return Some(number);
+        }
+    }
+    None
 }
 
 /// The number that the addresses of a region have: that of the longest prefix around it that has a row.
-pub(crate) fn region_number(region: &Prefix, identities: &[IdentityRow]) -> u32
-    ensures { result ≡ region_number region.now identities.now }
+pub(crate) fn region_number(numbers: &BTreeMap<Prefix, u32>, region: &Prefix) -> u32
+    ensures { (rows : List OneRow) → AreNumbersOf rows numbers.now → result ≡ region_number region.now rows }
 {
-    match longest_over(region, identities) {
-        Some((_, number)) => number,
+    match longest_number(numbers, region) {
+        Some(number) => number,
         None => world_identity_of(region.network()),
     }
 }

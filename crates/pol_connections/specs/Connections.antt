@@ -1,6 +1,6 @@
 -- Which connections are open in a state, and which open or shut with a change ('profile'; Cilium, Network Policy: a connection
 -- passes where the policy of its source and that of its target allow it).
-use Rattle.std.specs.Prelude.{ℕ, not, ◌&&◌, Bool, List, [], ◌∷◌, map, filter, is_some, Option, None, Some}
+use Rattle.std.specs.Prelude.{ℕ, not, ◌&&◌, Bool, false, List, [], ◌∷◌, map, filter, is_some, Option, None, Some}
 use Rattle.std.specs.List.{flat_map}
 use Rattle.pol_ports.specs.declared.Direction.{Direction}
 use Rattle.pol_ports.specs.declared.Direction.TheVariants.{Ingress, Egress}
@@ -54,7 +54,7 @@ all_ranges count said ends =
 
 -- ---- one state
 abbrev pub said_alone : Options → State → End → End → Proto → ℕ → PortSaid
-said_alone options s from to proto port = record { before = None; after = halves_of options s from to proto port }
+said_alone options s from to proto port = record { before = None; after = halves_of options s from to proto port; halves = false }
 
 -- The open connections of a state, at the ports below a number: for each pair of ends that is asked, and each protocol.
 unfoldable pub connections_below : ℕ → Options → State → List Connection
@@ -69,11 +69,12 @@ abbrev pub halves_before : Options → State → Option End → Option End → P
 halves_before options s (Some from) (Some to) proto port = Some (halves_of options s from to proto port)
 halves_before options s _ _ proto port = None
 
--- The two ends of a pair in the state before are those of the same names.
-abbrev pub said_changed : Options → State → List End → State → End → End → Proto → ℕ → PortSaid
-said_changed options s ends t from to proto port = record {
+-- The two ends of a pair in the state before are those of the same names. It may be asked that a change is told of each half.
+abbrev pub said_changed : Bool → Options → State → List End → State → End → End → Proto → ℕ → PortSaid
+said_changed halves options s ends t from to proto port = record {
   before = halves_before options s (end_of from.name ends) (end_of to.name ends) proto port;
   after = halves_of options t from to proto port;
+  halves = halves;
 }
 
 -- whether an end of the name is among these
@@ -81,15 +82,15 @@ abbrev pub has_end : List End → End → Bool
 has_end ends end = is_some (end_of end.name ends)
 
 -- Which connections a change from one state to another opens or shuts, at the ports below a number: of each pair of ends that
--- both states have.
-unfoldable pub changes_below : ℕ → Options → State → State → List Connection
-changes_below count options s t =
+-- both states have. Where halves are told, those too of which a half has another word, though they stay open or shut.
+unfoldable pub changes_below : ℕ → Bool → Options → State → State → List Connection
+changes_below count halves options s t =
     let regions = regions_of s.identities t.identities in
     let before = ends_of regions s in
-    all_ranges count (said_changed options s before t) (filter (has_end before) (ends_of regions t))
+    all_ranges count (said_changed halves options s before t) (filter (has_end before) (ends_of regions t))
 
-abbrev pub changes_of : Options → State → State → List Connection
-changes_of options s t = changes_below all_ports options s t
+abbrev pub changes_of : Bool → Options → State → State → List Connection
+changes_of halves options s t = changes_below all_ports halves options s t
 
 -- the names of ends of the second state that the first doesn't have
 unfoldable pub ends_alone : State → State → List EndName

@@ -1,5 +1,5 @@
 -- Small scripts, for the laws that compute.
-use Rattle.std.specs.Prelude.{ℕ, ◌==◌, false, List, [], ◌∷◌, ◌++◌, codes, find, None, Some}
+use Rattle.std.specs.Prelude.{ℕ, ◌==◌, true, false, List, [], ◌∷◌, ◌++◌, codes, find, None, Some}
 use Rattle.std.specs.Option.{option_map_or}
 use Rattle.pol_addr.specs.Address.{addr_of_groups, addr_of_octets}
 use Rattle.pol_addr.specs.declared.address.Addr.TheVariants.{V6}
@@ -89,7 +89,11 @@ withholds of_app p ports = Apply (record {
 
 -- ---- what changes, at the ports below a number
 abbrev pub opened_below : ℕ → List Request → List Request → List Connection
-opened_below count before after = changes_below count ordinary (state_of ordinary before) (state_of ordinary after)
+opened_below count before after = changes_below count false ordinary (state_of ordinary before) (state_of ordinary after)
+
+-- what of a half changes
+abbrev pub turned_below : ℕ → List Request → List Request → List Connection
+turned_below count before after = changes_below count true ordinary (state_of ordinary before) (state_of ordinary after)
 
 -- the names that come
 abbrev pub names_new : List Request → List Request → List EndName
@@ -101,16 +105,24 @@ halves sent received = record { sent = sent; received = received }
 -- a change at these ports of a protocol
 abbrev pub change : EndName → EndName → Proto → ℕ → ℕ → Halves → Halves → Connection
 change from to proto first last before after =
-    record { from = from; to = to; proto = proto; range = range first last (record { before = Some before; after = after }) }
+    record { from = from; to = to; proto = proto; range = range first last (record { before = Some before; after = after; halves = false }) }
+
+-- the same, where halves are told
+abbrev pub turn : EndName → EndName → Proto → ℕ → ℕ → Halves → Halves → Connection
+turn from to proto first last before after =
+    record { from = from; to = to; proto = proto; range = range first last (record { before = Some before; after = after; halves = true }) }
 
 -- the same, at TCP ports between two endpoints
 abbrev pub tcp_change : List ℕ → List ℕ → ℕ → ℕ → Halves → Halves → Connection
 tcp_change from to first last before after = change (name.Endpoint from) (name.Endpoint to) Tcp first last before after
 
+abbrev pub tcp_turn : List ℕ → List ℕ → ℕ → ℕ → Halves → Halves → Connection
+tcp_turn from to first last before after = turn (name.Endpoint from) (name.Endpoint to) Tcp first last before after
+
 -- open TCP ports, in a state alone
 abbrev pub tcp_open : EndName → EndName → ℕ → ℕ → Halves → Connection
 tcp_open from to first last now =
-    record { from = from; to = to; proto = Tcp; range = range first last (record { before = None; after = now }) }
+    record { from = from; to = to; proto = Tcp; range = range first last (record { before = None; after = now; halves = false }) }
 
 -- ---- scripts
 abbrev pub a : List ℕ

@@ -7,8 +7,8 @@ use pol_port_ranges::Range;
 use pol_ports::Proto;
 use std::alloc::Global;
 
-/// Who an end of a connection is ('profile').
-#[derive(Debug, Drop)]
+/// Who an end of a connection is ('profile'). The order is that of a table of names, and not that of the ends of a state.
+#[derive(Debug, PartialEq, Eq, PartialOrd, Ord, Drop)]
 pub enum EndName {
     /// The endpoint of that name.
     Endpoint(Text),

@@ -18,7 +18,7 @@ ghost use Rattle.pol_ports.specs.declared.Proto.TheVariants.{Tcp};
 ghost use Rattle.pol_rule.specs.declared.policy.Entity.TheVariants as entity;
 ghost use Rattle.pol_connections.specs.declared.end.EndName.TheVariants as name;
 ghost use Rattle.pol_connections.specs.Connections.{halves_of};
-ghost use Rattle.pol_connections.specs.Examples.{a, alike, b, b_receives, b_receives_but, by_policy, change, closed, first_end, halves, host, low6, names_new, net, net6, opened_below, pod, pods_of, refuses, second_end, sends_out, tcp, tcp_change, to_world, to_world_but, two_pods, with_new};
+ghost use Rattle.pol_connections.specs.Examples.{a, alike, b, b_receives, b_receives_but, by_policy, change, closed, first_end, halves, host, low6, names_new, net, net6, opened_below, pod, pods_of, refuses, second_end, sends_out, tcp, tcp_change, tcp_turn, turned_below, to_world, to_world_but, two_pods, with_new};
 ghost use Rattle.pol_connections.specs.Ends.{stands_alone};
 ghost use Rattle.pol_connections.specs.Regions.{held_prefixes, region_number, region_of, regions_of};
 
@@ -44,6 +44,16 @@ pub fn each_address_has_a_region()
 pub fn both_halves_count()
     ensures both { opened_below 3 (b_receives (tcp 3 3 ∷ [])) (b_receives (tcp 1 3 ∷ [])) ≡ tcp_change a b 1 1 (halves Allowed DeniedByDefault) (halves Allowed Allowed) ∷ [] }
     ensures one { opened_below 3 (b_receives (tcp 3 3 ∷ [])) (b_receives (tcp 2 3 ∷ [])) ≡ [] }
+{}
+
+/// Where halves are told, a change of a half that opens nothing is told, with its words. What opens or shuts is told as before.
+pub fn a_half_alone_is_told_where_halves_are()
+    ensures one { turned_below 3 (b_receives (tcp 3 3 ∷ [])) (b_receives (tcp 2 3 ∷ [])) ≡ tcp_turn a b 2 2 (halves DeniedByDefault DeniedByDefault) (halves DeniedByDefault Allowed) ∷ [] }
+    ensures both { turned_below 3 (b_receives (tcp 3 3 ∷ [])) (b_receives (tcp 1 3 ∷ []))
+        ≡ tcp_turn a b 1 1 (halves Allowed DeniedByDefault) (halves Allowed Allowed)
+        ∷ tcp_turn a b 2 2 (halves DeniedByDefault DeniedByDefault) (halves DeniedByDefault Allowed)
+        ∷ [] }
+    ensures same { turned_below 3 (b_receives (tcp 1 3 ∷ [])) (b_receives (tcp 1 3 ∷ [])) ≡ [] }
 {}
 
 /// A deny within a range of ports that are allowed shuts its ports alone.

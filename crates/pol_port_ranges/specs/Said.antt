@@ -18,18 +18,6 @@ is_open halves = is_allowed halves.sent && is_allowed halves.received
 abbrev pub differ : Bool → Bool → Bool
 differ a b = if a then not b else b
 
--- What is said is told where the connection is open in the one state; or where it is open before or after, and not both.
-abbrev pub is_told_after : Halves → Option Halves → Bool
-is_told_after after None = is_open after
-is_told_after after (Some before) = differ (is_open before) (is_open after)
-
-abbrev pub is_told : PortSaid → Bool
-is_told said = is_told_after said.after said.before
-
--- what is told of a port of which this is said
-abbrev pub told : PortSaid → Option PortSaid
-told said = if is_told said then Some said else None
-
 -- ---- the same words
 abbrev pub same_word : Word → Word → Bool
 same_word Allowed Allowed = true
@@ -40,10 +28,29 @@ same_word _ _ = false
 abbrev pub same_halves : Halves → Halves → Bool
 same_halves a b = same_word a.sent b.sent && same_word a.received b.received
 
+-- ---- what is told
+-- A change is told where a half has another word, where halves are told; and else where the connection is open before or after,
+-- and not both.
+abbrev pub changes : Bool → Halves → Halves → Bool
+changes halves before after = if halves then not (same_halves before after) else differ (is_open before) (is_open after)
+
+-- In a state alone, what is said is told where the connection is open.
+abbrev pub is_told_after : Bool → Halves → Option Halves → Bool
+is_told_after halves after None = is_open after
+is_told_after halves after (Some before) = changes halves before after
+
+abbrev pub is_told : PortSaid → Bool
+is_told said = is_told_after said.halves said.after said.before
+
+-- what is told of a port of which this is said
+abbrev pub told : PortSaid → Option PortSaid
+told said = if is_told said then Some said else None
+
+-- ---- the same said
 abbrev pub same_before : Option Halves → Option Halves → Bool
 same_before None None = true
 same_before (Some a) (Some b) = same_halves a b
 same_before _ _ = false
 
 abbrev pub same_said : PortSaid → PortSaid → Bool
-same_said a b = same_before a.before b.before && same_halves a.after b.after
+same_said a b = not (differ a.halves b.halves) && (same_halves a.after b.after && same_before a.before b.before)

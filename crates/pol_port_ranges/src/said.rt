@@ -1,6 +1,6 @@
 //! What is said of a port.
 ghost use Rattle.std.specs.Prelude.{◌≡◌};
-ghost use Rattle.pol_port_ranges.specs.Said.{is_allowed, is_open, is_told, same_halves, same_said};
+ghost use Rattle.pol_port_ranges.specs.Said.{changes, is_allowed, is_open, is_told, same_before, same_halves, same_said};
 
 use pol_mapkey::Word;
 
@@ -20,6 +20,8 @@ pub struct PortSaid {
     pub before: Option<Halves>,
     /// What is said in the one state, or after.
     pub after: Halves,
+    /// Whether a change is told wherever a half has another word, and not only where the connection opens or shuts.
+    pub halves: bool,
 }
 
 /// The ports from `first` to `last`, both included, of each of which the same is said.
@@ -49,13 +51,14 @@ impl Halves {
 }
 
 impl PortSaid {
-    /// Whether it is told: the connection is open in the one state, or it opens or shuts.
+    /// Whether it is told: the connection is open in the one state; or it opens or shuts, or where halves are told, one of them
+    /// has another word.
     pub fn is_told(&self) -> bool
         ensures { result ≡ is_told self.now }
     {
         match self.before {
             None => self.after.is_open(),
-            Some(before) => before.is_open() != self.after.is_open(),
+            Some(before) => changes(self.halves, before, self.after),
         }
     }
 
@@ -63,11 +66,30 @@ impl PortSaid {
     pub fn is_same(&self, other: &PortSaid) -> bool
         ensures { result ≡ same_said self.now other.now }
     {
-        match (self.before, other.before) {
-            (None, None) => same_halves(self.after, other.after),
-            (Some(a), Some(b)) => same_halves(a, b) && same_halves(self.after, other.after),
-            _ => false,
-        }
+        self.halves == other.halves
+            && same_halves(self.after, other.after)
+            && same_before(self.before, other.before)
+    }
+}
+
+/// Whether a change of a connection is told: a half has another word, where halves are told, or else it opens or shuts.
+fn changes(halves: bool, before: Halves, after: Halves) -> bool
+    ensures { result ≡ changes halves before after }
+{
+    if halves {
+        !same_halves(before, after)
+    } else {
+        before.is_open() != after.is_open()
+    }
+}
+
+fn same_before(one: Option<Halves>, other: Option<Halves>) -> bool
+    ensures { result ≡ same_before one other }
+{
+    match (one, other) {
+        (None, None) => true,
+        (Some(a), Some(b)) => same_halves(a, b),
+        _ => false,
     }
 }
 

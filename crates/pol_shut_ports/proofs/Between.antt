@@ -64,18 +64,18 @@ module _ (a b : ℕ) (less : a < b) (small : b < 65536) where
   open_agree xs ys none =
       let one = word_agree xs (λ n low high there. none n low high (Contains-append_left (cut xs) (cut ys) n there)) in
       let two = word_agree ys (λ n low high there. none n low high (Contains-append_right (cut xs) (cut ys) n there)) in
-      λ i. record { before = None; after = record { sent = one i; received = two i } }
+      λ i. record { before = None; after = record { sent = one i; received = two i }; halves = false }
 
-  pub changed_agree : (xs ys zs ws : List Difference) → ((n : ℕ) → a < n → n ≤ b → Contains (((cut xs ++ cut ys) ++ cut zs) ++ cut ws) n → ⊥)
-      → changed_at xs ys zs ws b ≡ changed_at xs ys zs ws a
-  changed_agree xs ys zs ws none =
+  pub changed_agree : (halves : Bool) (xs ys zs ws : List Difference) → ((n : ℕ) → a < n → n ≤ b → Contains (((cut xs ++ cut ys) ++ cut zs) ++ cut ws) n → ⊥)
+      → changed_at halves xs ys zs ws b ≡ changed_at halves xs ys zs ws a
+  changed_agree halves xs ys zs ws none =
       let three = λ (n : ℕ) (low : a < n) (high : n ≤ b) (there : Contains ((cut xs ++ cut ys) ++ cut zs) n). none n low high (Contains-append_left ((cut xs ++ cut ys) ++ cut zs) (cut ws) n there) in
       let two = λ (n : ℕ) (low : a < n) (high : n ≤ b) (there : Contains (cut xs ++ cut ys) n). three n low high (Contains-append_left (cut xs ++ cut ys) (cut zs) n there) in
       let x = word_agree xs (λ n low high there. two n low high (Contains-append_left (cut xs) (cut ys) n there)) in
       let y = word_agree ys (λ n low high there. two n low high (Contains-append_right (cut xs) (cut ys) n there)) in
       let z = word_agree zs (λ n low high there. three n low high (Contains-append_right (cut xs ++ cut ys) (cut zs) n there)) in
       let w = word_agree ws (λ n low high there. none n low high (Contains-append_right ((cut xs ++ cut ys) ++ cut zs) (cut ws) n there)) in
-      λ i. record { before = Some (record { sent = x i; received = y i }); after = record { sent = z i; received = w i } }
+      λ i. record { before = Some (record { sent = x i; received = y i }); after = record { sent = z i; received = w i }; halves = halves }
 
 -- ---- from port to port
 module _ (f : ℕ → PortSaid) (cuts : List ℕ) (small : (n : ℕ) → Contains cuts n → n < 65536)

@@ -34,6 +34,7 @@ fn words_alone(
         words.push(PortSaid {
             before: None,
             after: halves_at(sent, received, *port),
+            halves: false,
         })?;
     }
     Ok(words)
@@ -42,19 +43,21 @@ fn words_alone(
 /// What is said of each of these ports before and after a change.
 fn words_changed(
     alloc: Global,
+    halves: bool,
     sent_before: &[Difference],
     received_before: &[Difference],
     sent: &[Difference],
     received: &[Difference],
     ports: &[u16],
 ) -> Result<Vec<PortSaid>, Memory>
-    ensures { IfOk result (λ words. words.items ≡ map (changed_at sent_before.now received_before.now sent.now received.now) ports.now) }
+    ensures { IfOk result (λ words. words.items ≡ map (changed_at halves sent_before.now received_before.now sent.now received.now) ports.now) }
 {
     let mut words = Vec::new(alloc);
     for port in ports {
         words.push(PortSaid {
             before: Some(halves_at(sent_before, received_before, *port)),
             after: halves_at(sent, received, *port),
+            halves,
         })?;
     }
     Ok(words)
@@ -78,16 +81,18 @@ pub fn open_ranges(
     ranges_of(alloc, &ports, &words)
 }
 
-/// The ranges of ports on which a connection opens or shuts, where before a change its source shut the first ranges and its target
-/// the second, and after it the third and the fourth. The one error is want of memory.
+/// The ranges of ports on which a connection opens or shuts, or where halves are told, on which one of them has another word: where
+/// before a change its source shut the first ranges and its target the second, and after it the third and the fourth. The one error
+/// is want of memory.
 pub fn changed_ranges(
     alloc: Global,
+    halves: bool,
     sent_before: &[Difference],
     received_before: &[Difference],
     sent: &[Difference],
     received: &[Difference],
 ) -> Result<Vec<Range>, Memory>
-    ensures { IfOk result (λ made. made.items ≡ ranges (changed_at sent_before.now received_before.now sent.now received.now)) }
+    ensures { IfOk result (λ made. made.items ≡ ranges (changed_at halves sent_before.now received_before.now sent.now received.now)) }
 {
     let mut cuts = port_0(alloc)?;
     push_cuts(&mut cuts, sent_before)?;
@@ -96,6 +101,14 @@ pub fn changed_ranges(
     push_cuts(&mut cuts, received)?;
     let ports = in_order(cuts);
     are_ports(&ports);
-    let words = words_changed(alloc, sent_before, received_before, sent, received, &ports)?;
+    let words = words_changed(
+        alloc,
+        halves,
+        sent_before,
+        received_before,
+        sent,
+        received,
+        &ports,
+    )?;
     ranges_of(alloc, &ports, &words)
 }

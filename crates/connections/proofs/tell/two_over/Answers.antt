@@ -18,7 +18,7 @@ returns-clause-text c =
     let after = c.in_ok-refused_after.ensures in
     let same = c.requires.options in
     IfOk-weaker c.two_states.result _ _
-    (λ told is. two_told t.options c.commit_all-2.new.repo.options (state_in c.commit_all.new.repo) (state_in c.commit_all-2.new.repo) _ _ one other after.options
+    (λ told is. two_told c.args.halves t.options c.commit_all-2.new.repo.options (state_in c.commit_all.new.repo) (state_in c.commit_all-2.new.repo) _ _ one other after.options
     (at_end s c.commit_all.new.repo one c.requires.first before.state ∙ ap (λ (o : Options). state_after o one) same)
     (at_end t c.commit_all-2.new.repo other c.requires.first_after after.state)
     (c.as_slice.ensures.value ∙ all_refused s c.commit_all.new.repo one c.requires.first c.in_ok-refused_before.refused_before.items before.refused
@@ -36,7 +36,7 @@ returns-clause-status c =
     let after = c.in_ok-refused_after.ensures in
     let same = c.requires.options in
     IfOk-weaker c.two_states.result _ _
-    (λ told is. two_ended t.options c.commit_all-2.new.repo.options (state_in c.commit_all.new.repo) (state_in c.commit_all-2.new.repo) _ _ one other after.options
+    (λ told is. two_ended c.args.halves t.options c.commit_all-2.new.repo.options (state_in c.commit_all.new.repo) (state_in c.commit_all-2.new.repo) _ _ one other after.options
     (at_end s c.commit_all.new.repo one c.requires.first before.state ∙ ap (λ (o : Options). state_after o one) same)
     (at_end t c.commit_all-2.new.repo other c.requires.first_after after.state)
     (c.as_slice.ensures.value ∙ all_refused s c.commit_all.new.repo one c.requires.first c.in_ok-refused_before.refused_before.items before.refused

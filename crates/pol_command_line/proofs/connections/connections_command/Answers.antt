@@ -9,5 +9,6 @@ returns c =
     let mode = c.or_default-mode.ensures.rule ∙ ap (or_default (codes "default")) c.option.ensures.rule in
     let localhost = c.or_default-localhost.ensures.rule ∙ ap (or_default (codes "always")) c.option-2.ensures.rule in
     let one = c.in_ok-arg.ensures.shape (c.or_default-mode.ensures.local ∙ c.option.ensures.local) ∙ ap₂ with_rule c.no_options.ensures mode in
-    IfOk-weaker c.arg-2.result _ _
-    (λ command added. added.shape (c.or_default-localhost.ensures.local ∙ c.option-2.ensures.local) ∙ ap₂ with_rule one localhost) c.arg-2.ensures
+    let two = c.in_ok-arg-2.ensures.shape (c.or_default-localhost.ensures.local ∙ c.option-2.ensures.local) ∙ ap₂ with_rule one localhost in
+    IfOk-weaker c.arg-3.result _ _
+    (λ command added. added.shape c.flag-halves.ensures.local ∙ ap₂ with_rule two c.flag-halves.ensures.rule) c.arg-3.ensures

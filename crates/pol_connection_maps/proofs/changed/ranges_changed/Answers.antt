@@ -7,7 +7,7 @@ pub returns : goal.returns
 returns c =
     let from = c.args.from.now in
     let to = c.args.to.now in
-    IfOk-weaker c.changed_ranges.result _ _ (λ made told. told ∙ both_ranges from to c.args.proto c.at-sent_before.result.now c.at-received_before.result.now c.at-sent.result.now c.at-received.result.now
+    IfOk-weaker c.changed_ranges.result _ _ (λ made told. told ∙ both_ranges from to c.args.proto c.by_halves.result c.at-sent_before.result.now c.at-received_before.result.now c.at-sent.result.now c.at-received.result.now c.by_halves.ensures
     (halves_said from.before to.before c.before-was_from.result.now c.before-was_to.result.now c.args.proto c.before-was_from.ensures c.before-was_to.ensures
     c.at-sent_before.result.now c.at-received_before.result.now c.number.result c.number-2.result c.number.ensures c.number-2.ensures c.at-sent_before.ensures c.at-received_before.ensures)
     (halves_said from.after to.after c.after-is_from.result.now c.after-is_to.result.now c.args.proto c.after-is_from.ensures c.after-is_to.ensures

@@ -4,4 +4,4 @@ use Rattle.pol_port_ranges.proofs.laws.ranges_written_out.Goals as goal
 
 pub returns : goal.returns
 unfolding ranges_from
-returns c = record { denied = refl; touch = refl; hole = refl; alone = refl }
+returns c = record { denied = refl; touch = refl; hole = refl; halves = refl; shut = refl; alone = refl }
