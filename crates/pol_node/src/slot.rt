@@ -249,18 +249,6 @@ fn kept(followed: &Option<Followed>) -> Option<u64>
     }
 }
 
-/// Waits until they are the same. In every run they are so at once: the slot at index k has the number k.
-fn until_same<W: Wait>(rt: &W, a: u32, b: u32)
-    ensures { a ≡ b }
-{
-    for _ in rt.forever() {
-        if a == b {
-            return;
-        }
-    }
-    unreachable!()
-}
-
 impl<N: NodeName> Slot<N> {
     /// A slot that follows no endpoint. It takes no memory.
     pub fn open(number: u32, pass: Pass<N>) -> Slot<N>
@@ -282,30 +270,25 @@ impl<N: NodeName> Slot<N> {
         self.pass.learn(rt, seen);
     }
 
-    /// Regenerates, and tells what was done, and what a sync learns of that.
+    /// Regenerates the endpoint of the slot of that number, and tells what was done, and what a sync learns of that.
     fn turn<W: Wait, R: Wait + Drop>(
         &mut self,
         rt: &W,
         alloc: Global,
         desk: &Mutex<Desk<N, R>>,
+        number: u32,
     ) -> Result<Done, Memory>
         ensures number { self.new.number ≡ self.old.number }
         ensures grows { PassGrowsWhole N.options self.old.pass self.new.pass [] }
-        ensures regen { IfOk result (λ done. Regenerates N.options self.old.number self.old.pass.has.history self.new.pass.has.history done.regen) }
-        ensures turn { IfOk result (λ done. TellsAnyTurn N.options self.old.number self.old.pass.has.history self.new.pass.has.history done.turn) }
+        ensures regen { IfOk result (λ done. Regenerates N.options number self.old.pass.has.history self.new.pass.has.history done.regen) }
+        ensures turn { IfOk result (λ done. TellsAnyTurn N.options number self.old.pass.has.history self.new.pass.has.history done.turn) }
     {
-        regenerate(
-            rt,
-            alloc,
-            desk,
-            self.number,
-            &mut self.pass,
-            &mut self.followed,
-        )
+        regenerate(rt, alloc, desk, number, &mut self.pass, &mut self.followed)
     }
 
     /// Takes in what another has seen, regenerates the endpoint of the slot of that number, and shows the other what was
-    /// done. What the other had seen comes first, so that what is told is of no time before it.
+    /// done. What the other had seen comes first, so that what is told is of no time before it. The number is the caller's:
+    /// what is kept is tied to its endpoint, and to no number.
     ///
     /// The one error is want of memory.
     pub fn turn_for<W: Wait, R: Wait + Drop>(
@@ -319,9 +302,8 @@ impl<N: NodeName> Slot<N> {
         ensures grows { PassGrows N.options pass.old pass.new [] }
         ensures turn { IfOk result (TellsTurn N.options number pass.old.has.history pass.new.has.history (revision_of pass.old.has.history)) }
     {
-        until_same(rt, self.number, number);
         self.learn(rt, pass.seen());
-        let done = self.turn(rt, alloc, desk);
+        let done = self.turn(rt, alloc, desk, number);
         pass.learn(rt, self.pass.seen());
         match done {
             Ok(done) => Ok(done.turn),
@@ -341,7 +323,7 @@ impl<N: NodeName> Slot<N> {
         ensures grows { PassGrowsWhole N.options self.old.pass self.new.pass [] }
         ensures regen { IfOk result (Regenerates N.options self.old.number self.old.pass.has.history self.new.pass.has.history) }
     {
-        let done = self.turn(rt, alloc, desk)?;
+        let done = self.turn(rt, alloc, desk, self.number)?;
         Ok(done.regen)
     }
 }

@@ -5,5 +5,5 @@ use Rattle.pol_node.proofs.slot.Slot.turn.Goals as goal
 
 pub returns-clause-turn : goal.returns-clause-turn
 returns-clause-turn g c =
-    subst (λ (s : SlotState). IfOk c.regenerate.result (λ done. TellsAnyTurn g.N.NodeName.options s.number s.pass.has.history c.regenerate.new.pass.has.history done.turn))
+    subst (λ (s : SlotState). IfOk c.regenerate.result (λ done. TellsAnyTurn g.N.NodeName.options c.args.number s.pass.has.history c.regenerate.new.pass.has.history done.turn))
     c.self.view_is c.regenerate.ensures.turn

@@ -1,10 +1,10 @@
 -- What the slot's pass learned and told begins and ends what the other pass has seen.
-use Rattle.std.proofs.Common.{◌≡◌, ℕ, List, Result, Ok, Err, IfOk, sym, ap, ◌∙◌, subst}
+use Rattle.std.proofs.Common.{◌≡◌, List, Result, Ok, Err, IfOk, sym, ap, ◌∙◌, subst}
 use mathlib.Core.List.{IsPrefix}
 use Rattle.pol_history.specs.declared.event.HistoryEvent.{HistoryEvent}
 use Rattle.pol_history.specs.Commits.{revision_of}
 use Rattle.pol_history.specs.SlotTurns.{TellsTurn}
-use Rattle.pol_node.specs.Slot.{SlotState, TellsAnyTurn}
+use Rattle.pol_node.specs.Slot.{SlotState}
 use Rattle.pol_node.proofs.Turning.{told_around}
 use Rattle.pol_node.proofs.slot.Slot.turn_for.Goals as goal
 use Rattle.pol_node.proofs.slot.Slot.turn_for.Goals.{in-Ok, in-Err}
@@ -23,14 +23,11 @@ returns-clause-turn g c =
     let new = c.turn-done.new.self.pass.has.history in
     let last = c.learn-2.new.self.has.history in
     let less : IsPrefix first old = subst (λ (h : List HistoryEvent). IsPrefix h old) c.seen.ensures.same c.learn.ensures.learned in
-    let told : c.seen-2.result ≡ new = c.seen-2.ensures.same ∙ ap (λ (s : SlotState). s.pass.has.history) c.self-2.view_is in
+    let told : c.seen-2.result ≡ new = c.seen-2.ensures.same ∙ ap (λ (s : SlotState). s.pass.has.history) c.self.view_is in
     let more : IsPrefix new last = subst (λ (h : List HistoryEvent). IsPrefix h last) told c.learn-2.ensures.learned in
-    let number : c.learn.new.self.number ≡ c.args.number =
-    c.learn.ensures.number ∙ sym (ap (λ (s : SlotState). s.number) c.self.view_is) ∙ c.until_same.ensures in
     elim c.match-done.branch as (λ _. IfOk c.match-done.result (TellsTurn options c.args.number first last (revision_of first))) [
       | in-Ok w ↦
           if_is (TellsTurn options c.args.number first last (revision_of first)) c.match-done.result w.in-Ok.done.turn w.result-is
-          (told_around options c.args.number first old new last w.in-Ok.done.turn less more
-          (subst (λ (n : ℕ). TellsAnyTurn options n old new w.in-Ok.done.turn) number w.in-Ok.ensures.turn))
+          (told_around options c.args.number first old new last w.in-Ok.done.turn less more w.in-Ok.ensures.turn)
       | in-Err w ↦ if_not (TellsTurn options c.args.number first last (revision_of first)) c.match-done.result _ w.result-is
     ]
