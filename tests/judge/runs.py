@@ -155,13 +155,27 @@ class Seen:
 
 # ---- each answer
 
+class Sizes:
+    """The sizes of maps. Endpoints of equal labels have maps of one size, while nothing that decides it changes."""
+
+    def __init__(self):
+        self.found = {}
+
+    def of(self, state, endpoint):
+        """The size of the endpoint's map at a state that is kept."""
+        key = (id(state.policies), id(state.rows), state.mode, endpoint.labels, endpoint.identity == 5)
+        if key not in self.found:
+            self.found[key] = rules.map_size(state, endpoint)
+        return self.found[key]
+
+
 class Judge:
     """Judges the lines of one output, in order."""
 
     def __init__(self, script, answers, mode, localhost, limit):
         if len(lines_of(script)) != len(answers):
             raise Wrong(f"{len(answers)} answers to {len(lines_of(script))} lines")
-        self.lines, self.sizes = read_all(script, answers), {}
+        self.lines, self.sizes = read_all(script, answers), Sizes()
         self.limit = limit
         for line in self.lines:
             self.told(line, lambda: read_answer(line))
@@ -269,13 +283,8 @@ class Judge:
     # ---- maps that are too large
 
     def size(self, revision, name):
-        """The size of a map. Endpoints of equal labels have maps of one size, while nothing that decides it changes."""
         state = self.states[revision]
-        endpoint = state.endpoints[name]
-        key = (id(state.policies), id(state.rows), state.mode, endpoint.labels, endpoint.identity == 5)
-        if key not in self.sizes:
-            self.sizes[key] = rules.map_size(state, endpoint)
-        return self.sizes[key]
+        return self.sizes.of(state, state.endpoints[name])
 
     def is_too_large(self, revision, name, added):
         endpoint = self.states[revision].endpoints.get(name)

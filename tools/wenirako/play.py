@@ -6,7 +6,7 @@ SCRIPT is a file, or - for standard input; without it examples/star-wars.jsonl i
 kubectl prints them, are no script: recipes/from-kubectl makes one of them. With --audit it is the text of two tables.
 The WORDs are given to the program:
 
-    [--workers 0..8] [--enable-policy default|always|never] [--allow-localhost always|policy] [--policy-map-max 256..65536] [--generate 1..10000] [--map NAME] [--audit]
+    [--workers 0..8] [--enable-policy default|always|never] [--allow-localhost always|policy] [--policy-map-max 256..65536] [--generate 1..10000] [--map NAME] [--audit] [--crash-at 1..1000000]
 
 The status is the program's, 2 where a word doesn't fit, and 70 where there is no answer.
 
@@ -38,7 +38,7 @@ WIDEST, GLUE = 120, "\0"
 TOLD_TO_END = (signal.SIGHUP, signal.SIGINT, signal.SIGKILL, signal.SIGTERM)
 DEMO = TOP / "examples" / "star-wars.jsonl"
 # The form of a value that may be any text, and the words of which one at most may stand there, group by group.
-ANY_TEXT, ONE_AT_MOST = "NAME", (("--generate", "--map", "--audit"), ("--policy-map-max", "--generate"))
+ANY_TEXT, ONE_AT_MOST = "NAME", (("--generate", "--map", "--audit", "--crash-at"), ("--policy-map-max", "--generate"))
 # The program reads one byte more than it takes, and then says that it is too much.
 READ_MOST = 67_108_864 + 1
 

@@ -10,7 +10,7 @@ use Rattle.pol_model.specs.declared.options.Mode.TheVariants.{Default, Always, N
 use Rattle.pol_command_line.specs.declared.TheConstants.{MAP_MAX}
 use Rattle.pol_command_line.specs.declared.Words.{Words}
 use Rattle.pol_command_line.specs.declared.task.Task.{Task}
-use Rattle.pol_command_line.specs.declared.task.Task.TheVariants.{Play, Generate, Map, Audit}
+use Rattle.pol_command_line.specs.declared.task.Task.TheVariants.{Play, Generate, Map, Audit, Crash}
 use Rattle.pol_command_line.specs.Grammar.{grammar}
 
 -- the number that a text writes, where it is from the least to the greatest
@@ -67,25 +67,36 @@ map_in rows = first_of (codes "map") rows
 abbrev pub audit_in : List Row → Bool
 audit_in rows = is_set (first_of (codes "audit") rows)
 
+-- the call of a disk that is the first to fail
+abbrev pub crash_in : List Row → Option (Option ℕ)
+crash_in rows = if_given (number_in 1 1000000) (first_of (codes "crash-at") rows)
+
 -- ---- what is to be done
 
--- a script is played, unless one of the three others is asked for, and no two of them may be
-abbrev pub task_of : Option ℕ → Option Text → Bool → Option Task
-task_of None None false = Some Play
-task_of (Some rounds) None false = Some (Generate rounds)
-task_of None (Some name) false = Some (Map name)
-task_of None None true = Some Audit
-task_of _ _ _ = None
+-- a script is played, unless one of the four others is asked for, and no two of them may be
+abbrev pub task_of : Option ℕ → Option Text → Bool → Option ℕ → Option Task
+task_of None None false None = Some Play
+task_of (Some rounds) None false None = Some (Generate rounds)
+task_of None (Some name) false None = Some (Map name)
+task_of None None true None = Some Audit
+task_of None None false (Some call) = Some (Crash call)
+task_of _ _ _ _ = None
+
+-- what is to be done, where the numbers that were given are in range
+abbrev pub task_asked : Option (Option ℕ) → Option Text → Bool → Option (Option ℕ) → Option Task
+task_asked (Some rounds) name audit (Some call) = task_of rounds name audit call
+task_asked _ _ _ _ = None
 
 abbrev pub task_in : List Row → Option Task
-task_in rows = option_and_then (λ rounds. task_of rounds (map_in rows) (audit_in rows)) (generate_in rows)
+task_in rows = task_asked (generate_in rows) (map_in rows) (audit_in rows) (crash_in rows)
 
--- a script that is to be generated has 1 to 10,000 rounds
+-- a script that is to be generated has 1 to 10,000 rounds, and a crash comes at one of the calls 1 to 1,000,000
 abbrev pub IsInRange : Task → Type 0
 IsInRange Play = Unit {0}
 IsInRange (Generate rounds) = (1 ≤ rounds) × (rounds ≤ 10000)
 IsInRange (Map name) = Unit {0}
 IsInRange Audit = Unit {0}
+IsInRange (Crash call) = (1 ≤ call) × (call ≤ 1000000)
 
 -- ---- the limit of maps
 
@@ -96,6 +107,7 @@ limit_of Play (Some limit) = Some limit
 limit_of (Generate rounds) (Some limit) = None
 limit_of (Map name) (Some limit) = Some limit
 limit_of Audit (Some limit) = Some limit
+limit_of (Crash call) (Some limit) = Some limit
 
 -- a script that is to be generated has the default
 abbrev pub HasDefault : Task → Option ℕ → Type 0
@@ -103,6 +115,7 @@ HasDefault Play limit = Unit {0}
 HasDefault (Generate rounds) limit = limit ≡ Some MAP_MAX
 HasDefault (Map name) limit = Unit {0}
 HasDefault Audit limit = Unit {0}
+HasDefault (Crash call) limit = Unit {0}
 
 -- ---- all of them
 

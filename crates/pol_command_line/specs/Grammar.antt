@@ -1,4 +1,4 @@
--- The command lines, as clap reads them: of policyd seven options, of connections three, each once at most, and no other word.
+-- The command lines, as clap reads them: of policyd eight options, of connections three, each once at most, and no other word.
 use Rattle.std.specs.Prelude.{ℕ, true, [], ◌∷◌, codes, Some}
 use Rattle.clap.specs.Words.{App, Rule, Text, new_app, new_rule, with_rule}
 use Rattle.clap.specs.Simple.{on_top}
@@ -32,13 +32,15 @@ grammar = with_rule
     (with_rule
     (with_rule
     (with_rule
+    (with_rule
     (with_rule (no_options (codes "policyd")) (or_default (codes "2") (number (codes "workers") 0 8)))
     (or_default (codes "default") (option (codes "enable-policy"))))
     (or_default (codes "always") (option (codes "allow-localhost"))))
     (number (codes "policy-map-max") 256 65536))
     (number (codes "generate") 1 10000))
     (option (codes "map")))
-    (flag (codes "audit"))
+    (flag (codes "audit")))
+    (number (codes "crash-at") 1 1000000)
 
 abbrev pub connections_grammar : App
 connections_grammar = with_rule

@@ -2,7 +2,7 @@
 //! Each function does nothing: its contract is the law.
 ghost use Rattle.std.specs.Prelude.{◌≡◌, true, false, [], ◌∷◌, codes, None, Some};
 ghost use Rattle.pol_model.specs.declared.options.Mode.TheVariants.{Default, Always, Never};
-ghost use Rattle.pol_command_line.specs.declared.task.Task.TheVariants.{Play, Generate, Map, Audit};
+ghost use Rattle.pol_command_line.specs.declared.task.Task.TheVariants.{Play, Generate, Map, Audit, Crash};
 ghost use Rattle.pol_command_line.specs.declared.TheConstants.{MAP_MAX};
 ghost use Rattle.pol_command_line.specs.Given.{words_given, words_fit};
 ghost use Rattle.pol_command_line.specs.Options.{options_given};
@@ -45,6 +45,22 @@ pub fn words_that_ask_for_maps()
         ≡ Some (record { options = record { mode = Default; localhost = true; map_max = Some MAP_MAX }; workers = 2; task = Map [] }) }
     ensures audit { words_given (codes "--audit" ∷ codes "--workers=0" ∷ [])
         ≡ Some (record { options = record { mode = Default; localhost = true; map_max = Some MAP_MAX }; workers = 0; task = Audit }) }
+{}
+
+/// A crash is at one of the calls 1 to 1,000,000 of a disk; it fits beside a limit of maps, and beside nothing else that is to be
+/// done ('profile').
+pub fn words_that_ask_for_crashes()
+    ensures least { words_given (codes "--crash-at" ∷ codes "1" ∷ [])
+        ≡ Some (record { options = record { mode = Default; localhost = true; map_max = Some MAP_MAX }; workers = 2; task = Crash 1 }) }
+    ensures greatest { words_given (codes "--policy-map-max=256" ∷ codes "--crash-at=1000000" ∷ [])
+        ≡ Some (record { options = record { mode = Default; localhost = true; map_max = Some 256 }; workers = 2; task = Crash 1000000 }) }
+    ensures below { words_fit (codes "--crash-at=0" ∷ []) ≡ false }
+    ensures above { words_fit (codes "--crash-at=1000001" ∷ []) ≡ false }
+    ensures value { words_fit (codes "--crash-at" ∷ []) ≡ false }
+    ensures twice { words_fit (codes "--crash-at=1" ∷ codes "--crash-at=1" ∷ []) ≡ false }
+    ensures generate { words_fit (codes "--generate=1" ∷ codes "--crash-at=1" ∷ []) ≡ false }
+    ensures map { words_fit (codes "--crash-at=1" ∷ codes "--map=web" ∷ []) ≡ false }
+    ensures audit { words_fit (codes "--crash-at=1" ∷ codes "--audit" ∷ []) ≡ false }
 {}
 
 /// No two of a generated script, a map and an audit may be asked for, and none of them twice; a name that begins with a dash

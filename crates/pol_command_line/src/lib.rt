@@ -7,7 +7,7 @@
 ghost use Rattle.std.specs.Prelude.{◌≡◌, ◌≤◌, false, map, string_bytes, option_map, None, Some, IfSome, IfOk, IsErrOf, IsSomeAnd};
 ghost use Rattle.clap.specs.Words.{app_of, first_of, found_of, rows_of, rule_of};
 ghost use Rattle.pol_command_line.specs.Grammar.{option, number, flag, or_default, no_options, grammar};
-ghost use Rattle.pol_command_line.specs.Given.{HasDefault, IsInRange, number_in, mode_named, localhost_named, workers_in, mode_in, localhost_in, words_of, words_in, words_given};
+ghost use Rattle.pol_command_line.specs.Given.{HasDefault, IsInRange, if_given, number_in, mode_named, localhost_named, workers_in, mode_in, localhost_in, words_of, words_in, words_given};
 
 use clap::builder::ValueParser;
 use clap::error::ErrorKind;
@@ -90,7 +90,7 @@ fn no_options<'a>(alloc: Global, name: &'a str) -> Command<'a>
     Command::new(alloc, name).no_binary_name(true)
 }
 
-// The command: seven options, each once at most.
+// The command: eight options, each once at most.
 fn command<'a>(alloc: Global) -> Result<Command<'a>, Memory>
     ensures { IfOk result (λ command. app_of command ≡ grammar) }
 {
@@ -101,6 +101,7 @@ fn command<'a>(alloc: Global) -> Result<Command<'a>, Memory>
     let generate = number(alloc, "generate", 1, 10000);
     let map = option(alloc, "map");
     let audit = flag(alloc, "audit");
+    let crash_at = number(alloc, "crash-at", 1, 1000000);
     no_options(alloc, "policyd")
         .arg(workers)?
         .arg(mode)?
@@ -108,7 +109,8 @@ fn command<'a>(alloc: Global) -> Result<Command<'a>, Memory>
         .arg(map_max)?
         .arg(generate)?
         .arg(map)?
-        .arg(audit)
+        .arg(audit)?
+        .arg(crash_at)
 }
 
 fn number_in(text: &str, least: u64, greatest: u64) -> Option<u64>
@@ -153,6 +155,25 @@ fn text_in<'a>(matches: &ArgMatches<'a>, name: &str) -> Option<&'a str>
     ensures { option_map (λ text. text.now) result ≡ first_of name.now (rows_of (found_of matches.now)) }
 {
     matches.get_str(name)
+}
+
+// The number of an option, from the least to the greatest, which may be left out.
+fn number_if_given(
+    matches: &ArgMatches,
+    name: &str,
+    least: u32,
+    greatest: u32,
+) -> Option<Option<u32>>
+    ensures given { result ≡ if_given (number_in least greatest) (first_of name.now (rows_of (found_of matches.now))) }
+    ensures range { IfSome result (λ given. IfSome given (λ n. (least ≤ n) × (n ≤ greatest))) }
+{
+    match text_in(matches, name) {
+        None => Some(None),
+        Some(text) => match number_in(text, least as u64, greatest as u64) {
+            None => None,
+            Some(number) => Some(Some(number as u32)),
+        },
+    }
 }
 
 fn workers_in(matches: &ArgMatches) -> Option<u64>
@@ -257,9 +278,9 @@ fn words_found(alloc: Global, matches: &ArgMatches) -> Result<Words, WordsError>
 
 /// What the words behind the program's name give. `Misfit` comes exactly where they don't fit the command:
 /// `[--workers 0..8] [--enable-policy default|always|never] [--allow-localhost always|policy]
-/// [--policy-map-max 256..65536] [--generate 1..10000] [--map NAME] [--audit]`, with both ends of each range, or more than
-/// one of the last three stands among them, or `--policy-map-max` beside `--generate`. The defaults are 2, `default`,
-/// `always` and `MAP_MAX`; where none of the last three stands there, a script is to be played ('profile').
+/// [--policy-map-max 256..65536] [--generate 1..10000] [--map NAME] [--audit] [--crash-at 1..1000000]`, with both ends of
+/// each range, or more than one of the last four stands among them, or `--policy-map-max` beside `--generate`. The defaults
+/// are 2, `default`, `always` and `MAP_MAX`; where none of the last four stands there, a script is to be played ('profile').
 pub fn read_words(alloc: Global, words: &[String]) -> Result<Words, WordsError>
     ensures given { IfOk result (λ given. words_given (map string_bytes words.now) ≡ Some given) }
     ensures misfit { IsErrOf result WordsError.Misfit → words_given (map string_bytes words.now) ≡ None }

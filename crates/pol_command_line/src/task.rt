@@ -2,9 +2,9 @@
 ghost use Rattle.std.specs.Prelude.{◌≡◌, ◌≤◌, codes, None, Some, IfOk, IfSome};
 ghost use Rattle.std.specs.Str.{bytes_eq};
 ghost use Rattle.clap.specs.Words.{first_of, found_of, rows_of};
-ghost use Rattle.pol_command_line.specs.Given.{IsInRange, audit_in, generate_in, is_set, map_in, number_in, task_in, task_of};
+ghost use Rattle.pol_command_line.specs.Given.{IsInRange, audit_in, crash_in, generate_in, is_set, map_in, task_asked, task_in, task_of};
 
-use crate::{number_in, text_in};
+use crate::{number_if_given, text_in};
 use clap::ArgMatches;
 use pol_data::{Memory, Text};
 use std::alloc::Global;
@@ -20,16 +20,9 @@ pub enum Task {
     Map(Text),
     /// Two tables are read, and compared by what they say.
     Audit,
-}
-
-fn script_number(text: &str) -> Option<u32>
-    ensures number { result ≡ number_in 1 10000 text.now }
-    ensures range { IfSome result (λ n. (1 ≤ n) × (n ≤ 10000)) }
-{
-    match number_in(text, 1, 10000) {
-        None => None,
-        Some(number) => Some(number as u32),
-    }
+    /// A script is read, and its lines are answered over a disk that fails from that call on, 1 to 1,000,000; what is found on
+    /// it after the crash is told.
+    Crash(u32),
 }
 
 // The number of a script, which may be left out.
@@ -37,13 +30,7 @@ fn generate_in(matches: &ArgMatches) -> Option<Option<u32>>
     ensures given { result ≡ generate_in (rows_of (found_of matches.now)) }
     ensures range { IfSome result (λ given. IfSome given (λ n. (1 ≤ n) × (n ≤ 10000))) }
 {
-    match text_in(matches, "generate") {
-        None => Some(None),
-        Some(text) => match script_number(text) {
-            None => None,
-            Some(number) => Some(Some(number)),
-        },
-    }
+    number_if_given(matches, "generate", 1, 10000)
 }
 
 // The name of an endpoint, which may be left out.
@@ -81,38 +68,28 @@ fn audit_in(matches: &ArgMatches) -> bool
     is_set(matches, "audit")
 }
 
-// What is to be done where no script is generated.
-fn task_without_rounds(name: Option<Text>, audit: bool) -> Option<Task>
-    ensures task { result ≡ task_of None name audit }
-    ensures range { IfSome result IsInRange }
+// The first call of a disk that fails, which may be left out.
+fn crash_in(matches: &ArgMatches) -> Option<Option<u32>>
+    ensures given { result ≡ crash_in (rows_of (found_of matches.now)) }
+    ensures range { IfSome result (λ given. IfSome given (λ call. (1 ≤ call) × (call ≤ 1000000))) }
 {
-    match name {
-        None => {
-            if audit {
-                Some(Task::Audit)
-            } else {
-                Some(Task::Play)
-            }
-        }
-        Some(name) => { if audit { None } else { Some(Task::Map(name)) } }
-    }
+    number_if_given(matches, "crash-at", 1, 1000000)
 }
 
-// What is to be done where a script is generated.
-fn task_with_rounds(rounds: u32, name: Option<Text>, audit: bool) -> Option<Task>
-    requires { (1 ≤ rounds) × (rounds ≤ 10000) }
-    ensures task { result ≡ task_of (Some rounds) name audit }
+// A script is played, or the one of the four others that is asked for is done.
+fn task_of(rounds: Option<u32>, name: Option<Text>, audit: bool, call: Option<u32>) -> Option<Task>
+    requires rounds { IfSome rounds (λ n. (1 ≤ n) × (n ≤ 10000)) }
+    requires call { IfSome call (λ n. (1 ≤ n) × (n ≤ 1000000)) }
+    ensures task { result ≡ task_of rounds name audit call }
     ensures range { IfSome result IsInRange }
 {
-    match name {
-        Some(_) => None,
-        None => {
-            if audit {
-                None
-            } else {
-                Some(Task::Generate(rounds))
-            }
-        }
+    match (rounds, name, audit, call) {
+        (None, None, false, None) => Some(Task::Play),
+        (Some(rounds), None, false, None) => Some(Task::Generate(rounds)),
+        (None, Some(name), false, None) => Some(Task::Map(name)),
+        (None, None, true, None) => Some(Task::Audit),
+        (None, None, false, Some(call)) => Some(Task::Crash(call)),
+        _ => None,
     }
 }
 
@@ -123,9 +100,8 @@ pub(crate) fn task_in(alloc: Global, matches: &ArgMatches) -> Result<Option<Task
 {
     let name = map_in(alloc, matches)?;
     let audit = audit_in(matches);
-    match generate_in(matches) {
-        None => Ok(None),
-        Some(None) => Ok(task_without_rounds(name, audit)),
-        Some(Some(rounds)) => Ok(task_with_rounds(rounds, name, audit)),
+    match (generate_in(matches), crash_in(matches)) {
+        (Some(rounds), Some(call)) => Ok(task_of(rounds, name, audit, call)),
+        _ => Ok(None),
     }
 }

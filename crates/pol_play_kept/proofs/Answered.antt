@@ -26,6 +26,7 @@ use Rattle.pol_model.specs.declared.request.Request.{Request}
 use Rattle.pol_run.specs.Serial.{answer_to_commit, answer_with_trace, commit_answer, state_committed, state_with}
 use Rattle.pol_run.specs.Spots.{Reading, phase_after}
 use Rattle.pol_script.specs.declared.command.Command.TheVariants as command
+use Rattle.pol_serial_run.specs.Accepted.{unless_fault}
 use Rattle.pol_serial_run.specs.SerialRun.{IsLineAnswer, IsSyncAnswer, answer_looked}
 use Rattle.pol_serial_run.proofs.Commits.{revision_now}
 use Rattle.pol_play_kept.specs.Answering.{phase_told}
@@ -66,6 +67,10 @@ module _ (options : Options) (m : Machine) (request : Request) where
       ap answer.Refused (sym (ap (refused_in refused) said))
       ∙ ap (λ (n : ℕ). answer.Refused (record { revision = n; fault = fault })) (sym (revision_now options m.history))
 
+  refused_by : (fault : Option Fault) (refused : Refused) → (step_commit options m request fault).0 ≡ reply.Refused refused → unless_fault request fault ≡ []
+  refused_by None refused said = absurd (let no : true ≡ false = ap is_committed said in cc)
+  refused_by (Some fault) refused said = refl
+
   pub done_told : (done : Committed) (new : Stored) → Replies options m request (reply.Committed done) new
       → answer.Committed done.revision done.identity ≡ commit_answer s request
   done_told done new replies = told_done (fault_of s request) done (sym replies.said_so)
@@ -76,6 +81,10 @@ module _ (options : Options) (m : Machine) (request : Request) where
   pub refused_told : (refused : Refused) (new : Stored) → Replies options m request (reply.Refused refused) new
       → answer.Refused refused ≡ commit_answer s request
   refused_told refused new replies = told_refused (fault_of s request) refused (sym replies.said_so)
+
+  -- a refused request isn't accepted
+  pub refused_none : (refused : Refused) (new : Stored) → Replies options m request (reply.Refused refused) new → unless_fault request (fault_of s request) ≡ []
+  refused_none refused new replies = refused_by (fault_of s request) refused (sym replies.said_so)
 
 -- ---- phases
 

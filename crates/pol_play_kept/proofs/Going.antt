@@ -9,12 +9,15 @@ use Rattle.pol_disk.specs.Images.{LeavesOnly}
 use Rattle.pol_disk.proofs.Moments.{joined, widened}
 use Rattle.pol_history.specs.Commits.{commits_in, state_now}
 use Rattle.pol_history.specs.Machine.{Machine}
-use Rattle.pol_journal.specs.Journal.{IsJournalOrOneMore}
+use Rattle.pol_journal.specs.Journal.{IsJournalOrOneMore, commits}
 use Rattle.pol_kept.specs.Keeps.{IsKept, requests_in}
 use Rattle.pol_machine.specs.Serial.{machine_of}
 use Rattle.pol_machine.specs.Stands.{Stands, Stored, options_in}
+use Rattle.pol_model.specs.After.{start as first_state}
 use Rattle.pol_model.specs.declared.options.Options.{Options}
 use Rattle.pol_model.specs.declared.request.Request.{Request}
+use Rattle.pol_record_log.specs.Log.{AreRecords}
+use Rattle.pol_record_log.specs.Steps.{before_gate}
 use Rattle.pol_run.specs.Run.{is_marked, readings_of, status_of}
 use Rattle.pol_run.specs.Spots.{Reading, phase_after}
 use Rattle.pol_script.specs.Lines.{lines_of}
@@ -23,6 +26,7 @@ use Rattle.pol_script.specs.Reading.{reading_of}
 use Rattle.pol_serial_run.specs.Accepted.{accepted, accepted_by, accepted_from}
 use Rattle.pol_serial_run.specs.SerialRun.{IsLineAnswer, machine_after_lines, machine_then, phase_after_lines}
 use Rattle.pol_serial_run.proofs.Going.{accepted_both, accepted_more, commits_after, machine_more, phase_more, serial_more}
+use Rattle.pol_play_kept.specs.Calls.{HoldsRecords}
 use Rattle.pol_play_kept.specs.Images.{IsJournalOrMore, IsJournalWithin}
 use Rattle.pol_play_kept.specs.Answering.{IsAccepted, IsAnswered, IsSoFar, PlaysLine, StopsHere, phase_told}
 use Rattle.pol_play_kept.specs.Played.{StopsAt}
@@ -97,6 +101,16 @@ module _ {D : Type 0} (seen : D → List ℕ) (may_leave : D → List ℕ → Ty
         kept = is.kept;
       }
 
+  -- the disk holds the records of the requests that were accepted
+  pub holds_records : HoldsRecords seen may_leave options (start ++ accepted options start readings) disk
+  holds_records = record {
+    closed = so_far.kept.closed;
+    records =
+        subst (λ (requests : List Request). AreRecords commits (first_state options) requests (before_gate (seen disk))) requests_are
+        (subst (λ (o : Options). AreRecords commits (first_state o) (requests_in s) (before_gate (seen disk))) so_far.options_are so_far.kept.records);
+    only = so_far.kept.only;
+  }
+
   -- what a line leaves, with these options and requests
   pub line_moments : (moment : D → ℕ) (left_since : D → ℕ → List ℕ → Type 0) (phase : ℕ) (reading : Reading) (new : D) (t : Stored) (result : Result Answer Stopped)
       → PlaysLine seen may_leave moment left_since m phase reading disk s new t result
@@ -116,6 +130,7 @@ module _ {D : Type 0} (seen : D → List ℕ) (may_leave : D → List ℕ → Ty
         answers = so_far.answers;
         serial = so_far.serial;
         text = so_far.text;
+        marked = so_far.marked;
         images = λ c now.
             subst (λ (more : List Request). IsJournalOrMore options (start ++ accepted options start readings) more c) (accepts_one options m reading line)
             (at_the_end moment left_since may_leave disk new _ (counts_now new) (line_moments moment left_since phase reading new t result plays) c now);

@@ -6,3 +6,4 @@ pub mod Walking
 pub mod Opened
 pub mod Committing
 pub mod Written
+pub mod Counted

@@ -2,9 +2,10 @@
 use Rattle.std.proofs.Common.{◌≡◌, inl, inr, ℕ, ◌+◌, ◌-◌, ◌^◌, ◌≤◌, ◌<◌, Bool, true, false, ◌||◌, not, nat_lt, List, [], ◌∷◌, ◌++◌, length, map, IsTrue, refl, sym, ap, ◌∙◌, subst, arith, append-nil, append_assoc, length-append}
 use Rattle.std.proofs.lemmas.Bool.{cases_lt, lt-ltb}
 use Rattle.std.proofs.lemmas.List.{map-append}
+use Rattle.pol_disk.specs.Calls.{Asked}
 use Rattle.pol_disk.specs.Images.{LeavesOnly}
 use Rattle.pol_disk.proofs.Moments.{joined, started, widened}
-use Rattle.pol_journal.specs.Journal.{IsJournal}
+use Rattle.pol_journal.specs.Journal.{IsJournal, request_of}
 use Rattle.pol_kept.specs.Keeps.{IsKept, requests_in}
 use Rattle.pol_history.specs.Machine.{Machine}
 use Rattle.pol_kept.proofs.Disks.{kept_images}
@@ -18,13 +19,15 @@ use Rattle.pol_script.specs.Lines.{lines_of}
 use Rattle.pol_script.specs.Reading.{reading_of}
 use Rattle.pol_serial_run.specs.Accepted.{accepted, accepted_by, accepted_from}
 use Rattle.pol_serial_run.specs.SerialRun.{machine_after_lines, machine_then, phase_after_lines}
-use Rattle.pol_serial_run.proofs.Going.{accepted_both}
+use Rattle.pol_serial_run.proofs.Going.{accepted_both, accepted_more}
 use Rattle.pol_status.specs.Limits.{fits_limits, input_max}
 use Rattle.pol_play_kept.specs.Answering.{IsSoFar, StopsHere}
+use Rattle.pol_play_kept.specs.Calls.{RunsFor, StopsAtCall, StopsKeeping, calls_to_keep}
 use Rattle.pol_play_kept.specs.Images.{IsJournalOrMore, IsJournalWithin}
 use Rattle.pol_play_kept.specs.Played.{StopsAt}
 use Rattle.pol_play_kept.specs.declared.progress.Progress.{Progress}
-use Rattle.pol_play_kept.proofs.Going.{few_phases, requests_are}
+use Rattle.pol_play_kept.proofs.Counted.{keep_both, runs_as, runs_more, runs_none}
+use Rattle.pol_play_kept.proofs.Going.{few_phases, holds_records, requests_are}
 use Rattle.pol_play_kept.proofs.Kept.{at_line, none_yet}
 
 -- ---- lists
@@ -53,19 +56,20 @@ few_lines script within = elim (cases_lt 1000000 (length (lines_of script))) [
 
 -- these lines of a script were answered, and the others stand in the rest
 pub record IsWalked {D : Type 0} (moment : D → ℕ) (left_since : D → ℕ → List ℕ → Type 0) (seen : D → List ℕ) (may_leave : D → List ℕ → Type 0) (faults : D → ℕ)
-    (options : Options) (start : List Request) (script : List ℕ) (first : D) (rest : List ℕ) (progress : Progress) (disk : D) (s : Stored) : Type 0 where
+    (does fails : D → Asked → D → Type 0) (options : Options) (start : List Request) (script : List ℕ) (first : D) (rest : List ℕ) (progress : Progress) (disk : D) (s : Stored) : Type 0 where
   pub before : List (List ℕ)
   pub split : lines_of script ≡ before ++ lines_of rest
   pub so_far : IsSoFar seen may_leave options start (map reading_of before) progress disk s
   pub moments : LeavesOnly moment left_since first disk (IsJournalWithin options start (accepted options start (readings_of script)))
   pub counted : faults first ≤ faults disk
+  pub ran : RunsFor does fails (calls_to_keep (accepted options start (map reading_of before))) first disk
 
 module _ {D : Type 0} (moment : D → ℕ) (left_since : D → ℕ → List ℕ → Type 0) (seen : D → List ℕ) (may_leave : D → List ℕ → Type 0) (faults : D → ℕ)
-    (options : Options) (start : List Request) (script : List ℕ) where
+    (does fails : D → Asked → D → Type 0) (options : Options) (start : List Request) (script : List ℕ) where
   -- before the first line
   pub begun : (first : D) (progress : Progress) (s : Stored) → ((c : List ℕ) → left_since first (moment first) c → may_leave first c)
       → IsSoFar seen may_leave options start [] progress first s
-      → IsWalked moment left_since seen may_leave faults options start script first script progress first s
+      → IsWalked moment left_since seen may_leave faults does fails options start script first script progress first s
   begun first progress s only_now so_far = record {
     before = [];
     split = refl;
@@ -75,10 +79,11 @@ module _ {D : Type 0} (moment : D → ℕ) (left_since : D → ℕ → List ℕ 
         (subst (λ (requests : List Request). IsJournal options requests c) (requests_are seen may_leave options start [] progress first s so_far ∙ append-nil start)
         (subst (λ (o : Options). IsJournal o (requests_in s) c) so_far.options_are (kept_images seen may_leave first s so_far.kept c (only_now c left)))));
     counted = omega arith;
+    ran = runs_none does fails first first refl;
   }
 
   module _ (first : D) (rest : List ℕ) (progress : Progress) (disk : D) (s : Stored)
-      (walked : IsWalked moment left_since seen may_leave faults options start script first rest progress disk s) where
+      (walked : IsWalked moment left_since seen may_leave faults does fails options start script first rest progress disk s) where
     abbrev readings : List Reading
     readings = map reading_of walked.before
 
@@ -97,7 +102,7 @@ module _ {D : Type 0} (moment : D → ℕ) (left_since : D → ℕ → List ℕ 
       split_here : lines_of script ≡ walked.before ++ line ∷ lines_of behind
       split_here = walked.split ∙ ap (λ (lines : List (List ℕ)). walked.before ++ lines) cut
 
-      readings_here : readings_of script ≡ readings ++ reading_of line ∷ map reading_of (lines_of behind)
+      pub readings_here : readings_of script ≡ readings ++ reading_of line ∷ map reading_of (lines_of behind)
       readings_here = ap (map reading_of) split_here ∙ readings_both walked.before (line ∷ lines_of behind)
 
       abbrev m : Machine
@@ -119,17 +124,28 @@ module _ {D : Type 0} (moment : D → ℕ) (left_since : D → ℕ → List ℕ 
           (widened moment left_since disk new _ (IsJournalWithin options start (accepted options start (readings_of script))) leaves
           (λ c is. at_line options start (accepted options start (readings_of script)) (accepted options start readings) (accepted_by options m (reading_of line)) later accepted_here c is))
 
+      ran_here : (new : D) → RunsFor does fails (calls_to_keep (accepted_by options m (reading_of line))) disk new
+          → RunsFor does fails (calls_to_keep (accepted options start (map reading_of (walked.before ++ line ∷ [])))) first new
+      ran_here new ran =
+          runs_as does fails (calls_to_keep (accepted options start readings) + calls_to_keep (accepted_by options m (reading_of line)))
+          (calls_to_keep (accepted options start (map reading_of (walked.before ++ line ∷ [])))) first new
+          (sym (ap (λ (rs : List Reading). calls_to_keep (accepted options start rs)) (readings_both walked.before (line ∷ []))
+          ∙ ap calls_to_keep (accepted_more options (machine_of options start) readings (reading_of line))
+          ∙ keep_both (accepted options start readings) (accepted_by options m (reading_of line))))
+          (runs_more does fails (calls_to_keep (accepted options start readings)) (calls_to_keep (accepted_by options m (reading_of line))) first disk new walked.ran ran)
+
       -- one line more
       pub walks_on : (next : Progress) (new : D) (t : Stored) → IsSoFar seen may_leave options start (readings ++ reading_of line ∷ []) next new t
           → LeavesOnly moment left_since disk new (IsJournalOrMore options (start ++ accepted options start readings) (accepted_by options m (reading_of line)))
-          → faults disk ≤ faults new
-          → IsWalked moment left_since seen may_leave faults options start script first behind next new t
-      walks_on next new t so_far leaves risen = record {
+          → faults disk ≤ faults new → RunsFor does fails (calls_to_keep (accepted_by options m (reading_of line))) disk new
+          → IsWalked moment left_since seen may_leave faults does fails options start script first behind next new t
+      walks_on next new t so_far leaves risen ran = record {
         before = walked.before ++ line ∷ [];
         split = split_here ∙ sym (append_assoc walked.before (line ∷ []) (lines_of behind));
         so_far = subst (λ (rs : List Reading). IsSoFar seen may_leave options start rs next new t) (sym (readings_both walked.before (line ∷ []))) so_far;
         moments = moments_here new leaves;
         counted = omega (arith, walked.counted, risen);
+        ran = ran_here new ran;
       }
 
       -- or it stops at the line
@@ -137,7 +153,7 @@ module _ {D : Type 0} (moment : D → ℕ) (left_since : D → ℕ → List ℕ 
           → LeavesOnly moment left_since first new (IsJournalWithin options start (accepted options start (readings_of script)))
       stops_moments = moments_here
 
-      pub stops_at : (next : Progress) (new : D) → StopsHere seen may_leave options start readings (reading_of line) next new
+      abbrev pub stops_at : (next : Progress) (new : D) → StopsHere seen may_leave options start readings (reading_of line) next new
           → StopsAt options start (readings_of script) (may_leave new) next.text.items
       stops_at next new stops = record {
         before = readings;
@@ -151,8 +167,28 @@ module _ {D : Type 0} (moment : D → ℕ) (left_since : D → ℕ → List ℕ 
         images = stops.images;
       }
 
+      -- at one of its calls
+      pub stops_at_call : (next : Progress) (new : D) → StopsHere seen may_leave options start readings (reading_of line) next new
+          → StopsKeeping does fails seen line disk new
+          → StopsAtCall does fails seen may_leave options start (readings_of script) next.marked next.text.items first new
+      stops_at_call next new stops keeping = record {
+        at = stops_at next new stops;
+        marked_is = stops.marked;
+        disk = disk;
+        ran = walked.ran;
+        holds = holds_records seen may_leave options start readings progress disk s walked.so_far;
+        line = line;
+        asked = ap request_of stops.line.reads;
+        keeping = keeping;
+      }
+
     -- all lines were answered
     pub walked_all : lines_of rest ≡ [] → IsSoFar seen may_leave options start (readings_of script) progress disk s
     walked_all none =
         subst (λ (rs : List Reading). IsSoFar seen may_leave options start rs progress disk s)
         (sym (ap (map reading_of) (walked.split ∙ ap (λ (lines : List (List ℕ)). walked.before ++ lines) none ∙ append-nil walked.before))) walked.so_far
+
+    pub ran_all : lines_of rest ≡ [] → RunsFor does fails (calls_to_keep (accepted options start (readings_of script))) first disk
+    ran_all none =
+        subst (λ (rs : List Reading). RunsFor does fails (calls_to_keep (accepted options start rs)) first disk)
+        (sym (ap (map reading_of) (walked.split ∙ ap (λ (lines : List (List ℕ)). walked.before ++ lines) none ∙ append-nil walked.before))) walked.ran

@@ -59,6 +59,7 @@ module _ {D : Type 0} (seen : D → List ℕ) (may_leave : D → List ℕ → Ty
     pub answers : List Answer
     pub serial : IsSerial options start readings answers
     pub text : progress.text.items ≡ texts_of answers
+    pub marked : progress.marked ≡ list_any is_marked answers
     pub images : (c : List ℕ) → may_leave disk c → IsJournalOrOneMore options (start ++ accepted options start readings) line.request c
 
   -- these lines were answered, after these requests

@@ -13,5 +13,5 @@ mod progress;
 mod script;
 
 pub use line::{Stopped, answer_line};
-pub use play::play_kept;
+pub use play::{config_of, play_kept};
 pub use script::{KeptText, ScriptError, play_script};

@@ -5,7 +5,9 @@ ghost use Rattle.pol_history.specs.Machine.{Machine as OneMachine};
 ghost use Rattle.pol_kept.specs.Keeps.{IsKept};
 ghost use Rattle.pol_machine.specs.Stands.{Stands, options_in};
 ghost use Rattle.pol_play_kept.specs.Answering.{PlaysLine};
+ghost use Rattle.pol_play_kept.specs.Calls.{RunsFor, StopsKeeping, calls_to_keep};
 ghost use Rattle.pol_script.specs.Reading.{reading_of};
+ghost use Rattle.pol_serial_run.specs.Accepted.{accepted_by};
 ghost use Rattle.pol_serial_run.specs.Asking.{is_commit};
 ghost use Rattle.pol_streams.specs.Faults.{Rose};
 
@@ -45,6 +47,8 @@ fn answer_other<D: Disk, L: Ledger>(
     ensures plays { (m : OneMachine) → Stands machine.old m
         → PlaysLine D.seen D.may_leave D.moment D.left_since m phase (reading_of _line.now) _disk.old machine.old _disk.new machine.new result }
     ensures kept { OnOk result (IsKept D.seen D.may_leave _disk.new machine.new) }
+    ensures calls { (m : OneMachine) → Stands machine.old m
+        → OnOk result (RunsFor D.does D.fails (calls_to_keep (accepted_by (options_in machine.old) m (reading_of _line.now))) _disk.old _disk.new) }
     ensures memory { IsErrOf result Stopped.Disk → ⊥ }
     ensures same { _disk.new ≡ _disk.old }
 {
@@ -70,6 +74,11 @@ fn answer_read<D: Disk, L: Ledger>(
     ensures plays { (m : OneMachine) → Stands machine.old m
         → PlaysLine D.seen D.may_leave D.moment D.left_since m phase (reading_of line.now) disk.old machine.old disk.new machine.new result }
     ensures kept { OnOk result (IsKept D.seen D.may_leave disk.new machine.new) }
+
+    // The disk's calls.
+    ensures calls { (m : OneMachine) → Stands machine.old m
+        → OnOk result (RunsFor D.does D.fails (calls_to_keep (accepted_by (options_in machine.old) m (reading_of line.now))) disk.old disk.new) }
+    ensures stops { IsErrOf result Stopped.Disk → StopsKeeping D.does D.fails D.seen line.now disk.old disk.new }
 
     // The disk's faults.
     ensures failed { IsErrOf result Stopped.Disk → Rose (D.faults disk.old) (D.faults disk.new) }
@@ -124,6 +133,11 @@ pub fn answer_line<D: Disk, L: Ledger>(
     ensures plays { (m : OneMachine) → Stands machine.old m
         → PlaysLine D.seen D.may_leave D.moment D.left_since m phase (reading_of line.now) disk.old machine.old disk.new machine.new result }
     ensures kept { OnOk result (IsKept D.seen D.may_leave disk.new machine.new) }
+
+    // The disk's calls.
+    ensures calls { (m : OneMachine) → Stands machine.old m
+        → OnOk result (RunsFor D.does D.fails (calls_to_keep (accepted_by (options_in machine.old) m (reading_of line.now))) disk.old disk.new) }
+    ensures stops { IsErrOf result Stopped.Disk → StopsKeeping D.does D.fails D.seen line.now disk.old disk.new }
 
     // The disk's faults.
     ensures failed { IsErrOf result Stopped.Disk → Rose (D.faults disk.old) (D.faults disk.new) }

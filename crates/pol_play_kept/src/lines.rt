@@ -8,6 +8,7 @@ ghost use Rattle.pol_model.specs.declared.options.Options.{Options as AllOptions
 ghost use Rattle.pol_model.specs.declared.request.Request.{Request as AnyRequest};
 ghost use Rattle.pol_play_kept.specs.Images.{IsJournalOrMore, IsJournalWithin};
 ghost use Rattle.pol_play_kept.specs.Answering.{IsSoFar, StopsHere};
+ghost use Rattle.pol_play_kept.specs.Calls.{RunsFor, StopsAtCall, StopsKeeping, calls_to_keep};
 ghost use Rattle.pol_play_kept.specs.Played.{StopsAt};
 ghost use Rattle.pol_run.specs.Run.{readings_of};
 ghost use Rattle.pol_run.specs.Spots.{Reading as AnyReading};
@@ -69,6 +70,13 @@ pub(crate) fn play_line<D: Disk, L: Ledger>(
         → LeavesOnly D.moment D.left_since disk.old disk.new (IsJournalOrMore options (start ++ accepted options start readings)
         (accepted_by options (machine_after_lines options (machine_of options start) readings) (reading_of line.now))) }
 
+    // The disk's calls.
+    ensures calls { (options : AllOptions) (start : List AnyRequest) (readings : List AnyReading)
+        → IsSoFar D.seen D.may_leave options start readings progress.old disk.old machine.old
+        → OnOk result (RunsFor D.does D.fails
+        (calls_to_keep (accepted_by options (machine_after_lines options (machine_of options start) readings) (reading_of line.now))) disk.old disk.new) }
+    ensures stops_keeping { IsErrOf result Stopped.Disk → StopsKeeping D.does D.fails D.seen line.now disk.old disk.new }
+
     // The disk's faults.
     ensures failed { IsErrOf result Stopped.Disk → Rose (D.faults disk.old) (D.faults disk.new) }
     ensures never_falls { D.faults disk.old ≤ D.faults disk.new }
@@ -99,6 +107,13 @@ pub(crate) fn play_lines<D: Disk, L: Ledger>(
         → StopsAt (options_in machine.old) (requests_in machine.old) (readings_of script.now) (D.may_leave disk.new) progress.new.text.items }
     ensures any_moment { LeavesOnly D.moment D.left_since disk.old disk.new (IsJournalWithin (options_in machine.old) (requests_in machine.old)
         (accepted (options_in machine.old) (requests_in machine.old) (readings_of script.now))) }
+
+    // The disk's calls.
+    ensures calls { OnOk result (RunsFor D.does D.fails
+        (calls_to_keep (accepted (options_in machine.old) (requests_in machine.old) (readings_of script.now))) disk.old disk.new) }
+    ensures stops_at_call { IsErrOf result Stopped.Disk
+        → StopsAtCall D.does D.fails D.seen D.may_leave (options_in machine.old) (requests_in machine.old) (readings_of script.now)
+        progress.new.marked progress.new.text.items disk.old disk.new }
 
     // The disk's faults.
     ensures failed { IsErrOf result Stopped.Disk → Rose (D.faults disk.old) (D.faults disk.new) }

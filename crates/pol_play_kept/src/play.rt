@@ -33,11 +33,12 @@ fn options_played(options: Options, task: Task) -> Option<Options>
         Task::Generate(_) => None,
         Task::Map(_) => None,
         Task::Audit => None,
+        Task::Crash(_) => None,
     }
 }
 
 /// The options as a machine takes them that is kept.
-fn config_of(options: Options) -> KeptConfig
+pub fn config_of(options: Options) -> KeptConfig
     requires { IsSomeAnd options.map_max (λ limit. limit ≤ 65536) }
     ensures same { options_of result ≡ options }
     ensures limit { result.map_max ≤ 65536 }
@@ -150,7 +151,7 @@ fn play_source<S: Source, K: Sink, D: Disk>(
 }
 
 /// Reads a script from the source, plays its lines in order in one session over the journal on the disk, and then writes all answers to
-/// the sink. The words are those of a script that is played: `--generate`, `--map` and `--audit` don't fit here. The workers that the
+/// the sink. The words are those of a script that is played: `--generate`, `--map`, `--audit` and `--crash-at` don't fit here. The workers that the
 /// words name are none, as there is one session and each map is made at its `sync` line ('profile').
 ///
 /// Words that don't fit are status `Usage`, and nothing is read then. The whole source is read before the disk is opened (`Read`,

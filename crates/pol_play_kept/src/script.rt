@@ -1,10 +1,11 @@
 //! A script over a disk.
-ghost use Rattle.std.specs.Prelude.{◌≡◌, ◌≤◌, List, IfErr, IfOk, IsErrOf, IsTrue, OnOk, false, true, if◌then◌else◌};
+ghost use Rattle.std.specs.Prelude.{◌≡◌, ◌+◌, ◌≤◌, List, IfErr, IfOk, IsErrOf, IsTrue, OnOk, false, true, if◌then◌else◌};
 ghost use Rattle.pol_disk.specs.Images.{LeavesOnly};
 ghost use Rattle.pol_kept.specs.Keeps.{IsKept, options_of, requests_in};
 ghost use Rattle.pol_machine.specs.Serial.{machine_of};
 ghost use Rattle.pol_machine.specs.Stands.{Stands, options_in};
 ghost use Rattle.pol_model.specs.declared.request.Request.{Request as AnyRequest};
+ghost use Rattle.pol_play_kept.specs.Calls.{RunsFor, StopsAtCall, StopsInOpening, StopsOnceOpened, calls_to_keep, calls_to_open};
 ghost use Rattle.pol_play_kept.specs.Images.{AllAre, IsJournalWithin};
 ghost use Rattle.pol_play_kept.specs.Played.{HoldsAtGate, IsSomeJournal, IsWhole, StopsAt, TellsGate};
 ghost use Rattle.pol_run.specs.Run.{readings_of};
@@ -70,6 +71,13 @@ fn play_opened<L: Ledger, D: Disk>(
     ensures any_moment { LeavesOnly D.moment D.left_since disk.old disk.new (IsJournalWithin (options_in machine) (requests_in machine)
         (accepted (options_in machine) (requests_in machine) (readings_of script.now))) }
 
+    // The disk's calls.
+    ensures calls { IfOk result (λ kept. kept.lost ≡ false → RunsFor D.does D.fails
+        (calls_to_keep (accepted (options_in machine) (requests_in machine) (readings_of script.now))) disk.old disk.new) }
+    ensures stops_at_call { IfOk result (λ kept. kept.lost ≡ true
+        → StopsAtCall D.does D.fails D.seen D.may_leave (options_in machine) (requests_in machine) (readings_of script.now)
+        kept.marked kept.text.items disk.old disk.new) }
+
     // The disk's faults.
     ensures lost { IfOk result (λ kept. kept.lost ≡ true → Rose (D.faults disk.old) (D.faults disk.new)) }
     ensures never_falls { D.faults disk.old ≤ D.faults disk.new }
@@ -114,6 +122,15 @@ pub fn play_script<D: Disk>(
         → AllAre (options_of config) start (D.may_leave disk.new) }
     ensures any_moment { (start : List AnyRequest) → AllAre (options_of config) start (D.may_leave disk.old)
         → LeavesOnly D.moment D.left_since disk.old disk.new (IsJournalWithin (options_of config) start (accepted (options_of config) start (readings_of script.now))) }
+
+    // The disk's calls: those that open the journal, and then four for each request that is accepted, up to one that failed.
+    ensures calls { (start : List AnyRequest) → AllAre (options_of config) start (D.may_leave disk.old) → IfOk result (λ kept. kept.lost ≡ false
+        → RunsFor D.does D.fails (calls_to_open (D.seen disk.old)
+        + calls_to_keep (accepted (options_of config) start (readings_of script.now))) disk.old disk.new) }
+    ensures stops_at_call { (start : List AnyRequest) → AllAre (options_of config) start (D.may_leave disk.old) → IfOk result (λ kept. kept.lost ≡ true
+        → StopsOnceOpened D.does D.fails D.seen D.may_leave (options_of config) start (readings_of script.now)
+        kept.marked kept.text.items disk.old disk.new) }
+    ensures stops_opening { IsErrOf result ScriptError.Disk → StopsInOpening D.does D.fails D.seen disk.old disk.new }
 
     // Which bytes are opened. A damaged journal stays as it was.
     ensures journal { OnOk result (IsSomeJournal (options_of config) (D.seen disk.old)) }

@@ -1,3 +1,3 @@
-mod Gates
+pub mod Gates
 pub mod Logs
 pub mod Reading

@@ -2,3 +2,4 @@ pub mod SerialRun
 pub mod Accepted
 pub mod Asking
 pub mod Worked
+pub mod WorkedLimits

@@ -1,2 +1,3 @@
 pub mod ScriptRun
 pub mod Tables
+pub mod Drills

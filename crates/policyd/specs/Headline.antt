@@ -8,6 +8,7 @@ use Rattle.pol_answer.specs.declared.answer.Answer.{Answer}
 use Rattle.pol_compare.specs.declared.finding.Finding.{Finding}
 use Rattle.pol_compare.specs.Finding.{IsFinding, is_same}
 use Rattle.pol_compare.specs.Text.{finding_text}
+use Rattle.pol_crash_drill.specs.Drill.{IsDrill}
 use Rattle.pol_history.specs.declared.event.HistoryEvent.{HistoryEvent}
 use Rattle.pol_generated.specs.HistoryOfRounds.{IsHistoryOfRounds}
 use Rattle.pol_history.specs.Legal.{IsLegal}
@@ -86,3 +87,17 @@ pub record WritesPartOfFinding (old new : Option (List ℕ)) (text : List ℕ) :
   pub finding : Finding
   pub is_finding : IsFinding text finding
   pub written : AppendsPart old new (finding_text finding)
+
+-- What was written is what a drill of a crash at that call of the disk writes: the answers that come before it, and how many
+-- requests are found behind it. The status is that of the answers.
+pub record WritesDrill (options : Options) (call : ℕ) (old new : Option (List ℕ)) (script : List ℕ) (status : ℕ) : Type 0 where
+  pub text : List ℕ
+  pub drill : IsDrill options call (readings_of script) text status
+  pub written : Appends old new text
+
+-- what was written is the first part of such a text
+pub record WritesPartOfDrill (options : Options) (call : ℕ) (old new : Option (List ℕ)) (script : List ℕ) : Type 0 where
+  pub text : List ℕ
+  pub status : ℕ
+  pub drill : IsDrill options call (readings_of script) text status
+  pub written : AppendsPart old new text

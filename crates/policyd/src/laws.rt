@@ -1,12 +1,14 @@
 //! What lacks a condition of what the program promises. Each function does nothing: its contract is the law.
-ghost use Rattle.std.specs.Prelude.{◌≡◌, ℕ, List, Option, [], ◌∷◌, false, map, None, Some, true};
+ghost use Rattle.std.specs.Prelude.{◌≡◌, ℕ, List, Option, [], ◌∷◌, codes, false, map, None, Some, true};
+ghost use Rattle.std.specs.Io.KnownBytes.{Appends};
 ghost use Rattle.pol_answer.specs.Text.{texts_of};
 ghost use Rattle.pol_answer.specs.declared.answer.Answer.TheVariants as answer;
 ghost use Rattle.pol_generated.specs.Requests.{requests_asked};
 ghost use Rattle.pol_history.specs.ExampleEvents.{add_web, commit, open_map, publish};
 ghost use Rattle.pol_map_dump.specs.AtEnd.{is_live};
 ghost use Rattle.pol_model.specs.declared.options.Options.{Options as AllOptions};
-ghost use Rattle.policyd.specs.Headline.{HoldsText, LeavesHistory, LeavesRounds, WritesFinding, WritesMap};
+ghost use Rattle.pol_streams.specs.Bytes.{AppendsPart};
+ghost use Rattle.policyd.specs.Headline.{HoldsText, LeavesHistory, LeavesRounds, WritesDrill, WritesFinding, WritesMap, WritesPartOfDrill};
 
 /// A run of a script without lines leaves nothing: no history with a commit, or with a map of an endpoint that isn't there, no text,
 /// and it writes nothing. And what was seen in the end is told: without rounds too it is a legal history, of the endpoints that are
@@ -25,11 +27,15 @@ pub(crate) fn runs_that_leave_nothing()
 {}
 
 /// With `--map` the status is 0 where an endpoint of the name is live in the end, and 1 where none is. With `--audit` it is 1 where
-/// there is no divider ('profile').
+/// there is no divider. Where the disk fails before it is open, no line is answered, and nothing is found ('profile').
 pub(crate) fn statuses_are_told()
     ensures live { (options : AllOptions) (name : List ℕ) (old new : Option (List ℕ)) (script : List ℕ) (status : ℕ) → is_live options name script ≡ true
         → WritesMap options name old new script status → status ≡ 0 }
     ensures nobody { (options : AllOptions) (name : List ℕ) (old new : Option (List ℕ)) (script : List ℕ) (status : ℕ) → is_live options name script ≡ false
         → WritesMap options name old new script status → status ≡ 1 }
     ensures no_divider { (old new : Option (List ℕ)) (status : ℕ) → WritesFinding old new [] status → status ≡ 1 }
+    ensures not_opened { (options : AllOptions) (old new : Option (List ℕ)) (script : List ℕ) (status : ℕ) → WritesDrill options 3 old new script status
+        → (status ≡ 0) × Appends old new (codes "restart 0\n") }
+    ensures part_not_opened { (options : AllOptions) (old new : Option (List ℕ)) (script : List ℕ) → WritesPartOfDrill options 3 old new script
+        → AppendsPart old new (codes "restart 0\n") }
 {}

@@ -2,8 +2,9 @@
 //! standard output.
 //!
 //! `play` does all of it over any source and sink: `source` reads a script and answers it, `generate` writes the summary of
-//! one that is made, `map` the map that a script leaves an endpoint with, and `audit` how two tables differ. The lines are played by `pol_play_lines`. What `play` promises is stated in its contract,
-//! over the definitions of `pol_run`.
+//! one that is made, `map` the map that a script leaves an endpoint with, `audit` how two tables differ, and `crash` what a
+//! crash leaves of the requests of a script. The lines are played by `pol_play_lines`. What `play` promises is stated in its
+//! contract, over the definitions of `pol_run`.
 #![tactic(auto)]
 
 ghost use Rattle.std.specs.Prelude.{◌≡◌};
@@ -11,6 +12,7 @@ ghost use Rattle.std.specs.IoError.{error_kind};
 ghost use Rattle.policyd.specs.Ends.{status_without_words};
 
 mod audit;
+mod crash;
 #[cfg(test)]
 mod gates;
 mod generate;

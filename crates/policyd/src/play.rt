@@ -7,11 +7,12 @@ ghost use Rattle.pol_command_line.specs.Given.{words_given};
 ghost use Rattle.pol_map_dump.specs.AtEnd.{map_text};
 ghost use Rattle.pol_summary.specs.Summary.{summary};
 ghost use Rattle.policyd.specs.Script.{is_too_long, fits_limits};
-ghost use Rattle.policyd.specs.Headline.{LeavesHistory, LeavesRounds, WritesFinding, WritesMap, WritesPartOfFinding, WritesPartOfRun, WritesRun};
+ghost use Rattle.policyd.specs.Headline.{LeavesHistory, LeavesRounds, WritesDrill, WritesFinding, WritesMap, WritesPartOfDrill, WritesPartOfFinding, WritesPartOfRun, WritesRun};
 ghost use Rattle.policyd.specs.Ends.{is_answered, has_read_all, is_silent, status_number};
-ghost use Rattle.policyd.specs.Task.{audits, generates, maps, reads_source, reads_with, without_limit};
+ghost use Rattle.policyd.specs.Task.{audits, drills, generates, maps, reads_source, reads_with, without_limit};
 
 use crate::audit::play_audit;
+use crate::crash::play_crash;
 use crate::generate::play_generated;
 use crate::map::play_map;
 use crate::played::Played;
@@ -28,7 +29,8 @@ use std::thread::Threads;
 /// Reads a script from the source, answers its lines, and then writes all answers to the sink. With `--generate`
 /// it plays a generated script instead, and writes its summary; the source isn't read then. With `--map NAME` the requests
 /// of the script are committed in their order, and the map of the endpoint of that name at the end is written as a table.
-/// With `--audit` two tables are read in place of a script, and compared by what they say.
+/// With `--audit` two tables are read in place of a script, and compared by what they say. With `--crash-at N` the lines are
+/// answered over a disk in memory that fails from call N on, and what is found on it after a crash is told.
 ///
 /// Words that don't fit are status `Usage`, and nothing is read then. The whole source is read before a line is
 /// answered (`Read`, `TooLong`), and nothing is written before each line is (`Write`). Want of memory may come at
@@ -86,8 +88,15 @@ pub fn play<R: Threads + Wait + Sync, S: Source, K: Sink>(
     ensures audit_part { result.status ≡ Status.Write → IsTrue (audits (map string_bytes words.now))
         → IfSome (S.left source.old) (λ text.
         WritesPartOfFinding (K.written sink.old) (K.written sink.new) text) }
+    ensures drill { IsTrue (is_answered result.status) → IfSome (drills (map string_bytes words.now)) (λ task.
+        IfSome (S.left source.old) (λ script.
+        WritesDrill task.options task.call (K.written sink.old) (K.written sink.new) script (status_number result.status))) }
+    ensures drill_part { result.status ≡ Status.Write → IfSome (drills (map string_bytes words.now)) (λ task.
+        IfSome (S.left source.old) (λ script.
+        WritesPartOfDrill task.options task.call (K.written sink.old) (K.written sink.new) script)) }
     ensures no_last_map { IsTrue (is_some (maps (map string_bytes words.now))) → result.last ≡ None }
     ensures no_last_audit { IsTrue (audits (map string_bytes words.now)) → result.last ≡ None }
+    ensures no_last_drill { IsTrue (is_some (drills (map string_bytes words.now))) → result.last ≡ None }
     ensures complete { IsTrue (reads_source (map string_bytes words.now))
         → DidNotRise (S.faults source.old) (S.faults source.new)
         → DidNotRise (K.faults sink.old) (K.faults sink.new)
@@ -153,8 +162,15 @@ pub fn play_gated<R: Threads + Wait + Sync, S: Source, K: Sink, G: Gate + Sync>(
     ensures audit_part { result.status ≡ Status.Write → IsTrue (audits (map string_bytes words.now))
         → IfSome (S.left source.old) (λ text.
         WritesPartOfFinding (K.written sink.old) (K.written sink.new) text) }
+    ensures drill { IsTrue (is_answered result.status) → IfSome (drills (map string_bytes words.now)) (λ task.
+        IfSome (S.left source.old) (λ script.
+        WritesDrill task.options task.call (K.written sink.old) (K.written sink.new) script (status_number result.status))) }
+    ensures drill_part { result.status ≡ Status.Write → IfSome (drills (map string_bytes words.now)) (λ task.
+        IfSome (S.left source.old) (λ script.
+        WritesPartOfDrill task.options task.call (K.written sink.old) (K.written sink.new) script)) }
     ensures no_last_map { IsTrue (is_some (maps (map string_bytes words.now))) → result.last ≡ None }
     ensures no_last_audit { IsTrue (audits (map string_bytes words.now)) → result.last ≡ None }
+    ensures no_last_drill { IsTrue (is_some (drills (map string_bytes words.now))) → result.last ≡ None }
     ensures complete { IsTrue (reads_source (map string_bytes words.now))
         → DidNotRise (S.faults source.old) (S.faults source.new)
         → DidNotRise (K.faults sink.old) (K.faults sink.new)
@@ -184,6 +200,7 @@ pub fn play_gated<R: Threads + Wait + Sync, S: Source, K: Sink, G: Gate + Sync>(
                 sink,
             )),
             Task::Audit => Played::only(play_audit(alloc, source, sink)),
+            Task::Crash(call) => Played::only(play_crash(alloc, options, call, source, sink)),
         },
     }
 }

@@ -15,4 +15,6 @@ returns c =
     let four = c.in_ok-arg-4.ensures.shape c.number-map_max.ensures.local ∙ ap₂ with_rule three c.number-map_max.ensures.rule in
     let five = c.in_ok-arg-5.ensures.shape c.number-generate.ensures.local ∙ ap₂ with_rule four c.number-generate.ensures.rule in
     let six = c.in_ok-arg-6.ensures.shape c.option-map.ensures.local ∙ ap₂ with_rule five c.option-map.ensures.rule in
-    IfOk-weaker c.arg-7.result _ _ (λ command added. added.shape c.flag-audit.ensures.local ∙ ap₂ with_rule six c.flag-audit.ensures.rule) c.arg-7.ensures
+    let seven = c.in_ok-arg-7.ensures.shape c.flag-audit.ensures.local ∙ ap₂ with_rule six c.flag-audit.ensures.rule in
+    IfOk-weaker c.arg-8.result _ _
+    (λ command added. added.shape c.number-crash_at.ensures.local ∙ ap₂ with_rule seven c.number-crash_at.ensures.rule) c.arg-8.ensures

@@ -1,8 +1,10 @@
-use Rattle.std.proofs.Common.{Ok, ap, ◌∙◌, subst, sym}
+use Rattle.std.proofs.Common.{Ok, ap, refl, ◌∙◌, subst, sym}
 use Rattle.pol_machine.specs.Stands.{Stands, options_in}
 use Rattle.pol_run.specs.Spots.{Reading}
+use Rattle.pol_script.specs.Reading.{reading_of}
 use Rattle.pol_serial_run.specs.Accepted.{accepted_by}
 use Rattle.pol_serial_run.specs.SerialRun.{IsLineAnswer, machine_then}
+use Rattle.pol_play_kept.proofs.Counted.{keeps_none}
 use Rattle.pol_play_kept.proofs.Others.{none_accepted, other_answered, plays_nothing, plays_told}
 use Rattle.pol_play_kept.proofs.line.answer_other.Goals as goal
 
@@ -37,3 +39,10 @@ returns-in-Err-clause-plays g c m stands =
     let options = options_in c.args.machine.now in
     plays_nothing d.moment d.left_since d.seen d.may_leave c.args._disk.now c.args.machine.now c.answer_command.new.machine m stands c.requires.kept c.args.phase _
     (ap (accepted_by options m) c.requires.read ∙ none_accepted options m c.args.command c.requires.other) (g.met.D.Disk.only_now c.args._disk.now)
+
+pub returns-in-Ok-clause-calls : goal.returns-in-Ok-clause-calls
+returns-in-Ok-clause-calls g c m stands =
+    let d = g.D.Disk in
+    let options = options_in c.args.machine.now in
+    keeps_none d.does d.fails options m (reading_of c.args._line.now) c.args._disk.now c.args._disk.now
+    (ap (accepted_by options m) c.requires.read ∙ none_accepted options m c.args.command c.requires.other) refl

@@ -15,3 +15,6 @@ returns-in-Ok-clause-whole g c is =
 
 pub returns-in-Err-Disk-clause-stops : goal.returns-in-Err-Disk-clause-stops
 returns-in-Err-Disk-clause-stops g c is = c.in-Err-Disk.ensures.stops (ap Err c.in-Err-Disk.field-0-is)
+
+pub returns-in-Err-Disk-clause-stops_at_call : goal.returns-in-Err-Disk-clause-stops_at_call
+returns-in-Err-Disk-clause-stops_at_call g c is = c.in-Err-Disk.ensures.stops_at_call (ap Err c.in-Err-Disk.field-0-is)

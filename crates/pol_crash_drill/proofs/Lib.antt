@@ -1,0 +1,4 @@
+mod Lines
+mod Left
+mod Cut
+mod Ends
