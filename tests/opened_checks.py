@@ -8,8 +8,9 @@ ANSWERED = (0, 1, 3)
 
 def of_case(case):
     """What is wrong with what the model tells of a case, in lines."""
-    mode, localhost, _ = script_options(case.words())
-    told, status = opened.told(case.given(), mode, localhost)
+    words = case.words()
+    mode, localhost, _ = script_options([it for it in words if it != "--halves"])
+    told, status = opened.told(case.given(), mode, localhost, "--halves" in words)
     wrong = [] if status == case.status() else [f"status {status}, and not {case.status()}"]
     return wrong + compare.difference(case.name, case.out(), told)
 

@@ -14,6 +14,7 @@ taken anew. What the gate notes is always taken anew.
     tests/program.py keep SUMS [LOG]
         after `rt ci` passed, whose words are in the file LOG: notes its builds, where the sources still have these checksums
 """
+import contextlib
 import functools
 import hashlib
 import os
@@ -118,7 +119,9 @@ class Build:
             return kept[1]
         found = self.sources()
         if self.seen.parent.is_dir() and newest + SETTLED < time.time() and self.stamp()[0] == stamp:
-            write_whole(self.seen, f"{stamp}\n{found}\n")
+            # (where it can't be kept, each question sums anew)
+            with contextlib.suppress(OSError):
+                write_whole(self.seen, f"{stamp}\n{found}\n")
         return found
 
     def stamp(self):

@@ -5,6 +5,7 @@ here they are the ends that rows have.
 """
 from __future__ import annotations
 
+import bisect
 import itertools
 import json
 from typing import Iterable, Mapping, NamedTuple, Optional, Sequence
@@ -54,17 +55,20 @@ class Heard:
         self.by_protocol: dict[str, list[Said]] = {}
         for it in self.said:
             self.by_protocol.setdefault(it.protocol, []).append(it)
+        self.lows = {protocol: [it.low for it in listed] for protocol, listed in self.by_protocol.items()}
         # Whether the entries of the half that sends, and of the one that receives, are asked about.
         self.asks = tuple(any(is_asked(it.opens, it.before[at], it.after[at]) for it in self.said) for at in (0, 1))
 
     def at(self, protocol: str, low: int, high: int) -> Optional[Said]:
         """What is said of a stretch of ports; it lies in one range of which something is said, or apart from all."""
-        for it in self.by_protocol.get(protocol, ()):
-            if it.low <= low and high <= it.high:
-                return it
-            if it.low <= high and low <= it.high:
-                raise NoAnswer(f"connections tells the ports {it.low} to {it.high} from others, and {low} to {high} were thought to be judged alike")
-        return None
+        said = self.by_protocol.get(protocol, [])
+        found = bisect.bisect_right(self.lows.get(protocol, []), high) - 1
+        if found < 0 or said[found].high < low:
+            return None
+        it = said[found]
+        if it.low > low or high > it.high:
+            raise NoAnswer(f"connections tells the ports {it.low} to {it.high} from others, and {low} to {high} were thought to be judged alike")
+        return it
 
 
 class Changes:

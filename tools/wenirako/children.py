@@ -98,7 +98,10 @@ def ended_by(main: Callable[[], int]) -> int:
     """The status of a program that is told to end by signals, and whose children end with it."""
     heed_signals()
     try:
-        return main()
+        status = main()
+        # (what a signal raised may have been swallowed)
+        _signals.check()
+        return status
     except Ended as ended:
         return ended.status
     finally:

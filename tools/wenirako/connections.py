@@ -5,7 +5,10 @@ cluster has one.
 """
 from __future__ import annotations
 
+import bisect
 from typing import Iterable, Mapping, NamedTuple, Optional, Sequence
+
+from lib import ports
 
 from .core import ALLOWED, BY_RULE, NoAnswer
 from .ends import End, Group
@@ -77,12 +80,13 @@ def open_stretches(halves: Halves, source: End, target: End, phase: int, told: M
 
 def is_within(ranges: Ranges, low: int, high: int) -> bool:
     """Whether a stretch lies in one of the ranges; it lies in one, or apart from all."""
-    for first, last in ranges:
-        if first <= low and high <= last:
-            return True
-        if first <= high and low <= last:
-            raise NoAnswer(f"connections tells the ports {first} to {last} from others, and {low} to {high} were thought to be judged alike")
-    return False
+    found = bisect.bisect_right(ranges, (high, ports.LAST)) - 1
+    if found < 0 or ranges[found][1] < low:
+        return False
+    first, last = ranges[found]
+    if first > low or high > last:
+        raise NoAnswer(f"connections tells the ports {first} to {last} from others, and {low} to {high} were thought to be judged alike")
+    return True
 
 
 def pairs_with(source: End, target: End, is_noded: bool) -> bool:

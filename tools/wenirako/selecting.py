@@ -1,7 +1,7 @@
 """Which rules select which sets of labels.
 
-It is worked out from the labels alone, once for a state, and held against the core: `halves` asks of each half whether
-something isolates it, and each entry that an answer names must be of a rule that was thought to select.
+It is worked out from the labels alone, once for a state, and held against the core: `halves` asks whether something
+isolates a half, where `policyd` is asked of it, and each entry that an answer names must be of a rule that was thought to select.
 """
 from __future__ import annotations
 

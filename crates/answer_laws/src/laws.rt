@@ -8,8 +8,8 @@ ghost use Rattle.pol_model.specs.declared.options.Options.{Options};
 ghost use Rattle.pol_run.specs.Run.{IsRunOf};
 ghost use Rattle.pol_script.specs.Lines.{lines_of};
 
-/// The revisions, phases and numbers of identities of commits that a run prints have 64 bits, its rows name endpoints by names of the
-/// script, and its explanations policies by keys that metadata gives: of any script of fewer than 2^64 lines ('profile').
+/// The revisions, phases and numbers of identities of commits that a run prints have 64 bits, its rows have names of the form
+/// that a script's have, and its explanations keys of the form that metadata gives: of any script of fewer than 2^64 lines ('profile').
 pub fn answers_of_runs_are_small()
     ensures { (options : Options) (script written : List ℕ) (ended : ℕ) (run : IsRunOf options script written ended)
         → length (lines_of script) < 2 ^ 64 → IsTrue (list_all has_read_numbers run.answers) }
