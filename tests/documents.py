@@ -216,7 +216,7 @@ def diagram():
     wanted = layers.drawn()
     wrong = compare.difference("the diagram", wanted.encode(), layers.there().encode())
     unsaid = [it for it, what in layers.described().items() if what == layers.UNKNOWN]
-    return [*wrong, *(["tests/layers.py --write draws it"] if wrong else []), *(f"it doesn't say what {it} is" for it in unsaid)]
+    return [*wrong, *(["tools/layers.py --write draws it"] if wrong else []), *(f"it doesn't say what {it} is" for it in unsaid)]
 
 
 def introduced(name):

@@ -148,7 +148,7 @@ def played(program: Program, script: IO[bytes], words: Sequence[str]) -> int:
 
 def tried(script: IO[bytes], words: Sequence[str]) -> int:
     """Builds the program without proof for this one script, and plays it."""
-    unproved, program = programs.of_tests("unproved"), programs.of_tests("program")
+    unproved, program = programs.of_repository("unproved"), programs.of_repository("program")
     done = children.run(unproved.command(words), cwd=program.CRATE, stdin=script, stdout=None)
     said, status = unproved.told(done.err)
     sys.stderr.write(said)
@@ -176,7 +176,7 @@ def prove() -> Optional[str]:
     """Proves the program, where no proved build of the sources stands. Returns what went wrong, or None."""
     if programs.manifest() is not None:
         return "an archive has no sources to prove"
-    program = programs.of_tests("program")
+    program = programs.of_repository("program")
     run = lambda words, folder: children.run(words, cwd=folder, stderr=subprocess.STDOUT)[:2]
     return None if program.is_proved() else program.prove(say, run)
 

@@ -1,8 +1,8 @@
 """Which program answers: the one of an archive, a proved build of the sources, or a build without proof.
 
 In an archive that `tools/release` made, `MANIFEST.json` stands beside the command, and `bin/policyd` answers, where its
-sum is that of the manifest; and `bin/connections`, where the manifest names that too. In a repository `tests/program.py`
-knows whether a proved build of the present sources is there, and `tests/unproved.py` whether one without proof is; where
+sum is that of the manifest; and `bin/connections`, where the manifest names that too. In a repository `tools/program.py`
+knows whether a proved build of the present sources is there, and `tools/unproved.py` whether one without proof is; where
 there is neither, one without proof is built and kept.
 """
 from __future__ import annotations
@@ -34,10 +34,8 @@ class Program(NamedTuple):
     origin: str
 
 
-def of_tests(name: str) -> Any:
-    """A module of tests/, which an archive doesn't have."""
-    if str(TOP / "tests") not in sys.path:
-        sys.path.insert(0, str(TOP / "tests"))
+def of_repository(name: str) -> Any:
+    """A module beside this package, which an archive doesn't have."""
     return importlib.import_module(name)
 
 
@@ -60,7 +58,7 @@ def there() -> Optional[Program]:
     told = manifest()
     if told is not None:
         return of_archive(told)
-    program, unproved = of_tests("program"), of_tests("unproved")
+    program, unproved = of_repository("program"), of_repository("unproved")
     if program.is_proved():
         return Program([str(program.PROGRAM)], True, "a proved build of the sources")
     if unproved.is_kept():
@@ -76,7 +74,7 @@ def connections() -> Optional[Program]:
     told = manifest()
     if told is not None:
         return of_archive(told, LISTS) if told["proved"] and f"bin/{LISTS}" in told["files"] else None
-    build = of_tests("program").CONNECTIONS
+    build = of_repository("program").CONNECTIONS
     return Program([str(build.program)], True, "a proved build of the sources") if build.is_proved() else None
 
 
@@ -95,7 +93,7 @@ def build(say: Callable[[str], None], progress: Progress) -> None:
     say(NOT_PROVED)
     say("building it once, in one to three minutes; it is kept until a source changes ..")
     progress.begin("building policyd without proof")
-    done = children.run([sys.executable, str(TOP / "tests" / "unproved.py"), "build"], tick=progress.tick)
+    done = children.run([sys.executable, str(TOP / "tools" / "unproved.py"), "build"], tick=progress.tick)
     progress.end()
     if done.status:
         raise NoProgram((done.status > 0 and done.err.decode(errors="replace").rstrip()) or done.said("the build"))

@@ -10,8 +10,8 @@ Whether a build is that of the sources is asked by each question of the front do
 policyd.sources, with the place, size and times of each file that it was taken of, and where these are the same it isn't
 taken anew. What the gate notes is always taken anew.
 
-    tests/program.py sources      prints the checksums of the sources as they stand, of each program
-    tests/program.py keep SUMS [LOG]
+    tools/program.py sources      prints the checksums of the sources as they stand, of each program
+    tools/program.py keep SUMS [LOG]
         after `rt ci` passed, whose words are in the file LOG: notes its builds, where the sources still have these checksums
 """
 import contextlib

@@ -9,7 +9,7 @@ connections.
 
 Where a kit lays its work out otherwise there is no program to keep, and `rt try` builds it for each run.
 
-    tests/unproved.py build [connections]      builds and keeps policyd, or connections; standard error says what went wrong
+    tools/unproved.py build [connections]      builds and keeps policyd, or connections; standard error says what went wrong
 """
 import os
 import pathlib

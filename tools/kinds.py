@@ -1,8 +1,8 @@
 #!/usr/bin/env python3
 """Where a change goes: the files that ask of which kind a peer, a protocol, an answer or a fault is.
 
-    tests/kinds.py             prints the lists as the sources have them
-    tests/kinds.py --write     puts them into docs/ARCHITECTURE.md
+    tools/kinds.py             prints the lists as the sources have them
+    tools/kinds.py --write     puts them into docs/ARCHITECTURE.md
 
 A file of `src` or `specs` is listed under a type where it tells two kinds of it apart, or names all its kinds.
 
@@ -131,7 +131,7 @@ def compared():
     wanted, has = drawn(), there()
     wrong = [f"lacking: {it}" for it in sorted(entries(wanted) - entries(has))]
     wrong += [f"too much: {it}" for it in sorted(entries(has) - entries(wanted))]
-    return [*wrong, "tests/kinds.py --write lists them"] if wanted != has else []
+    return [*wrong, "tools/kinds.py --write lists them"] if wanted != has else []
 
 
 def checks():

@@ -1,7 +1,7 @@
 #!/usr/bin/env python3
 """Where each definition lives, by the tables 'Definitions' of the crates' READMEs.
 
-    tests/definitions.py [WORD ..]      prints what has all WORDs in its row, with its files
+    tools/definitions.py [WORD ..]      prints what has all WORDs in its row, with its files
 
 A row of such a table is `| WHAT | [FILE](FILE), .. |`, with files of the crate.
 """

@@ -1,8 +1,8 @@
 #!/usr/bin/env python3
 """The layer diagram of docs/LAYERS.md, drawn from crates.txt.
 
-    tests/layers.py             prints the diagram as crates.txt has it
-    tests/layers.py --write     puts it into docs/LAYERS.md
+    tools/layers.py             prints the diagram as crates.txt has it
+    tools/layers.py --write     puts it into docs/LAYERS.md
 
 A crate is one layer above the highest crate that it stands on. Right of it stand the crates below it, without those
 that stand below another of them. What a crate is, in a few words, is taken from the diagram that is there.
