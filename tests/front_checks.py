@@ -22,7 +22,7 @@ from play_checks import told
 from lib import regions
 from lib.addresses import NETWORKS, WORLDS, lies_in
 from recipes_checks import NAMESPACE, PODS, pod, policy
-from wenirako import children, coarse, core, drawing, flows, halves, kubectl, listing, opened, programs, progress, resolving, words, writing
+from wenirako import changes, children, coarse, core, drawing, flows, halves, kubectl, listing, opened, programs, progress, resolving, words, writing
 from wenirako.report import Report
 
 TOP = compare.TOP
@@ -184,6 +184,32 @@ def a_change_is_held(folder, wrong):
         with replaced(Door, has_connections=True), replaced(front_random, lines_of_connections=lambda *asked: other(lists(*asked))):
             status, out, err = door.call("diff", *STATE, *BOTH)
         told(wrong, what, (status, out, said is None or said in err), (70 if said else 0, "", True))
+
+
+def scripts_begin_alike(folder, wrong):
+    """Two scripts have what both say in the same places, whatever goes, comes, has other labels or is refused; the answer hangs on no order."""
+    lines = changes.shared_first(["a", "gone", "b", "c"], ["c", "come", "a", "b"])
+    told(wrong, "lines of both", lines, [["a", "b", "c", "gone"], ["a", "b", "c", "come"]])
+    door, scripts = Door(folder), []
+    of = lambda name, net: policy(name, {"endpointSelector": {"matchLabels": {"app": "web"}}, "egress": [{"toCIDR": [f"10.{net}.0.0/16"]}]})
+    state = lambda tier, *policies: listed(NAMESPACE, *PODS[:1], pod("shop", "cart", "n2", "10.0.0.2", {"app": "cart", "tier": tier}), pod("shop", "db", "n2", "10.0.0.3", {"app": "db"}), *policies)
+    before = door.write("before.json", state("old", of("first", 8), of("gone", 9), of("odd", 11), of("last", 12)))
+    after = door.write("after.json", state("new", of("last", 12), of("come", 10), of("odd", 11), of("first", 8)))
+    judges, lists = front_random.in_process, front_random.lines_of_connections
+    for refused in ("none", "odd", "gone", "come"):
+        other = lambda lines: ["{}" if f'"{refused}"' in it else it for it in lines]
+        asked = lambda lines, words=(): scripts.append(lines) or lists(other(lines), words)
+        with replaced(front_random, in_process=lambda lines, numbers: judges(other(lines), numbers), lines_of_connections=asked):
+            alone = door.call("diff", "--state", before, "--state-after", after)
+            with replaced(Door, has_connections=True):
+                ordered = door.call("diff", "--state", before, "--state-after", after)
+                with replaced(changes, shared_first=lambda *given: given):
+                    told(wrong, f"the answer in another order, {refused} refused", door.call("diff", "--state", before, "--state-after", after), ordered)
+        told(wrong, f"the answer, {refused} refused", ordered, alone)
+        told(wrong, f"whether it says so, {refused} refused", f"shop/{refused}" in ordered[2], refused != "none")
+    at = scripts[0].index(opened.DIVIDER)
+    one, two = scripts[0][:at], scripts[0][at + 1 :]
+    told(wrong, "what both say first", (one[:5] == two[:5], len(one), len(two), {*one[5:]} & {*two[5:]}), (True, 7, 7, set()))
 
 
 def prefixes_are_asked_once(folder, wrong):
@@ -789,7 +815,7 @@ def over_connections(check):
 
 
 def checks():
-    found = (a_change_is_told, forms_agree, what_is_open, connections_are_asked, connections_are_asked_of_much, connections_cannot_tell, a_change_is_held, prefixes_are_asked_once, why_is_told, expectations_are_held, flows_are_replayed)
+    found = (a_change_is_told, forms_agree, what_is_open, connections_are_asked, connections_are_asked_of_much, connections_cannot_tell, a_change_is_held, scripts_begin_alike, prefixes_are_asked_once, why_is_told, expectations_are_held, flows_are_replayed)
     found += (two_states_are_compared, slips_are_asked_of_the_bridge, workloads_and_namespaces, names_are_ends, worlds_are_told_apart, names_of_each_family, pods_of_both_families_are_ends, live_pods_have_their_addresses, words_agree, bash_completes, kubectl_is_asked)
     found += (children_end_too, children_that_start_end_too, signals_are_not_lost, other_programs_are_not_asked, progress_lives, ports_are_read, unions_and_flat_ranges)
     found += (forms_are_safe, prefixes_lie_in_each_other, flows_are_read, modules_are_small, one_formatter_lays_them_out, their_types_fit, random_changes_are_told)

@@ -85,7 +85,7 @@ class Changes:
 
     def told(self, *words: str) -> Mapping[tuple[End, End], Heard]:
         """What is said of each connection between ends that rows have; with `HALVES` where a half alone changes, too."""
-        scripts = [self.opened.script({name: it.number(phase) for name, it in self.groups.items()}, phase) for phase in (0, 1)]
+        scripts = shared_first(*(self.opened.script({name: it.number(phase) for name, it in self.groups.items()}, phase) for phase in (0, 1)))
         parts = (it.rstrip("\n").partition(SAID) for it in self.opened.answers(scripts, "asking what opens and shuts", words))
         found: dict[tuple[End, End], Heard] = {}
         for ends, lines in itertools.groupby((it for it in parts if it[1]), lambda it: it[0]):
@@ -151,6 +151,17 @@ class Outer:
             nearest = self.nested.of(known(key[1])) if key[0] == "region" else None
             self.known[key] = self.entities.get(key) if key[0] == "reserved" else self.regions.get(nearest) if nearest is not None else None
         return self.known[key]
+
+
+def shared_first(before: Sequence[str], after: Sequence[str]) -> list[list[str]]:
+    """Two scripts, each with the lines that both have first, in one order, and then its own.
+
+    `connections` numbers labels and prefixes as they come. Where those of both have the same numbers it need not look at
+    pairs that are the same, and what is told hangs on no order.
+    """
+    shared = {*before} & {*after}
+    first = [it for it in before if it in shared]
+    return [[*first, *(it for it in lines if it not in shared)] for lines in (before, after)]
 
 
 def said_of(it: dict) -> Said:
