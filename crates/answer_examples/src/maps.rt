@@ -19,7 +19,8 @@ pub fn what_maps_are_written()
     ensures not_isolated { map_text by_default (codes "web") web_to_db
         ≡ codes "ingress 0 every 0/0 allow\ningress 1 every 0/0 allow\negress 0 every 0/0 allow\n" }
     ensures nobody { map_text by_default (codes "api") web_to_db ≡ codes "noendpoint at 3\n" }
-    ensures ports { text_of ((port_key Egress 257 Udp (prefix_at 1024 6), Deny) ∷ []) ≡ codes "egress 257 UDP 1024/6 deny\n" }
+    ensures ports { text_of ((port_key Egress 257 Udp (prefix_at 1024 6), Deny) ∷ [])
+        ≡ codes "egress 257 UDP 1024/6 deny\n" }
     ensures lives { is_live by_default (codes "db") web_to_db ≡ true }
     ensures lives_not { is_live by_default (codes "api") web_to_db ≡ false }
 {}

@@ -32,7 +32,8 @@ pub fn play_connections<S: Source, K: Sink>(
 ) -> RunEnd
     // The words.
     ensures usage { result ≡ RunEnd.Usage → options_given (map string_bytes words.now) ≡ None }
-    ensures misfit { options_given (map string_bytes words.now) ≡ None → (result ≡ RunEnd.Usage) ⊎ (result ≡ RunEnd.Memory) }
+    ensures misfit { options_given (map string_bytes words.now) ≡ None
+        → (result ≡ RunEnd.Usage) ⊎ (result ≡ RunEnd.Memory) }
     ensures unread { result ≡ RunEnd.Usage → source.new ≡ source.old }
 
     // What is read.

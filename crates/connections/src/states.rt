@@ -63,7 +63,8 @@ pub(crate) fn one_state(alloc: Global, repo: &Repo, refused: &[Refusal]) -> Resu
 
 /// The refused lines of two scripts.
 fn both_refused(alloc: Global, before: &[Refusal], after: &[Refusal]) -> Result<Vec<u8>, Memory>
-    ensures { IfOk result (λ text. text.items ≡ refusals_text (Some ChangeSide.Before) before.now ++ refusals_text (Some ChangeSide.After) after.now) }
+    ensures { IfOk result (λ text. text.items
+        ≡ refusals_text (Some ChangeSide.Before) before.now ++ refusals_text (Some ChangeSide.After) after.now) }
 {
     let text = with_refusals(alloc, Vec::new(alloc), Some(ChangeSide::Before), before)?;
     with_refusals(alloc, text, Some(ChangeSide::After), after)
@@ -80,8 +81,10 @@ fn with_change(
     requires idle { before.now.prepared ≡ None }
     requires idle_after { after.now.prepared ≡ None }
     requires options { before.now.options ≡ after.now.options }
-    ensures text { IfOk result (λ told. told.0.items ≡ text.items ++ states_text halves after.now.options (state_in before.now) (state_in after.now)) }
-    ensures changes { IfOk result (λ told. told.1 ≡ not (is_same halves after.now.options (state_in before.now) (state_in after.now))) }
+    ensures text { IfOk result (λ told.
+        told.0.items ≡ text.items ++ states_text halves after.now.options (state_in before.now) (state_in after.now)) }
+    ensures changes { IfOk result (λ told.
+        told.1 ≡ not (is_same halves after.now.options (state_in before.now) (state_in after.now))) }
 {
     let gone = ends_alone(alloc, after, before)?;
     let new = ends_alone(alloc, before, after)?;
@@ -109,8 +112,8 @@ pub(crate) fn two_states(
     requires idle { before.now.prepared ≡ None }
     requires idle_after { after.now.prepared ≡ None }
     requires options { before.now.options ≡ after.now.options }
-    ensures text { IfOk result (λ told. told.text.items
-        ≡ refusals_text (Some ChangeSide.Before) refused_before.now ++ refusals_text (Some ChangeSide.After) refused_after.now
+    ensures text { IfOk result (λ told. told.text.items ≡ refusals_text (Some ChangeSide.Before) refused_before.now
+        ++ refusals_text (Some ChangeSide.After) refused_after.now
         ++ states_text halves after.now.options (state_in before.now) (state_in after.now)) }
     ensures status { IfOk result (λ told. status_number told.status
         ≡ status_of (not (is_none refused_before.now && is_none refused_after.now))

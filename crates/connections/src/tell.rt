@@ -68,8 +68,10 @@ fn two_scripts(
     back: &[u8],
 ) -> Result<Told, Memory>
     requires { asked.options.map_max ≡ None }
-    ensures text { IfOk result (λ told. told.text.items ≡ two_text asked.halves asked.options (readings_of front.now) (readings_of back.now)) }
-    ensures status { IfOk result (λ told. status_number told.status ≡ two_status asked.halves asked.options (readings_of front.now) (readings_of back.now)) }
+    ensures text { IfOk result (λ told.
+        told.text.items ≡ two_text asked.halves asked.options (readings_of front.now) (readings_of back.now)) }
+    ensures status { IfOk result (λ told. status_number told.status
+        ≡ two_status asked.halves asked.options (readings_of front.now) (readings_of back.now)) }
     ensures answered { IfOk result (λ told. IsTrue (is_answered told.status)) }
 {
     let one = read_script(alloc, front)?;
@@ -91,7 +93,8 @@ fn two_beside(
     requires options { before.old.options ≡ asked.options }
     requires no_limit { asked.options.map_max ≡ None }
     ensures text { IfOk result (λ told. told.text.items ≡ two_text asked.halves asked.options one.items other.items) }
-    ensures status { IfOk result (λ told. status_number told.status ≡ two_status asked.halves asked.options one.items other.items) }
+    ensures status { IfOk result (λ told.
+        status_number told.status ≡ two_status asked.halves asked.options one.items other.items) }
     ensures answered { IfOk result (λ told. IsTrue (is_answered told.status)) }
 {
     let mut after = Repo::new(alloc, asked.options.mode, asked.options.localhost)?;
@@ -113,7 +116,8 @@ fn two_over(
     requires idle_after { after.old.prepared ≡ None }
     requires options { before.old.options ≡ after.old.options }
     ensures text { IfOk result (λ told. told.text.items ≡ two_text halves after.old.options one.items other.items) }
-    ensures status { IfOk result (λ told. status_number told.status ≡ two_status halves after.old.options one.items other.items) }
+    ensures status { IfOk result (λ told.
+        status_number told.status ≡ two_status halves after.old.options one.items other.items) }
     ensures answered { IfOk result (λ told. IsTrue (is_answered told.status)) }
 {
     let refused_before = commit_all(alloc, before, one)?;

@@ -25,7 +25,8 @@ pub fn accepted_networks_are_whole()
 /// A NetworkPolicy is refused exactly where it has a fault. What it is refused for is one: its location leads to a part of the
 /// object at which its cause holds. And no fault of the object comes before it ('profile').
 pub fn first_faults_of_networks_are_told()
-    ensures is_one { (raw : RawNetworkPolicy) (fault : RuleFault) → translated_of raw ≡ Err fault → IsTrue (is_network_fault_of raw fault) }
+    ensures is_one { (raw : RawNetworkPolicy) (fault : RuleFault)
+        → translated_of raw ≡ Err fault → IsTrue (is_network_fault_of raw fault) }
     ensures first { (raw : RawNetworkPolicy) (fault other : RuleFault) → translated_of raw ≡ Err fault
         → IsTrue (is_network_fault_of raw other) → comes_before other fault ≡ false }
     ensures none { (raw : RawNetworkPolicy) (policy : Policy) (fault : RuleFault) → translated_of raw ≡ Ok policy
@@ -38,6 +39,7 @@ pub fn first_faults_of_networks_are_told()
 /// isolation; Cilium, Policy Enforcement Modes).
 pub fn objects_decide()
     ensures { (options : Options) (s : State) (objects : List RawNetworkPolicy) → AreOfObjects objects s.policies
-        → (endpoint : Endpoint) (dir : Direction) (number : ℕ) (proto : Proto) (port : ℕ) → port ≤ port_max
-        → verdict_of options s endpoint dir number proto port ≡ word_of_objects options s objects endpoint dir number proto port }
+        → (endpoint : Endpoint) (dir : Direction) (number : ℕ) (proto : Proto) (port : ℕ)
+        → port ≤ port_max → verdict_of options s endpoint dir number proto port
+        ≡ word_of_objects options s objects endpoint dir number proto port }
 {}

@@ -12,14 +12,16 @@ ghost use Rattle.pol_netpol.specs.declared.raw.RawNetworkPolicy.{RawNetworkPolic
 /// A well-formed NetworkPolicy is read again from the document that writes it: no member, no item and no text of it is lost,
 /// and none is read as another.
 pub fn networks_are_read_again()
-    ensures { (policy : RawNetworkPolicy) → IsWellFormedNetwork policy → read_document (network_document_of policy) ≡ Ok policy }
+    ensures { (policy : RawNetworkPolicy)
+        → IsWellFormedNetwork policy → read_document (network_document_of policy) ≡ Ok policy }
 {}
 
 /// What is read is well formed, so that no condition of a well-formed NetworkPolicy could be left out; and whatever document one
 /// is read from, it is read from the one that writes it too.
 pub fn networks_that_are_read_are_well_formed()
     ensures well { (d : Data) (policy : RawNetworkPolicy) → read_document d ≡ Ok policy → IsWellFormedNetwork policy }
-    ensures again { (d : Data) (policy : RawNetworkPolicy) → read_document d ≡ Ok policy → read_document (network_document_of policy) ≡ Ok policy }
+    ensures again { (d : Data) (policy : RawNetworkPolicy)
+        → read_document d ≡ Ok policy → read_document (network_document_of policy) ≡ Ok policy }
 {}
 
 /// The same of the bytes: what the JSON crate reads of the document's text is that document, where labels stand in byte order

@@ -7,5 +7,6 @@ ghost use Rattle.pol_taken.specs.declared.taken.Taken.{Taken as OneTaken};
 
 /// No two of its rows have the number of one selector ('profile').
 pub fn rows_have_selectors_of_their_own()
-    ensures { (options : Options) (s : State) (slot : ℕ) (taken : OneTaken) → IsTakenOf options s slot taken → map (λ row. row.selector) taken.sets ≡ 7 ∷ 7 ∷ [] → ⊥ }
+    ensures { (options : Options) (s : State) (slot : ℕ) (taken : OneTaken)
+        → IsTakenOf options s slot taken → map (λ row. row.selector) taken.sets ≡ 7 ∷ 7 ∷ [] → ⊥ }
 {}

@@ -9,7 +9,8 @@ ghost use Rattle.history_examples.specs.Histories as history;
 pub fn calls_that_grow()
     ensures is { Grows (at_most 2) nothing_yet (history.one_own history.added) (add_web ∷ []) }
     ensures goes_back { Grows (at_most 2) (history.one_own history.added) (history.one_own []) [] → ⊥ }
-    ensures not_legal { Grows (at_most 2) nothing_yet (record { history = added_twice; mine = add_web ∷ add_web ∷ [] }) (add_web ∷ add_web ∷ []) → ⊥ }
+    ensures not_legal { Grows (at_most 2) nothing_yet
+        (record { history = added_twice; mine = add_web ∷ add_web ∷ [] }) (add_web ∷ add_web ∷ []) → ⊥ }
     ensures not_told { Grows (at_most 2) nothing_yet (history.one_own history.added) [] → ⊥ }
 {}
 

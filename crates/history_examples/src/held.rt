@@ -29,20 +29,28 @@ pub fn reports()
 /// An accepted request is the pass's, committed in the call, and answered with its revision, its identity and the slots there
 /// ('profile').
 pub fn acceptances()
-    ensures is { IsAccepted (at_most 2) 0 [] history.added add_web (record { revision = 1; identity = Some 256; slots = 1 }) }
-    ensures of_another_pass { IsAccepted (at_most 2) 1 [] history.added add_web (record { revision = 1; identity = Some 256; slots = 1 }) → ⊥ }
-    ensures seen_before { IsAccepted (at_most 2) 0 history.added history.added add_web (record { revision = 1; identity = Some 256; slots = 1 }) → ⊥ }
-    ensures another_revision { IsAccepted (at_most 2) 0 [] history.added add_web (record { revision = 2; identity = Some 256; slots = 1 }) → ⊥ }
-    ensures another_identity { IsAccepted (at_most 2) 0 [] history.added add_web (record { revision = 1; identity = Some 257; slots = 1 }) → ⊥ }
-    ensures another_number_of_slots { IsAccepted (at_most 2) 0 [] history.added add_web (record { revision = 1; identity = Some 256; slots = 2 }) → ⊥ }
+    ensures is { IsAccepted (at_most 2) 0
+        [] history.added add_web (record { revision = 1; identity = Some 256; slots = 1 }) }
+    ensures of_another_pass { IsAccepted
+        (at_most 2) 1 [] history.added add_web (record { revision = 1; identity = Some 256; slots = 1 }) → ⊥ }
+    ensures seen_before { IsAccepted (at_most 2) 0 history.added history.added add_web
+        (record { revision = 1; identity = Some 256; slots = 1 }) → ⊥ }
+    ensures another_revision { IsAccepted
+        (at_most 2) 0 [] history.added add_web (record { revision = 2; identity = Some 256; slots = 1 }) → ⊥ }
+    ensures another_identity { IsAccepted
+        (at_most 2) 0 [] history.added add_web (record { revision = 1; identity = Some 257; slots = 1 }) → ⊥ }
+    ensures another_number_of_slots { IsAccepted
+        (at_most 2) 0 [] history.added add_web (record { revision = 1; identity = Some 256; slots = 2 }) → ⊥ }
 {}
 
 /// The conditions of `IsHistoryOf` are these six, and all of them make one ('profile').
 pub fn conditions_of_histories()
-    ensures each { (options : Options) (history : List HistoryEvent) (lines : List Line) (it : IsHistoryOf options history lines) (condition : Condition)
+    ensures each { (options : Options) (history : List HistoryEvent)
+        (lines : List Line) (it : IsHistoryOf options history lines) (condition : Condition)
         → Holds condition options history lines it.pass_of }
     ensures all { (options : Options) (history : List HistoryEvent) (lines : List Line) (pass_of : ℕ → ℕ)
-        → ((condition : Condition) → Holds condition options history lines pass_of) → IsHistoryOf options history lines }
+        → ((condition : Condition) → Holds condition options history lines pass_of)
+        → IsHistoryOf options history lines }
 {}
 
 /// The commits are those of the run, a session's of one pass, and those of two sessions of two. The map of each verdict was published,

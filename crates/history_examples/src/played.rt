@@ -17,7 +17,8 @@ ghost use Rattle.history_examples.specs.Sessions as sessions;
 pub fn in_phases()
     ensures new { AreNewSeats (1 ∷ 2 ∷ []) sessions.seats }
     ensures seated { AreSeated 2 sessions.readings }
-    ensures are { ArePhases unlimited (1 ∷ 2 ∷ []) sessions.seats (script_of 2 sessions.readings) sessions.told sessions.seats_after }
+    ensures are { ArePhases unlimited (1
+        ∷ 2 ∷ []) sessions.seats (script_of 2 sessions.readings) sessions.told sessions.seats_after }
     ensures legal { IsLegal unlimited sessions.history }
     ensures played { ArePlayedInPhases unlimited sessions.history sessions.lines }
 {}

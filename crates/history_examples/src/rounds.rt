@@ -28,6 +28,7 @@ pub fn maps_of_verdicts()
 pub fn histories_of_rounds()
     ensures all_commits { commits_in (committed (requests_asked 1)) ≡ requests_asked 1 }
     ensures no_map { IsHistoryOfRounds unlimited 1 (committed (requests_asked 1)) → ⊥ }
-    ensures no_verdicts { (i session : ℕ) (query : Query) → slice_get (asked 0) i ≡ Some (command.Look session query) → ⊥ }
+    ensures no_verdicts { (i session : ℕ) (query : Query)
+        → slice_get (asked 0) i ≡ Some (command.Look session query) → ⊥ }
     ensures no_commits { IsHistoryOfRounds unlimited 0 [] → ⊥ }
 {}

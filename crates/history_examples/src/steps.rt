@@ -9,6 +9,7 @@ ghost use Rattle.history_examples.specs.Steps as steps;
 /// ('profile').
 pub fn endpoints_that_go()
     ensures taken_in_vain { replies_to (at_most 2) steps.taken_in_vain ≡ steps.taken_in_vain_replies }
-    ensures gone_though_reported { replies_to (at_most 2) steps.gone_though_reported ≡ steps.gone_though_reported_replies }
+    ensures gone_though_reported { replies_to (at_most 2) steps.gone_though_reported
+        ≡ steps.gone_though_reported_replies }
     ensures another_of_its_name { replies_to (at_most 2) steps.another_of_its_name ≡ steps.another_of_its_name_replies }
 {}

@@ -8,5 +8,6 @@ ghost use Rattle.history_examples.specs.Sessions as sessions;
 /// comes from the second part alone ('profile').
 pub fn parts_of_a_script()
     ensures whole { script_of 2 sessions.readings ≡ sessions.phases }
-    ensures joined { joined (script_of 2 (take 2 sessions.readings)) (script_of 2 (drop 2 sessions.readings)) ≡ sessions.phases }
+    ensures joined { joined (script_of 2 (take 2 sessions.readings)) (script_of 2 (drop 2 sessions.readings))
+        ≡ sessions.phases }
 {}

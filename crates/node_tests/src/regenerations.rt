@@ -55,7 +55,8 @@ fn regenerations_named<N: NodeName, W: Wait>(
     config: Config,
 ) -> Result<Vec<Regen>, Memory>
     requires book { book ≡ N.book }
-    requires options { N.options ≡ record { mode = config.mode; localhost = config.localhost; map_max = Some config.map_max } }
+    requires options { N.options
+        ≡ record { mode = config.mode; localhost = config.localhost; map_max = Some config.map_max } }
     requires passes { N.passes ≡ map (λ pass. pass.number) (drop 257 (new_passes (257 + config.passes))) }
     requires limit { config.map_max ≤ 65536 }
     requires sessions { (0 < config.passes) × (config.passes ≤ 40) }

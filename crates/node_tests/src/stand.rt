@@ -33,7 +33,8 @@ pub(crate) fn open<N: NodeName, W: Wait>(
     config: Config,
 ) -> Result<(Node<N, &W>, Pass<N>), Memory>
     requires book { book ≡ N.book }
-    requires options { N.options ≡ record { mode = config.mode; localhost = config.localhost; map_max = Some config.map_max } }
+    requires options { N.options
+        ≡ record { mode = config.mode; localhost = config.localhost; map_max = Some config.map_max } }
     requires passes { N.passes ≡ map (λ pass. pass.number) (drop 257 (new_passes (257 + config.passes))) }
     requires limit { config.map_max ≤ 65536 }
     requires sessions { (0 < config.passes) × (config.passes ≤ 40) }

@@ -7,9 +7,12 @@ ghost use Rattle.pol_addr.specs.Text.{addr_text};
 
 /// IPv6 texts that are read: eight groups, `::` inside and at either end, digits of either case, and zeros before a group.
 pub fn texts_of_ipv6_addresses()
-    ensures eight { read_addr (codes "2001:db8:0:0:0:0:0:1") ≡ Some (addr_of_groups (8193 ∷ 3512 ∷ 0 ∷ 0 ∷ 0 ∷ 0 ∷ 0 ∷ 1 ∷ [])) }
-    ensures inside { read_addr (codes "2001:db8::1") ≡ Some (addr_of_groups (8193 ∷ 3512 ∷ 0 ∷ 0 ∷ 0 ∷ 0 ∷ 0 ∷ 1 ∷ [])) }
-    ensures one_group { read_addr (codes "1:2:3:4::6:7:8") ≡ Some (addr_of_groups (1 ∷ 2 ∷ 3 ∷ 4 ∷ 0 ∷ 6 ∷ 7 ∷ 8 ∷ [])) }
+    ensures eight { read_addr (codes "2001:db8:0:0:0:0:0:1")
+        ≡ Some (addr_of_groups (8193 ∷ 3512 ∷ 0 ∷ 0 ∷ 0 ∷ 0 ∷ 0 ∷ 1 ∷ [])) }
+    ensures inside { read_addr (codes "2001:db8::1")
+        ≡ Some (addr_of_groups (8193 ∷ 3512 ∷ 0 ∷ 0 ∷ 0 ∷ 0 ∷ 0 ∷ 1 ∷ [])) }
+    ensures one_group { read_addr (codes "1:2:3:4::6:7:8")
+        ≡ Some (addr_of_groups (1 ∷ 2 ∷ 3 ∷ 4 ∷ 0 ∷ 6 ∷ 7 ∷ 8 ∷ [])) }
     ensures before { read_addr (codes "::1") ≡ Some (V6 1) }
     ensures behind { read_addr (codes "1::") ≡ Some (addr_of_groups (1 ∷ 0 ∷ 0 ∷ 0 ∷ 0 ∷ 0 ∷ 0 ∷ 0 ∷ [])) }
     ensures alone { read_addr (codes "::") ≡ Some (V6 0) }
@@ -36,7 +39,8 @@ pub fn texts_of_no_address()
 /// too great for the family, or has a leading zero, is refused.
 pub fn texts_of_prefixes()
     ensures host_bits { read_prefix (codes "10.1.2.3/8") ≡ Some (record { addr = addr_of_octets 10 0 0 0; len = 8 }) }
-    ensures host_bits_of_65 { read_prefix (codes "1:2:3:4:ffff::1/65") ≡ Some (record { addr = addr_of_groups (1 ∷ 2 ∷ 3 ∷ 4 ∷ 32768 ∷ 0 ∷ 0 ∷ 0 ∷ []); len = 65 }) }
+    ensures host_bits_of_65 { read_prefix (codes "1:2:3:4:ffff::1/65")
+        ≡ Some (record { addr = addr_of_groups (1 ∷ 2 ∷ 3 ∷ 4 ∷ 32768 ∷ 0 ∷ 0 ∷ 0 ∷ []); len = 65 }) }
     ensures bare { read_prefix (codes "::1") ≡ Some (record { addr = V6 1; len = 128 }) }
     ensures bare_ipv4 { read_prefix (codes "0.0.0.1") ≡ Some (record { addr = V4 1; len = 32 }) }
     ensures world { read_prefix (codes "::/0") ≡ Some (world Ipv6) }

@@ -174,7 +174,8 @@ impl Prefix {
     /// Whether each address of the other prefix lies in this one, which needs the same family.
     pub fn covers(&self, other: &Prefix) -> bool
         ensures value { result ≡ covers self.now other.now }
-        ensures containment { IsTrue result ↔ ((addr : Addr) → IsAddr addr → IsTrue (contains other.now addr) → IsTrue (contains self.now addr)) }
+        ensures containment { IsTrue result
+            ↔ ((addr : Addr) → IsAddr addr → IsTrue (contains other.now addr) → IsTrue (contains self.now addr)) }
     {
         self.len <= other.len && begins_with(other.addr, self.addr, self.len)
     }

@@ -43,7 +43,8 @@ impl Model for Allocator {
 
     ghost view = { λ n. record { rows = n.identities; cache = n.selectors } };
 
-    ghost invariant = { λ n. KeepsRows n.identities × IsTableOf n.identities n.prefixes × IfSome n.shared (λ table. IsTableOf n.identities (arc_value table)) };
+    ghost invariant = { λ n. KeepsRows n.identities
+        × IsTableOf n.identities n.prefixes × IfSome n.shared (λ table. IsTableOf n.identities (arc_value table)) };
 }
 
 impl Allocator {

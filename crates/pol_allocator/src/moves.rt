@@ -28,7 +28,8 @@ impl Allocator {
         ensures rows { OnOk result (self.new ≡ record self.old { rows = prefixes_held prefixes.now self.old.rows }) }
         ensures come { IfOk result (λ come. AreBeyond self.old.rows self.new.rows come.items) }
         ensures err { OnErr result (self.new ≡ self.old) }
-        ensures exhausted { IsErrOf result IdentError.Exhausted ↔ (MOST < locals_held self.old.rows + locals_wanted self.old.rows prefixes.now) }
+        ensures exhausted { IsErrOf result IdentError.Exhausted
+            ↔ (MOST < locals_held self.old.rows + locals_wanted self.old.rows prefixes.now) }
         ensures within { OnOk result (AllByRecursion IsPrefix prefixes.now) }
         ensures sound { KeepsRows self.old.rows }
     {
@@ -58,7 +59,8 @@ impl Allocator {
     /// The numbers that a release of the prefixes lets go.
     fn gone(&self, prefixes: &[Prefix]) -> Result<Vec<u32>, Memory>
         requires once { IsDistinct same_prefix prefixes.now }
-        ensures gone { IfOk result (λ gone. AreBeyond (prefixes_released prefixes.now self.now.rows) self.now.rows gone.items) }
+        ensures gone { IfOk result (λ gone.
+            AreBeyond (prefixes_released prefixes.now self.now.rows) self.now.rows gone.items) }
         ensures sound { KeepsRows self.now.rows }
     {
         let gone = gone_numbers(self.alloc, &self.identities, prefixes)?;
@@ -85,9 +87,11 @@ impl Allocator {
         requires once { IsDistinct same_prefix given_up.now }
         requires newer { newest self.old.cache.log < revision }
         requires held { AllByRecursion (λ number. has_row number self.old.rows ≡ true) come.now }
-        requires stay { AllByRecursion (λ number. has_row number (prefixes_released given_up.now self.old.rows) ≡ true) come.now }
+        requires stay { AllByRecursion (λ number.
+            has_row number (prefixes_released given_up.now self.old.rows) ≡ true) come.now }
         requires exact { AreExact (rows_without come.now self.old.rows) self.old.cache.live }
-        ensures plan { IfOk result (λ plan. Prepares revision (prefixes_released given_up.now self.old.rows) self.new.cache plan) }
+        ensures plan { IfOk result (λ plan.
+            Prepares revision (prefixes_released given_up.now self.old.rows) self.new.cache plan) }
         ensures same { self.new ≡ with_log_room self.new.cache.log.spare self.old }
         ensures err { OnErr result (self.new ≡ self.old) }
     {

@@ -20,7 +20,8 @@ impl Allocator {
         steps: &mut Steps<L>,
     ) -> Result<Plan, Memory>
         requires may { MayPlan revision come.now gone.now self.old.rows self.old.cache }
-        ensures plan { IfOk result (λ plan. Prepares revision (rows_without gone.now self.old.rows) self.new.cache plan) }
+        ensures plan { IfOk result (λ plan.
+            Prepares revision (rows_without gone.now self.old.rows) self.new.cache plan) }
         ensures same { self.new ≡ with_log_room self.new.cache.log.spare self.old }
         ensures err { OnErr result (self.new ≡ self.old) }
         ensures cost { steps.new ≤ steps.old + label_selectors self.old.cache.live * length come.now }

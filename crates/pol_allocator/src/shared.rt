@@ -100,9 +100,11 @@ pub(crate) fn once_released(
     identities: &Identities,
     prefixes: &[Prefix],
 ) -> Option<Arc<PrefixTable>>
-    requires others { IfSome shared (λ table. IsTableBut (is_gone prefixes.now identities.now) identities.now (arc_value table)) }
+    requires others { IfSome shared (λ table.
+        IsTableBut (is_gone prefixes.now identities.now) identities.now (arc_value table)) }
     ensures table { IfSome result (λ table. IsTableOf identities.now (arc_value table)) }
-    ensures kept { list_any (λ prefix. is_none (number_of_prefix prefix identities.now)) prefixes.now ≡ false → result ≡ shared }
+    ensures kept { list_any (λ prefix. is_none (number_of_prefix prefix identities.now)) prefixes.now ≡ false
+        → result ≡ shared }
 {
     if !is_any_gone(identities, prefixes) {
         return shared;
@@ -138,7 +140,8 @@ pub(crate) fn once_planned(
     own: &PrefixTable,
     numbers_go: bool,
 ) -> Option<Arc<PrefixTable>>
-    ensures table { (rows : List OneRow) → IsTableOf rows own.now → IfSome shared (λ table. IsTableOf rows (arc_value table)) → IfSome result (λ table. IsTableOf rows (arc_value table)) }
+    ensures table { (rows : List OneRow) → IsTableOf rows own.now → IfSome shared (λ table.
+        IsTableOf rows (arc_value table)) → IfSome result (λ table. IsTableOf rows (arc_value table)) }
     ensures kept { numbers_go ≡ false → is_some shared ≡ true → result ≡ shared }
 {
     if stays(&shared, numbers_go) {

@@ -37,7 +37,8 @@ impl<T> Model for Twin<T> {
 
     ghost use Rattle.pol_arena.specs.Queue.{ages_of, IsKept};
 
-    ghost view = { λ t. record { ages = ages_of t.last t.nodes.items; chains = length t.newest.items; spare = t.spare } };
+    ghost view = { λ t.
+        record { ages = ages_of t.last t.nodes.items; chains = length t.newest.items; spare = t.spare } };
 
     ghost invariant = { λ t. IsKept t.nodes.items t.newest.items t.last t.spare (deque_capacity t.nodes) };
 }
@@ -93,7 +94,8 @@ impl<T> Twin<T> {
     /// already it takes no memory.
     pub fn reserve(&mut self, nodes: u32, chains: u64) -> Result<(), Memory>
         requires fits { length self.old.ages + nodes < 2 ^ 32 }
-        ensures ok { OnOk result (self.new ≡ record self.old { chains = max self.old.chains chains; spare = max self.old.spare nodes }) }
+        ensures ok { OnOk result (self.new
+            ≡ record self.old { chains = max self.old.chains chains; spare = max self.old.spare nodes }) }
         ensures err { OnErr result (self.new ≡ self.old) }
         ensures succeeds { nodes ≤ self.old.spare → chains ≤ self.old.chains → IsOk result }
         ensures sound { IsSound self.new }

@@ -56,8 +56,11 @@ pub(crate) struct Parts<'a> {
 pub(crate) fn cuts_of(alloc: Global, parts: &Parts, proto: Proto) -> Result<Vec<u16>, Memory>
     ensures ascend { IfOk result (λ cuts. IsStrictlySortedBy nat_cmp cuts.items) }
     ensures first { IfOk result (λ cuts. (rest : List ℕ) × (cuts.items ≡ 0 ∷ rest)) }
-    ensures has { IfOk result (λ cuts. (port : ℕ) → Contains (all_cuts proto parts.now.left.now parts.now.right.now parts.now.left_every.now parts.now.right_every.now) port → Contains cuts.items port) }
-    ensures few { IfOk result (λ cuts. length cuts.items ≤ 2 * (length parts.now.left.now + length parts.now.right.now + length parts.now.left_every.now + length parts.now.right_every.now) + 1) }
+    ensures has { IfOk result (λ cuts. (port : ℕ) → Contains
+        (all_cuts proto parts.now.left.now parts.now.right.now parts.now.left_every.now parts.now.right_every.now) port
+        → Contains cuts.items port) }
+    ensures few { IfOk result (λ cuts. length cuts.items ≤ 2 * (length parts.now.left.now + length
+        parts.now.right.now + length parts.now.left_every.now + length parts.now.right_every.now) + 1) }
 {
     let mut cuts = Vec::new(alloc);
     cuts.push(0)?;

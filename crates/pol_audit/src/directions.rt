@@ -38,10 +38,15 @@ fn push_group<L: Ledger>(
     requires right { PortsAscend parts.now.right.now }
     requires left_every { PortsAscend parts.now.left_every.now }
     requires right_every { PortsAscend parts.now.right_every.now }
-    ensures grown { OnOk result ((left right : List Entry) → IsSplit group.dir group.id parts.now.left.now parts.now.left_every.now left → IsSplit group.dir group.id parts.now.right.now parts.now.right_every.now right → Grown left right (group ∷ []) out.old.items out.new.items) }
-    ensures few { OnOk result (length out.new.items ≤ length out.old.items + 2 * share_of_parts parts.now.left.now parts.now.right.now parts.now.left_every.now parts.now.right_every.now) }
+    ensures grown { OnOk result ((left right : List Entry)
+        → IsSplit group.dir group.id parts.now.left.now parts.now.left_every.now left
+        → IsSplit group.dir group.id parts.now.right.now parts.now.right_every.now right
+        → Grown left right (group ∷ []) out.old.items out.new.items) }
+    ensures few { OnOk result (length out.new.items ≤ length out.old.items + 2
+        * share_of_parts parts.now.left.now parts.now.right.now parts.now.left_every.now parts.now.right_every.now) }
     ensures forward { steps.old ≤ steps.new }
-    ensures cost { steps.new ≤ steps.old + 10 * share_of_parts parts.now.left.now parts.now.right.now parts.now.left_every.now parts.now.right_every.now }
+    ensures cost { steps.new ≤ steps.old + 10
+        * share_of_parts parts.now.left.now parts.now.right.now parts.now.left_every.now parts.now.right_every.now }
 {
     let ports = cuts_of(alloc, parts, group.proto)?;
     are_ports(&ports);
@@ -61,10 +66,15 @@ pub(crate) fn push_number<L: Ledger>(
     requires right { PortsAscend parts.now.right.now }
     requires left_every { PortsAscend parts.now.left_every.now }
     requires right_every { PortsAscend parts.now.right_every.now }
-    ensures grown { OnOk result ((left right : List Entry) → IsSplit dir id parts.now.left.now parts.now.left_every.now left → IsSplit dir id parts.now.right.now parts.now.right_every.now right → Grown left right (groups_at dir id) out.old.items out.new.items) }
-    ensures few { OnOk result (length out.new.items ≤ length out.old.items + 6 * share_of_parts parts.now.left.now parts.now.right.now parts.now.left_every.now parts.now.right_every.now) }
+    ensures grown { OnOk result ((left right : List Entry)
+        → IsSplit dir id parts.now.left.now parts.now.left_every.now left
+        → IsSplit dir id parts.now.right.now parts.now.right_every.now right
+        → Grown left right (groups_at dir id) out.old.items out.new.items) }
+    ensures few { OnOk result (length out.new.items ≤ length out.old.items + 6
+        * share_of_parts parts.now.left.now parts.now.right.now parts.now.left_every.now parts.now.right_every.now) }
     ensures forward { steps.old ≤ steps.new }
-    ensures cost { steps.new ≤ steps.old + 30 * share_of_parts parts.now.left.now parts.now.right.now parts.now.left_every.now parts.now.right_every.now }
+    ensures cost { steps.new ≤ steps.old + 30
+        * share_of_parts parts.now.left.now parts.now.right.now parts.now.left_every.now parts.now.right_every.now }
 {
     let tcp = Group {
         dir,
@@ -98,7 +108,8 @@ pub(crate) fn parts_of<'a>(
     ensures right { result.right.now ≡ own_of id right.now }
     ensures left_every { result.left_every.now ≡ numbered 0 left.now }
     ensures right_every { result.right_every.now ≡ numbered 0 right.now }
-    ensures share { share_of_parts result.left.now result.right.now result.left_every.now result.right_every.now ≡ share_of left.now right.now id }
+    ensures share { share_of_parts result.left.now result.right.now result.left_every.now result.right_every.now
+        ≡ share_of left.now right.now id }
 {
     let left_every = segment(left, 0);
     let right_every = segment(right, 0);
@@ -134,8 +145,10 @@ fn push_numbers<L: Ledger>(
     requires left_ports { (n : ℕ) → PortsAscend (numbered n left.now) }
     requires right_ports { (n : ℕ) → PortsAscend (numbered n right.now) }
     requires numbers { IsStrictlySortedBy nat_cmp numbers.now }
-    ensures grown { OnOk result ((lefts rights : List Entry) → IsPart dir left.now lefts → IsPart dir right.now rights → Grown lefts rights (flat_map (groups_at dir) numbers.now) out.old.items out.new.items) }
-    ensures few { OnOk result (length out.new.items ≤ length out.old.items + 6 * sum_by (share_of left.now right.now) numbers.now) }
+    ensures grown { OnOk result ((lefts rights : List Entry) → IsPart dir left.now lefts → IsPart dir right.now rights
+        → Grown lefts rights (flat_map (groups_at dir) numbers.now) out.old.items out.new.items) }
+    ensures few { OnOk result (length out.new.items
+        ≤ length out.old.items + 6 * sum_by (share_of left.now right.now) numbers.now) }
     ensures forward { steps.old ≤ steps.new }
     ensures cost { steps.new ≤ steps.old + 30 * sum_by (share_of left.now right.now) numbers.now }
 {
@@ -180,7 +193,8 @@ fn push_directions<L: Ledger>(
 ) -> Result<(), Memory>
     requires left { IsTable left.now }
     requires right { IsTable right.now }
-    ensures grown { OnOk result ((middle : List Range) × GrownIn left.now right.now Ingress out.old.items middle × GrownIn left.now right.now Egress middle out.new.items) }
+    ensures grown { OnOk result ((middle : List Range) × GrownIn left.now right.now Ingress out.old.items middle
+        × GrownIn left.now right.now Egress middle out.new.items) }
     ensures few { OnOk result (length out.new.items ≤ length out.old.items + 6 * extent left.now right.now) }
     ensures forward { steps.old ≤ steps.new }
     ensures cost { steps.new ≤ steps.old + 30 * extent left.now right.now }

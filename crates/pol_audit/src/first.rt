@@ -36,9 +36,13 @@ fn first_of_number<L: Ledger>(
     requires right { PortsAscend parts.now.right.now }
     requires left_every { PortsAscend parts.now.left_every.now }
     requires right_every { PortsAscend parts.now.right_every.now }
-    ensures first { IfOk result (λ first. (left right : List Entry) → IsSplit dir id parts.now.left.now parts.now.left_every.now left → IsSplit dir id parts.now.right.now parts.now.right_every.now right → IsFirstOf left right (groups_at dir id) first) }
+    ensures first { IfOk result (λ first.
+        (left right : List Entry) → IsSplit dir id parts.now.left.now parts.now.left_every.now left
+        → IsSplit dir id parts.now.right.now parts.now.right_every.now right
+        → IsFirstOf left right (groups_at dir id) first) }
     ensures forward { steps.old ≤ steps.new }
-    ensures cost { steps.new ≤ steps.old + 30 * share_of_parts parts.now.left.now parts.now.right.now parts.now.left_every.now parts.now.right_every.now }
+    ensures cost { steps.new ≤ steps.old + 30
+        * share_of_parts parts.now.left.now parts.now.right.now parts.now.left_every.now parts.now.right_every.now }
 {
     let mut out = Vec::new(alloc);
     push_number(alloc, &mut out, dir, id, parts, steps)?;
@@ -62,7 +66,9 @@ fn first_of_numbers<L: Ledger>(
     requires left_ports { (n : ℕ) → PortsAscend (numbered n left.now) }
     requires right_ports { (n : ℕ) → PortsAscend (numbered n right.now) }
     requires numbers { IsStrictlySortedBy nat_cmp numbers.now }
-    ensures first { IfOk result (λ first. (lefts rights : List Entry) → IsPart dir left.now lefts → IsPart dir right.now rights → AreSmall lefts → AreSmall rights → IsFirstOf lefts rights (flat_map (groups_at dir) numbers.now) first) }
+    ensures first { IfOk result (λ first.
+        (lefts rights : List Entry) → IsPart dir left.now lefts → IsPart dir right.now rights
+        → AreSmall lefts → AreSmall rights → IsFirstOf lefts rights (flat_map (groups_at dir) numbers.now) first) }
     ensures forward { steps.old ≤ steps.new }
     ensures cost { steps.new ≤ steps.old + 30 * sum_by (share_of left.now right.now) numbers.now }
 {
@@ -109,7 +115,8 @@ pub(crate) fn first_range<L: Ledger>(
 ) -> Result<Option<Difference>, Memory>
     requires left { IsTable left.now }
     requires right { IsTable right.now }
-    ensures first { IfOk result (λ first. (list : List Range) × IsDifference left.now right.now list × (slice_get list 0 ≡ first)) }
+    ensures first { IfOk result (λ first.
+        (list : List Range) × IsDifference left.now right.now list × (slice_get list 0 ≡ first)) }
     ensures forward { steps.old ≤ steps.new }
     ensures cost { steps.new ≤ steps.old + 30 * extent left.now right.now }
 {

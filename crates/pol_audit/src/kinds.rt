@@ -49,12 +49,15 @@ fn take_in<L: Ledger>(
     steps: &mut Steps<L>,
 ) -> Result<usize, Memory>
     requires { place ≤ length entries.now }
-    ensures taken { IfOk result (λ next. (taken : List Entry) × (held.new.items ≡ held.old.items ++ taken) × (take next entries.now ≡ take place entries.now ++ taken) × ((e : Entry) → Contains taken e → e.0.port.bits ≤ port)) }
+    ensures taken { IfOk result (λ next. (taken : List Entry)
+        × (held.new.items ≡ held.old.items ++ taken) × (take next entries.now ≡ take place entries.now ++ taken)
+        × ((e : Entry) → Contains taken e → e.0.port.bits ≤ port)) }
     ensures all { IfOk result (λ next. begins_by port (slice_get (drop next entries.now) 0) ≡ false) }
     ensures within { IfOk result (λ next. next ≤ length entries.now) }
     ensures forward { steps.old ≤ steps.new }
     ensures cost { steps.new ≤ steps.old + (length entries.now - place) }
-    ensures each { IfOk result (λ next. steps.new + length held.new.items + 2 * place ≤ steps.old + length held.old.items + 2 * next) }
+    ensures each { IfOk result (λ next.
+        steps.new + length held.new.items + 2 * place ≤ steps.old + length held.old.items + 2 * next) }
 {
     let mut next = place;
     while begins_by(&entries[next..], port) {

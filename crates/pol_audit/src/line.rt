@@ -26,7 +26,8 @@ struct Said {
 /// The ports and the kind that the two texts write.
 fn ports_then_kind(port: &str, kind: &str) -> Option<(PortPrefix, Kind)>
     ensures some { IfSome result (λ said. (port.now ≡ port_text said.0) × (kind.now ≡ kind_word said.1)) }
-    ensures none { IfNone result ((p : PortPrefix) (k : Kind) → p.bits < 2 ^ 16 → port.now ≡ port_text p → kind.now ≢ kind_word k) }
+    ensures none { IfNone result ((p : PortPrefix) (k : Kind)
+        → p.bits < 2 ^ 16 → port.now ≡ port_text p → kind.now ≢ kind_word k) }
 {
     Some((port_of(port)?, kind_of(kind)?))
 }
@@ -34,7 +35,8 @@ fn ports_then_kind(port: &str, kind: &str) -> Option<(PortPrefix, Kind)>
 /// Ports and a kind, as `80/16 allow`.
 fn port_and_kind(text: &str) -> Option<(PortPrefix, Kind)>
     ensures some { IfSome result (λ said. text.now ≡ spaced (port_text said.0) (kind_word said.1)) }
-    ensures none { IfNone result ((port : PortPrefix) (kind : Kind) → port.bits < 2 ^ 16 → text.now ≢ spaced (port_text port) (kind_word kind)) }
+    ensures none { IfNone result ((port : PortPrefix) (kind : Kind)
+        → port.bits < 2 ^ 16 → text.now ≢ spaced (port_text port) (kind_word kind)) }
 {
     match text.split_once(' ') {
         None => None,
@@ -44,8 +46,10 @@ fn port_and_kind(text: &str) -> Option<(PortPrefix, Kind)>
 
 /// A protocol, ports and a kind, as `TCP 80/16 allow`.
 fn proto_and_rest(text: &str) -> Option<(KeyProto, PortPrefix, Kind)>
-    ensures some { IfSome result (λ said. text.now ≡ spaced (proto_word said.0) (spaced (port_text said.1) (kind_word said.2))) }
-    ensures none { IfNone result ((proto : KeyProto) (port : PortPrefix) (kind : Kind) → port.bits < 2 ^ 16 → text.now ≢ spaced (proto_word proto) (spaced (port_text port) (kind_word kind))) }
+    ensures some { IfSome result (λ said.
+        text.now ≡ spaced (proto_word said.0) (spaced (port_text said.1) (kind_word said.2))) }
+    ensures none { IfNone result ((proto : KeyProto) (port : PortPrefix) (kind : Kind)
+        → port.bits < 2 ^ 16 → text.now ≢ spaced (proto_word proto) (spaced (port_text port) (kind_word kind))) }
 {
     let (proto, rest) = text.split_once(' ')?;
     let proto = proto_of(proto)?;
@@ -55,9 +59,11 @@ fn proto_and_rest(text: &str) -> Option<(KeyProto, PortPrefix, Kind)>
 
 /// The number that the first text writes, and what the second one says.
 fn id_then_rest(id: &str, rest: &str) -> Option<Said>
-    ensures some { IfSome result (λ said. (id.now ≡ decimal said.id) × (rest.now ≡ spaced (proto_word said.proto) (spaced (port_text said.port) (kind_word said.kind)))) }
-    ensures none { IfNone result ((n : ℕ) (proto : KeyProto) (port : PortPrefix) (kind : Kind) → n < 2 ^ 32 → port.bits < 2 ^ 16 → id.now ≡ decimal n
-        → rest.now ≢ spaced (proto_word proto) (spaced (port_text port) (kind_word kind))) }
+    ensures some { IfSome result (λ said. (id.now ≡ decimal said.id)
+        × (rest.now ≡ spaced (proto_word said.proto) (spaced (port_text said.port) (kind_word said.kind)))) }
+    ensures none { IfNone result ((n : ℕ) (proto : KeyProto) (port : PortPrefix) (kind : Kind)
+        → n < 2 ^ 32 → port.bits < 2 ^ 16
+        → id.now ≡ decimal n → rest.now ≢ spaced (proto_word proto) (spaced (port_text port) (kind_word kind))) }
 {
     let id = number_of(id)?;
     let (proto, port, kind) = proto_and_rest(rest)?;
@@ -72,7 +78,8 @@ fn id_then_rest(id: &str, rest: &str) -> Option<Said>
 /// A number, a protocol, ports and a kind, as `257 TCP 80/16 allow`.
 fn id_and_rest(text: &str) -> Option<Said>
     ensures some { IfSome result (λ said. text.now ≡ said_words said.id said.proto said.port said.kind) }
-    ensures none { IfNone result ((id : ℕ) (proto : KeyProto) (port : PortPrefix) (kind : Kind) → id < 2 ^ 32 → port.bits < 2 ^ 16 → text.now ≢ said_words id proto port kind) }
+    ensures none { IfNone result ((id : ℕ) (proto : KeyProto) (port : PortPrefix) (kind : Kind)
+        → id < 2 ^ 32 → port.bits < 2 ^ 16 → text.now ≢ said_words id proto port kind) }
 {
     match text.split_once(' ') {
         None => None,
@@ -97,7 +104,8 @@ fn has_ports(proto: KeyProto, port: PortPrefix) -> bool
 
 /// The entry of these parts, where there is one.
 fn entry_from(dir: Direction, said: Said) -> Option<(MapKey, Kind)>
-    ensures some { IfSome result (λ e. (e.0.dir ≡ dir) × (e.0.id ≡ said.id) × (e.0.proto ≡ said.proto) × (e.0.port ≡ said.port) × (e.1 ≡ said.kind)) }
+    ensures some { IfSome result (λ e.
+        (e.0.dir ≡ dir) × (e.0.id ≡ said.id) × (e.0.proto ≡ said.proto) × (e.0.port ≡ said.port) × (e.1 ≡ said.kind)) }
     ensures none { IfNone result ((key : MapKey) → key.proto ≡ said.proto → key.port ≢ said.port) }
 {
     if has_ports(said.proto, said.port) {
@@ -115,8 +123,10 @@ fn entry_from(dir: Direction, said: Said) -> Option<(MapKey, Kind)>
 
 /// The entry whose direction the first text writes, and whose other words stand in the second.
 fn entry_with(dir: &str, rest: &str) -> Option<(MapKey, Kind)>
-    ensures some { IfSome result (λ e. (dir.now ≡ direction_word e.0.dir) × (rest.now ≡ said_words e.0.id e.0.proto e.0.port e.1)) }
-    ensures none { IfNone result ((e : Entry) → IsKept e → dir.now ≡ direction_word e.0.dir → rest.now ≢ said_words e.0.id e.0.proto e.0.port e.1) }
+    ensures some { IfSome result (λ e.
+        (dir.now ≡ direction_word e.0.dir) × (rest.now ≡ said_words e.0.id e.0.proto e.0.port e.1)) }
+    ensures none { IfNone result ((e : Entry)
+        → IsKept e → dir.now ≡ direction_word e.0.dir → rest.now ≢ said_words e.0.id e.0.proto e.0.port e.1) }
 {
     let dir = direction_of(dir)?;
     let said = id_and_rest(rest)?;

@@ -27,7 +27,8 @@ pub(crate) fn numbers_of(
     right: &[(MapKey, Kind)],
 ) -> Result<Vec<u32>, Memory>
     ensures ascend { IfOk result (λ numbers. IsStrictlySortedBy nat_cmp numbers.items) }
-    ensures members { IfOk result (λ numbers. (n : ℕ) → Contains numbers.items n ↔ Contains (((0 ∷ []) ++ map (λ e. e.0.id) left.now) ++ map (λ e. e.0.id) right.now) n) }
+    ensures members { IfOk result (λ numbers. (n : ℕ) → Contains numbers.items n
+        ↔ Contains (((0 ∷ []) ++ map (λ e. e.0.id) left.now) ++ map (λ e. e.0.id) right.now) n) }
 {
     let mut numbers = Vec::new(alloc);
     numbers.push(0)?;

@@ -68,7 +68,8 @@ fn push_said(
     requires first { (rest : List ℕ) × (ports.now ≡ 0 ∷ rest) }
     requires left { length left.now ≡ length ports.now }
     requires right { length right.now ≡ length ports.now }
-    ensures { OnOk result ((said : ℕ → TheWord × TheWord) → left.now ≡ map (λ port. (said port).0) ports.now → right.now ≡ map (λ port. (said port).1) ports.now → out.new.items ≡ out.old.items ++ ranges_from group said 0 ports.now) }
+    ensures { OnOk result ((said : ℕ → TheWord × TheWord) → left.now ≡ map (λ port. (said port).0) ports.now → right.now
+        ≡ map (λ port. (said port).1) ports.now → out.new.items ≡ out.old.items ++ ranges_from group said 0 ports.now) }
 {
     let mut first = 0u16;
     let mut said = (left[0], right[0]);
@@ -99,9 +100,11 @@ pub(crate) fn push_ranges<L: Ledger>(
     requires right_every { PortsAscend parts.now.right_every.now }
     requires ports { IsStrictlySortedBy nat_cmp ports.now }
     requires first { (rest : List ℕ) × (ports.now ≡ 0 ∷ rest) }
-    ensures ranges { OnOk result (out.new.items ≡ out.old.items ++ ranges_from group (both_said group.proto parts.now.left.now parts.now.right.now parts.now.left_every.now parts.now.right_every.now) 0 ports.now) }
+    ensures ranges { OnOk result (out.new.items ≡ out.old.items ++ ranges_from group (both_said group.proto
+        parts.now.left.now parts.now.right.now parts.now.left_every.now parts.now.right_every.now) 0 ports.now) }
     ensures forward { steps.old ≤ steps.new }
-    ensures cost { steps.new ≤ steps.old + 2 * (length parts.now.left.now + length parts.now.right.now + length parts.now.left_every.now + length parts.now.right_every.now) + 4 * length ports.now }
+    ensures cost { steps.new ≤ steps.old + 2 * (length parts.now.left.now + length parts.now.right.now + length
+        parts.now.left_every.now + length parts.now.right_every.now) + 4 * length ports.now }
 {
     let left = words_of(
         alloc,

@@ -46,7 +46,8 @@ fn next_entry<'a>(table: &[(MapKey, Kind)], bytes: &'a [u8]) -> Option<((MapKey,
     ensures some { IfSome result (λ found. bytes.now ≡ line_of found.0 ++ found.1.now) }
     ensures kept { IfSome result (λ found. IsKept found.0) }
     ensures table { IfSome result (λ found. IsTable (table.now ++ found.0 ∷ [])) }
-    ensures none { IfNone result ((e : Entry) (behind : List ℕ) → IsKept e → IsTable (table.now ++ e ∷ []) → bytes.now ≢ line_of e ++ behind) }
+    ensures none { IfNone result ((e : Entry) (behind : List ℕ)
+        → IsKept e → IsTable (table.now ++ e ∷ []) → bytes.now ≢ line_of e ++ behind) }
 {
     match first_entry(bytes) {
         None => None,
@@ -84,7 +85,8 @@ pub fn read_table(alloc: Global, text: &[u8]) -> Result<Entries, TableError>
     requires { length text.now < 2 ^ 32 }
     ensures text { IfOk result (λ table. text_of table ≡ text.now) }
     ensures kept { IfOk result AreKept }
-    ensures again { (table : List Entry) → AreKept table → IsTable table → text.now ≡ text_of table → IsReadAs table result }
+    ensures again { (table : List Entry)
+        → AreKept table → IsTable table → text.now ≡ text_of table → IsReadAs table result }
     ensures cause { IfErr result (IsCause text.now) }
 {
     read_entries(alloc, text)

@@ -99,7 +99,8 @@ fn prefix_of(bits: u32, len: u32) -> Option<PortPrefix>
 /// The prefix of the first port and the length that the two texts write.
 fn prefix_from(bits: &str, len: &str) -> Option<PortPrefix>
     ensures some { IfSome result (λ port. (bits.now ≡ decimal port.bits) × (len.now ≡ decimal port.len)) }
-    ensures none { IfNone result ((port : PortPrefix) → port.bits < 2 ^ 16 → bits.now ≡ decimal port.bits → len.now ≢ decimal port.len) }
+    ensures none { IfNone result ((port : PortPrefix)
+        → port.bits < 2 ^ 16 → bits.now ≡ decimal port.bits → len.now ≢ decimal port.len) }
 {
     prefix_of(number_of(bits)?, number_of(len)?)
 }

@@ -17,7 +17,8 @@ use std::alloc::Global;
 
 /// What a commit changes.
 pub(crate) fn commit_change(alloc: Global, request: &Request) -> Result<FaceChange, Memory>
-    ensures { IfOk result (λ change. (options : Options) (history : List OneEvent) (pass number : ℕ) → Tells options history change (event.Commit pass number request.now)) }
+    ensures { IfOk result (λ change. (options : Options) (history : List OneEvent) (pass number : ℕ)
+        → Tells options history change (event.Commit pass number request.now)) }
 {
     Ok(match request {
         Request::AddEndpoint {
@@ -45,7 +46,8 @@ pub(crate) fn published_change(
     changes: &ChangeList,
 ) -> Result<FaceChange, Memory>
     ensures { IfOk result (λ change. (options : Options) (history : List OneEvent) (table : List OneEntry)
-        → IsMadeOf options history taken.now.endpoint.name taken.now.revision changes.now (arc_value taken.now.addresses) table
+        → IsMadeOf options history taken.now.endpoint.name taken.now.revision changes.now
+        (arc_value taken.now.addresses) table
         → Tells options history change (event.Publish (endpoint_id taken.now.endpoint) taken.now.revision table)) }
 {
     let addresses = taken.addresses.clone()?;

@@ -35,7 +35,8 @@ impl<N: NodeName> Model for Pass<N> {
 
     ghost Value = { PassState };
 
-    ghost view = { λ p. record { number = p.number; has = record { history = p.seen; mine = commits_by p.number p.own } } };
+    ghost view = { λ p.
+        record { number = p.number; has = record { history = p.seen; mine = commits_by p.number p.own } } };
 
     ghost invariant = { λ p. (p.count ≡ length (commits_by p.number p.own)) × IsLegal N.options p.seen };
 }

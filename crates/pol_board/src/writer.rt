@@ -190,7 +190,8 @@ impl<N: NodeName, R: Wait + Drop> BoardWriter<N, R> {
         requires no_fault { fault_of (state_now N.options self.old.seen) request.now ≡ None }
         requires done { done.now ≡ committed_of (after (state_now N.options self.old.seen) request.now) request.now }
         ensures grows { OnOk result (PassGrowsWhole N.options pass.old pass.new (request.now ∷ [])) }
-        ensures added { OnOk result (self.new.seen ≡ self.old.seen ++ event.Commit pass.old.number (length (commits_by pass.old.number self.old.seen)) request.now ∷ []) }
+        ensures added { OnOk result (self.new.seen ≡ self.old.seen
+            ++ event.Commit pass.old.number (length (commits_by pass.old.number self.old.seen)) request.now ∷ []) }
         ensures shown { pass.new.has.history ≡ self.new.seen }
         ensures err { OnErr result (self.new.seen ≡ self.old.seen) }
         ensures err_grows { OnErr result (PassGrowsWhole N.options pass.old pass.new []) }
@@ -226,11 +227,16 @@ impl<N: NodeName, R: Wait + Drop> BoardWriter<N, R> {
         changes: &ChangeList,
     ) -> Result<(), Memory>
         requires seen { taken.now.revision ≤ revision_of pass.old.has.history }
-        requires taken { IsTakenOf N.options (state_after N.options pass.old.has.history taken.now.revision) taken.now.endpoint.slot taken.now }
-        requires may { PublishMayFollow N.options self.old.seen (endpoint_id taken.now.endpoint) taken.now.revision (table_at N.options self.old.seen (endpoint_id taken.now.endpoint) taken.now.revision) }
-        requires leads { Leads changes.now (table_shown N.options self.old.seen taken.now.endpoint.name) (table_at N.options self.old.seen (endpoint_id taken.now.endpoint) taken.now.revision) }
+        requires taken { IsTakenOf N.options
+            (state_after N.options pass.old.has.history taken.now.revision) taken.now.endpoint.slot taken.now }
+        requires may { PublishMayFollow N.options self.old.seen (endpoint_id taken.now.endpoint) taken.now.revision
+            (table_at N.options self.old.seen (endpoint_id taken.now.endpoint) taken.now.revision) }
+        requires leads { Leads changes.now (table_shown N.options self.old.seen taken.now.endpoint.name)
+            (table_at N.options self.old.seen (endpoint_id taken.now.endpoint) taken.now.revision) }
         ensures grows { PassGrowsWhole N.options pass.old pass.new [] }
-        ensures added { OnOk result (self.new.seen ≡ self.old.seen ++ event.Publish (endpoint_id taken.now.endpoint) taken.now.revision (table_at N.options self.old.seen (endpoint_id taken.now.endpoint) taken.now.revision) ∷ []) }
+        ensures added { OnOk result (self.new.seen
+            ≡ self.old.seen ++ event.Publish (endpoint_id taken.now.endpoint) taken.now.revision
+            (table_at N.options self.old.seen (endpoint_id taken.now.endpoint) taken.now.revision) ∷ []) }
         ensures shown { pass.new.has.history ≡ self.new.seen }
         ensures err { OnErr result (self.new.seen ≡ self.old.seen) }
         ensures spent { IsTrue self.old.spent → IsErr result × IsTrue self.new.spent }
@@ -261,10 +267,13 @@ impl<N: NodeName, R: Wait + Drop> BoardWriter<N, R> {
         count: u64,
     ) -> Result<(), Memory>
         requires seen { taken.now.revision ≤ revision_of pass.old.has.history }
-        requires taken { IsTakenOf N.options (state_after N.options pass.old.has.history taken.now.revision) taken.now.endpoint.slot taken.now }
-        requires may { BlockedMayFollow N.options self.old.seen (endpoint_id taken.now.endpoint) taken.now.revision count }
+        requires taken { IsTakenOf N.options
+            (state_after N.options pass.old.has.history taken.now.revision) taken.now.endpoint.slot taken.now }
+        requires may { BlockedMayFollow N.options self.old.seen
+            (endpoint_id taken.now.endpoint) taken.now.revision count }
         ensures grows { PassGrowsWhole N.options pass.old pass.new [] }
-        ensures added { OnOk result (self.new.seen ≡ self.old.seen ++ event.Blocked (endpoint_id taken.now.endpoint) taken.now.revision count ∷ []) }
+        ensures added { OnOk result (self.new.seen
+            ≡ self.old.seen ++ event.Blocked (endpoint_id taken.now.endpoint) taken.now.revision count ∷ []) }
         ensures shown { pass.new.has.history ≡ self.new.seen }
         ensures err { OnErr result (self.new.seen ≡ self.old.seen) }
         ensures spent { IsTrue self.old.spent → IsErr result × IsTrue self.new.spent }
@@ -294,9 +303,13 @@ impl<N: NodeName, R: Wait + Drop> BoardWriter<N, R> {
     /// that want of memory has cut off a change of that map, and then nothing was added.
     fn with_map(&self, taken: &Taken, changes: &ChangeList) -> Result<Option<Seen<N>>, Memory>
         requires room { length self.now.seen < 2 ^ 62 }
-        requires may { PublishMayFollow N.options self.now.seen (endpoint_id taken.now.endpoint) taken.now.revision (table_at N.options self.now.seen (endpoint_id taken.now.endpoint) taken.now.revision) }
-        requires leads { Leads changes.now (table_shown N.options self.now.seen taken.now.endpoint.name) (table_at N.options self.now.seen (endpoint_id taken.now.endpoint) taken.now.revision) }
-        ensures { IfOk result (λ longer. IfSome longer (λ l. l ≡ self.now.seen ++ event.Publish (endpoint_id taken.now.endpoint) taken.now.revision (table_at N.options self.now.seen (endpoint_id taken.now.endpoint) taken.now.revision) ∷ [])) }
+        requires may { PublishMayFollow N.options self.now.seen (endpoint_id taken.now.endpoint) taken.now.revision
+            (table_at N.options self.now.seen (endpoint_id taken.now.endpoint) taken.now.revision) }
+        requires leads { Leads changes.now (table_shown N.options self.now.seen taken.now.endpoint.name)
+            (table_at N.options self.now.seen (endpoint_id taken.now.endpoint) taken.now.revision) }
+        ensures { IfOk result (λ longer.
+            IfSome longer (λ l. l ≡ self.now.seen ++ event.Publish (endpoint_id taken.now.endpoint) taken.now.revision
+            (table_at N.options self.now.seen (endpoint_id taken.now.endpoint) taken.now.revision) ∷ [])) }
     {
         let endpoint = &taken.endpoint;
         let last = self.board.published().last_map(&endpoint.name)?;

@@ -62,7 +62,8 @@ pub enum FaceChange {
 
 /// An endpoint comes, with the commit of this number.
 fn add_row(alloc: Global, rows: &mut Rows, name: &Text, commits: u64) -> Result<(), Memory>
-    ensures ok { OnOk result ((live : List ℕ → Option BoardRow) → Holds rows.old live → Holds rows.new (with_row name.now (Some (added_row commits)) live)) }
+    ensures ok { OnOk result ((live : List ℕ → Option BoardRow)
+        → Holds rows.old live → Holds rows.new (with_row name.now (Some (added_row commits)) live)) }
     ensures err { OnErr result ((live : List ℕ → Option BoardRow) → Holds rows.old live → Holds rows.new live) }
 {
     let key = name.copy(alloc)?;
@@ -95,7 +96,9 @@ fn publish_row(
     addresses: &Arc<Addresses>,
 ) -> Result<(), Memory>
     requires room { HasRoom row.old.map changes.now }
-    ensures ok { OnOk result ((held : BoardRow) (new : PublishedMap) → IsHeld row.old held → (held.added ≡ added → ChangesMap changes.now (arc_value addresses.now) revision held.map new) → HoldsRow (Some row.new) (if_of added (row_with commits revision new) (Some held))) }
+    ensures ok { OnOk result ((held : BoardRow) (new : PublishedMap) → IsHeld row.old held
+        → (held.added ≡ added → ChangesMap changes.now (arc_value addresses.now) revision held.map new)
+        → HoldsRow (Some row.new) (if_of added (row_with commits revision new) (Some held))) }
     ensures err { OnErr result ((held : BoardRow) → IsHeld row.old held → IsHeld row.new held) }
 {
     if row.added != added {
@@ -122,7 +125,8 @@ fn published(report: &Option<LastReport>) -> Option<u64>
 
 /// A map of the endpoint was too large, after so many commits, if this is its row. It takes no memory.
 fn block_row(row: &mut FaceRow, added: u64, commits: u64, revision: u64)
-    ensures { (held : BoardRow) → IsHeld row.old held → HoldsRow (Some row.new) (if_of added (row_blocked revision commits) (Some held)) }
+    ensures { (held : BoardRow) → IsHeld row.old held
+        → HoldsRow (Some row.new) (if_of added (row_blocked revision commits) (Some held)) }
 {
     if row.added != added {
         return;
@@ -147,8 +151,9 @@ fn publish(
     addresses: &Arc<Addresses>,
 ) -> Result<(), Memory>
     requires room { RowHasRoom (get text.ghosts.eq rows.old name.now) changes.now }
-    ensures ok { OnOk result ((live : List ℕ → Option BoardRow) (new : PublishedMap) → Holds rows.old live
-        → ((held : BoardRow) → live name.now ≡ Some held → held.added ≡ added → ChangesMap changes.now (arc_value addresses.now) revision held.map new)
+    ensures ok { OnOk result ((live : List ℕ → Option BoardRow) (new : PublishedMap)
+        → Holds rows.old live → ((held : BoardRow) → live name.now ≡ Some held
+        → held.added ≡ added → ChangesMap changes.now (arc_value addresses.now) revision held.map new)
         → Holds rows.new (with_change (id_of name.now added) (row_with commits revision new) live)) }
     ensures err { OnErr result ((live : List ℕ → Option BoardRow) → Holds rows.old live → Holds rows.new live) }
 {
@@ -160,7 +165,8 @@ fn publish(
 
 /// A map was too large. It takes no memory.
 fn block(rows: &mut Rows, commits: u64, name: &Text, added: u64, revision: u64)
-    ensures { (live : List ℕ → Option BoardRow) → Holds rows.old live → Holds rows.new (with_change (id_of name.now added) (row_blocked revision commits) live) }
+    ensures { (live : List ℕ → Option BoardRow) → Holds rows.old live
+        → Holds rows.new (with_change (id_of name.now added) (row_blocked revision commits) live) }
 {
     match rows.get_mut(name) {
         None => {}
@@ -178,8 +184,9 @@ pub(crate) fn take_in(
 ) -> Result<(), Memory>
     requires count { commits < 2 ^ 63 }
     requires room { HaveRoom rows.old change.now }
-    ensures ok { OnOk result ((options : Options) (history : List OneEvent) (new : OneEvent) → commits ≡ revision_of history → Tells options history change.now new
-        → Holds rows.old (content_of options history).live → Holds rows.new (content_of options (history ++ new ∷ [])).live) }
+    ensures ok { OnOk result ((options : Options) (history : List OneEvent) (new : OneEvent) → commits
+        ≡ revision_of history → Tells options history change.now new → Holds rows.old (content_of options history).live
+        → Holds rows.new (content_of options (history ++ new ∷ [])).live) }
     ensures err { OnErr result ((live : List ℕ → Option BoardRow) → Holds rows.old live → Holds rows.new live) }
 {
     match change {

@@ -54,7 +54,8 @@ impl<N: NodeName> Model for Face<N> {
 
     ghost view = { λ f. f.seen };
 
-    ghost invariant = { λ f. (f.commits ≡ revision_of f.seen) × Holds f.rows (content_of N.options f.seen).live × IsLimited N.options };
+    ghost invariant = { λ f.
+        (f.commits ≡ revision_of f.seen) × Holds f.rows (content_of N.options f.seen).live × IsLimited N.options };
 }
 
 impl<N: NodeName> Face<N> {
@@ -98,7 +99,8 @@ impl<N: NodeName> Face<N> {
     /// The last published map of the endpoint of that name, if there is one. It takes no memory; the one error is that want of
     /// memory has cut a change of the map off.
     pub fn last_map(&self, name: &Text) -> Result<Option<&PolicyTrie>, Memory>
-        ensures { IfOk result (λ last. finite.entries (map_before (option_copied last)) ≡ table_shown N.options self.now name.now) }
+        ensures { IfOk result (λ last.
+            finite.entries (map_before (option_copied last)) ≡ table_shown N.options self.now name.now) }
     {
         match self.rows.get(name) {
             None => Ok(None),

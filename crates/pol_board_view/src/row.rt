@@ -62,7 +62,8 @@ fn number_of(shown: &FaceMap, remote: Remote) -> u32
 /// What the map says of a packet.
 fn read_shown<L: Ledger>(shown: &FaceMap, query: &Query, steps: &mut Steps<L>) -> Verdict
     ensures revision { result.revision ≡ shown.now.revision }
-    ensures word { result.word ≡ read_map (finite.entries shown.now.trie) query.now.dir (number_then shown.now query.now.remote) query.now.proto query.now.port }
+    ensures word { result.word ≡ read_map (finite.entries shown.now.trie) query.now.dir
+        (number_then shown.now query.now.remote) query.now.proto query.now.port }
     ensures forward { steps.old ≤ steps.new }
     ensures cost { steps.new ≤ steps.old + 36 }
 {
@@ -82,7 +83,8 @@ fn look_at_map<L: Ledger>(
     query: &Query,
     steps: &mut Steps<L>,
 ) -> Result<Verdict, LookError>
-    ensures answer { (held : Option PublishedMap) → HoldsMap map.now held → IsLookOf result (look_map commits query.now held) }
+    ensures answer { (held : Option PublishedMap)
+        → HoldsMap map.now held → IsLookOf result (look_map commits query.now held) }
     ensures nothing { IsErrOf result LookError.NoGuard → steps.new ≡ steps.old }
     ensures forward { steps.old ≤ steps.new }
     ensures cost { steps.new ≤ steps.old + 36 }
@@ -106,7 +108,8 @@ pub(crate) fn look_in_rows<L: Ledger>(
     query: &Query,
     steps: &mut Steps<L>,
 ) -> Result<Verdict, LookError>
-    ensures answer { (live : List ℕ → Option BoardRow) → Holds rows.now live → IsLookOf result (look_row commits query.now (live query.now.endpoint)) }
+    ensures answer { (live : List ℕ → Option BoardRow)
+        → Holds rows.now live → IsLookOf result (look_row commits query.now (live query.now.endpoint)) }
     ensures nothing { IsErrOf result LookError.NoGuard → steps.new ≡ steps.old }
     ensures forward { steps.old ≤ steps.new }
     ensures cost { steps.new ≤ steps.old + 36 }
@@ -119,7 +122,8 @@ pub(crate) fn look_in_rows<L: Ledger>(
 
 /// The map, where it is whole. It takes no memory.
 pub(crate) fn whole_map(map: &Option<FaceMap>) -> Result<Option<&PolicyTrie>, Memory>
-    ensures { (held : Option PublishedMap) → HoldsMap map.now held → IfOk result (λ last. finite.entries (map_before (option_copied last)) ≡ table_in held) }
+    ensures { (held : Option PublishedMap) → HoldsMap map.now held
+        → IfOk result (λ last. finite.entries (map_before (option_copied last)) ≡ table_in held) }
 {
     let Some(shown) = map else {
         return Ok(None);
@@ -187,7 +191,8 @@ pub(crate) fn show_map(
     addresses: &Arc<Addresses>,
 ) -> Result<(), Memory>
     requires room { HasRoom map.old changes.now }
-    ensures ok { OnOk result ((held : Option PublishedMap) (new : PublishedMap) → HoldsMap map.old held → ChangesMap changes.now (arc_value addresses.now) revision held new → HoldsMap map.new (Some new)) }
+    ensures ok { OnOk result ((held : Option PublishedMap) (new : PublishedMap) → HoldsMap map.old held
+        → ChangesMap changes.now (arc_value addresses.now) revision held new → HoldsMap map.new (Some new)) }
     ensures err { OnErr result ((held : Option PublishedMap) → HoldsMap map.old held → HoldsMap map.new held) }
 {
     match map {

@@ -9,28 +9,55 @@ ghost use Rattle.pol_command_line.specs.Options.{options_given};
 
 /// What some words give ('profile').
 pub fn words_that_fit()
-    ensures none { words_given [] ≡ Some (record { options = record { mode = Default; localhost = true; map_max = Some 16384 }; workers = 2; task = Play }) }
-    ensures all { words_given (codes "--generate" ∷ codes "10000" ∷ codes "--workers=0" ∷ codes "--allow-localhost" ∷ codes "policy" ∷ codes "--enable-policy=never" ∷ [])
-        ≡ Some (record { options = record { mode = Never; localhost = false; map_max = Some MAP_MAX }; workers = 0; task = Generate 10000 }) }
-    ensures greatest { words_given (codes "--workers" ∷ codes "8" ∷ codes "--generate" ∷ codes "1" ∷ codes "--enable-policy" ∷ codes "always" ∷ [])
-        ≡ Some (record { options = record { mode = Always; localhost = true; map_max = Some MAP_MAX }; workers = 8; task = Generate 1 }) }
+    ensures none { words_given []
+        ≡ Some (record {
+          options = record { mode = Default; localhost = true; map_max = Some 16384 };
+          workers = 2;
+          task = Play;
+        }) }
+    ensures all { words_given (codes "--generate" ∷ codes "10000"
+        ∷ codes "--workers=0" ∷ codes "--allow-localhost" ∷ codes "policy" ∷ codes "--enable-policy=never" ∷ [])
+        ≡ Some (record {
+          options = record { mode = Never; localhost = false; map_max = Some MAP_MAX };
+          workers = 0;
+          task = Generate 10000;
+        }) }
+    ensures greatest { words_given (codes "--workers"
+        ∷ codes "8" ∷ codes "--generate" ∷ codes "1" ∷ codes "--enable-policy" ∷ codes "always" ∷ [])
+        ≡ Some (record {
+          options = record { mode = Always; localhost = true; map_max = Some MAP_MAX };
+          workers = 8;
+          task = Generate 1;
+        }) }
     ensures end { words_fit (codes "--" ∷ []) ≡ true }
 {}
 
 /// The limit of maps: both ends fit, and one past each doesn't. It fits beside a map and an audit, never beside a generated
 /// script ('profile').
 pub fn words_that_limit_maps()
-    ensures least { words_given (codes "--policy-map-max=256" ∷ [])
-        ≡ Some (record { options = record { mode = Default; localhost = true; map_max = Some 256 }; workers = 2; task = Play }) }
+    ensures least { words_given (codes "--policy-map-max=256" ∷ []) ≡ Some
+        (record {
+          options = record { mode = Default; localhost = true; map_max = Some 256 };
+          workers = 2;
+          task = Play;
+        }) }
     ensures greatest { words_given (codes "--workers=0" ∷ codes "--policy-map-max" ∷ codes "65536" ∷ [])
-        ≡ Some (record { options = record { mode = Default; localhost = true; map_max = Some 65536 }; workers = 0; task = Play }) }
+        ≡ Some (record {
+          options = record { mode = Default; localhost = true; map_max = Some 65536 };
+          workers = 0;
+          task = Play;
+        }) }
     ensures default { words_given (codes "--policy-map-max=16384" ∷ []) ≡ words_given [] }
     ensures below { words_fit (codes "--policy-map-max=255" ∷ []) ≡ false }
     ensures above { words_fit (codes "--policy-map-max=65537" ∷ []) ≡ false }
     ensures twice { words_fit (codes "--policy-map-max=256" ∷ codes "--policy-map-max=256" ∷ []) ≡ false }
     ensures value { words_fit (codes "--policy-map-max" ∷ []) ≡ false }
     ensures map { words_given (codes "--map=web" ∷ codes "--policy-map-max=256" ∷ [])
-        ≡ Some (record { options = record { mode = Default; localhost = true; map_max = Some 256 }; workers = 2; task = Map (codes "web") }) }
+        ≡ Some (record {
+          options = record { mode = Default; localhost = true; map_max = Some 256 };
+          workers = 2;
+          task = Map (codes "web");
+        }) }
     ensures audit { words_fit (codes "--policy-map-max=256" ∷ codes "--audit" ∷ []) ≡ true }
     ensures generate { words_fit (codes "--generate=1" ∷ codes "--policy-map-max=65536" ∷ []) ≡ false }
     ensures generate_default { words_fit (codes "--policy-map-max=16384" ∷ codes "--generate=1" ∷ []) ≡ false }
@@ -39,21 +66,41 @@ pub fn words_that_limit_maps()
 /// What is to be done: the name of a map is any text, an empty one too ('profile').
 pub fn words_that_ask_for_maps()
     ensures map { words_given (codes "--map" ∷ codes "web" ∷ [])
-        ≡ Some (record { options = record { mode = Default; localhost = true; map_max = Some MAP_MAX }; workers = 2; task = Map (codes "web") }) }
+        ≡ Some (record {
+          options = record { mode = Default; localhost = true; map_max = Some MAP_MAX };
+          workers = 2;
+          task = Map (codes "web");
+        }) }
     ensures no_name { words_given (codes "--map=" ∷ []) ≡ words_given (codes "--map" ∷ [] ∷ []) }
     ensures empty_name { words_given (codes "--map=" ∷ [])
-        ≡ Some (record { options = record { mode = Default; localhost = true; map_max = Some MAP_MAX }; workers = 2; task = Map [] }) }
+        ≡ Some (record {
+          options = record { mode = Default; localhost = true; map_max = Some MAP_MAX };
+          workers = 2;
+          task = Map [];
+        }) }
     ensures audit { words_given (codes "--audit" ∷ codes "--workers=0" ∷ [])
-        ≡ Some (record { options = record { mode = Default; localhost = true; map_max = Some MAP_MAX }; workers = 0; task = Audit }) }
+        ≡ Some (record {
+          options = record { mode = Default; localhost = true; map_max = Some MAP_MAX };
+          workers = 0;
+          task = Audit;
+        }) }
 {}
 
 /// A crash is at one of the calls 1 to 1,000,000 of a disk; it fits beside a limit of maps, and beside nothing else that is to be
 /// done ('profile').
 pub fn words_that_ask_for_crashes()
     ensures least { words_given (codes "--crash-at" ∷ codes "1" ∷ [])
-        ≡ Some (record { options = record { mode = Default; localhost = true; map_max = Some MAP_MAX }; workers = 2; task = Crash 1 }) }
+        ≡ Some (record {
+          options = record { mode = Default; localhost = true; map_max = Some MAP_MAX };
+          workers = 2;
+          task = Crash 1;
+        }) }
     ensures greatest { words_given (codes "--policy-map-max=256" ∷ codes "--crash-at=1000000" ∷ [])
-        ≡ Some (record { options = record { mode = Default; localhost = true; map_max = Some 256 }; workers = 2; task = Crash 1000000 }) }
+        ≡ Some (record {
+          options = record { mode = Default; localhost = true; map_max = Some 256 };
+          workers = 2;
+          task = Crash 1000000;
+        }) }
     ensures below { words_fit (codes "--crash-at=0" ∷ []) ≡ false }
     ensures above { words_fit (codes "--crash-at=1000001" ∷ []) ≡ false }
     ensures value { words_fit (codes "--crash-at" ∷ []) ≡ false }
@@ -93,8 +140,10 @@ pub fn words_that_do_not_fit()
 
 /// What some words of the program `connections` give ('profile').
 pub fn words_of_connections()
-    ensures none { options_given [] ≡ Some (record { options = record { mode = Default; localhost = true; map_max = None }; halves = false }) }
-    ensures all { options_given (codes "--allow-localhost=policy" ∷ codes "--halves" ∷ codes "--enable-policy" ∷ codes "never" ∷ [])
+    ensures none { options_given []
+        ≡ Some (record { options = record { mode = Default; localhost = true; map_max = None }; halves = false }) }
+    ensures all { options_given (codes "--allow-localhost=policy"
+        ∷ codes "--halves" ∷ codes "--enable-policy" ∷ codes "never" ∷ [])
         ≡ Some (record { options = record { mode = Never; localhost = false; map_max = None }; halves = true }) }
     ensures two_halves { options_given (codes "--halves" ∷ codes "--halves" ∷ []) ≡ None }
     ensures halves_value { options_given (codes "--halves=true" ∷ []) ≡ None }

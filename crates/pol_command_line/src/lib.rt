@@ -241,8 +241,10 @@ fn words_of(
 
 fn words_in(alloc: Global, matches: &ArgMatches) -> Result<Option<Words>, Memory>
     ensures given { IfOk result (λ found. found ≡ words_in (rows_of (found_of matches.now))) }
-    ensures least { IfOk result (λ found. IfSome found (λ given. IsSomeAnd given.options.map_max (λ limit. 256 ≤ limit))) }
-    ensures greatest { IfOk result (λ found. IfSome found (λ given. IsSomeAnd given.options.map_max (λ limit. limit ≤ 65536))) }
+    ensures least { IfOk result (λ found.
+        IfSome found (λ given. IsSomeAnd given.options.map_max (λ limit. 256 ≤ limit))) }
+    ensures greatest { IfOk result (λ found.
+        IfSome found (λ given. IsSomeAnd given.options.map_max (λ limit. limit ≤ 65536))) }
     ensures default { IfOk result (λ found. IfSome found (λ given. HasDefault given.task given.options.map_max)) }
     ensures workers { IfOk result (λ found. IfSome found (λ given. given.workers ≤ 8)) }
     ensures rounds { IfOk result (λ found. IfSome found (λ given. IsInRange given.task)) }

@@ -68,7 +68,8 @@ fn second_table(alloc: Global, left: &Entries, right: &[u8]) -> Result<Finding, 
 
 // What an audit finds of two tables.
 fn audited(alloc: Global, left: &Entries, right: &Entries) -> Result<Finding, Memory>
-    ensures { IfOk result (λ finding. (audit : OneAudit) × (finding ≡ Finding.Compared audit) × IsAudit left.now right.now audit) }
+    ensures { IfOk result (λ finding.
+        (audit : OneAudit) × (finding ≡ Finding.Compared audit) × IsAudit left.now right.now audit) }
 {
     let audit = audit_over::<Brand>(Blank::new(1), alloc, left, right)?;
     Ok(Finding::Compared(audit))

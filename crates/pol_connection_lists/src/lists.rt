@@ -33,7 +33,8 @@ pub fn changed_connections(
     requires idle_before { before.now.prepared ≡ None }
     requires idle_after { after.now.prepared ≡ None }
     requires options { before.now.options ≡ after.now.options }
-    ensures list { IfOk result (λ list. list.items ≡ changes_of halves after.now.options (state_in before.now) (state_in after.now)) }
+    ensures list { IfOk result (λ list.
+        list.items ≡ changes_of halves after.now.options (state_in before.now) (state_in after.now)) }
 {
     let own_before = OwnRows::of(alloc, before)?;
     let own_after = OwnRows::of(alloc, after)?;

@@ -25,7 +25,8 @@ fn follow<'a>(
     held: &mut BTreeMap<Text, &'a LabelSet>,
     request: &'a Request,
 ) -> Result<(), Memory>
-    ensures { OnOk result ((s : State) → Keeps s → MayCommit s request.now → AreLabelsIn s held.old → AreLabelsIn (after s request.now) held.new) }
+    ensures { OnOk result ((s : State) → Keeps s
+        → MayCommit s request.now → AreLabelsIn s held.old → AreLabelsIn (after s request.now) held.new) }
 {
     match request {
         Request::AddIdentity { name, labels } => {
@@ -45,7 +46,8 @@ fn labels_after<'a>(
     alloc: Global,
     journal: &'a [Request],
 ) -> Result<BTreeMap<Text, &'a LabelSet>, Memory>
-    ensures { IfOk result (λ held. (options : Options) → WithoutFaults options journal.now → AreLabelsIn (state_of options journal.now) held) }
+    ensures { IfOk result (λ held.
+        (options : Options) → WithoutFaults options journal.now → AreLabelsIn (state_of options journal.now) held) }
 {
     let mut held = BTreeMap::new(alloc);
     for request in journal {
@@ -94,7 +96,8 @@ pub(crate) fn named_by_name(
     journal: &[Request],
     identities: &Identities,
 ) -> Result<Vec<NamedIdentity>, Memory>
-    ensures { IfOk result (λ named. (options : Options) → WithoutFaults options journal.now → identities.now ≡ (state_of options journal.now).identities
+    ensures { IfOk result (λ named. (options : Options)
+        → WithoutFaults options journal.now → identities.now ≡ (state_of options journal.now).identities
         → named.items ≡ by_name (λ (identity : OneIdentity). identity.name) (state_of options journal.now).named) }
 {
     let held = labels_after(alloc, journal)?;

@@ -25,7 +25,8 @@ impl OwnRows {
     pub(crate) fn of(alloc: Global, repo: &Repo) -> Result<OwnRows, Memory>
         requires idle { repo.now.prepared ≡ None }
         ensures identities { IfOk result (λ own. own.identities.items ≡ (state_in repo.now).identities) }
-        ensures named { IfOk result (λ own. own.named.items ≡ by_name (λ identity. identity.name) (state_in repo.now).named) }
+        ensures named { IfOk result (λ own.
+            own.named.items ≡ by_name (λ identity. identity.name) (state_in repo.now).named) }
     {
         let identities = rows_of(alloc, repo.identities())?;
         let named = named_by_name(alloc, repo.journal(), repo.identities())?;

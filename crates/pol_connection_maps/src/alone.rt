@@ -32,7 +32,8 @@ fn names_beside(
     firsts: &BTreeMap<EndName, &EndRow>,
     other: &[EndRow],
 ) -> Result<Vec<EndName>, Memory>
-    ensures { IfOk result (λ names. (one : List OneRow) → AreFirsts (λ row. row.name) one firsts.now → names.items ≡ names_alone one other.now) }
+    ensures { IfOk result (λ names.
+        (one : List OneRow) → AreFirsts (λ row. row.name) one firsts.now → names.items ≡ names_alone one other.now) }
 {
     let mut names = Vec::new(alloc);
     for row in other {

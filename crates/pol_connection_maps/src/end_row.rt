@@ -54,7 +54,8 @@ fn push_endpoints(
     endpoints: &[Endpoint],
 ) -> Result<(), Memory>
     requires { IsDistinct bytes_eq (map (λ endpoint. endpoint.name) endpoints.now) }
-    ensures { OnOk result (out.new.items ≡ out.old.items ++ map endpoint_row (by_name (λ endpoint. endpoint.name) endpoints.now)) }
+    ensures { OnOk result (out.new.items ≡ out.old.items ++ map endpoint_row (by_name (λ endpoint.
+        endpoint.name) endpoints.now)) }
 {
     let numbers = numbers_by_name(alloc, endpoints)?;
     push_numbers(alloc, out, &numbers)
@@ -103,7 +104,8 @@ fn push_regions(
     numbers: &BTreeMap<Prefix, u32>,
     regions: &[Prefix],
 ) -> Result<(), Memory>
-    ensures { OnOk result ((rows : List OneRow) → AreNumbersOf rows numbers.now → out.new.items ≡ out.old.items ++ map (region_row rows) regions.now) }
+    ensures { OnOk result ((rows : List OneRow)
+        → AreNumbersOf rows numbers.now → out.new.items ≡ out.old.items ++ map (region_row rows) regions.now) }
 {
     for region in regions {
         out.push(EndRow {

@@ -40,7 +40,8 @@ pub(crate) fn first_named<'a, T: IsNamed>(
     firsts: &BTreeMap<EndName, &'a T>,
     name: &EndName,
 ) -> Option<&'a T>
-    ensures { (all : List T) → AreFirsts T.name_of all firsts.now → option_copied result ≡ first_named T.name_of name.now all }
+    ensures { (all : List T) → AreFirsts T.name_of all firsts.now
+        → option_copied result ≡ first_named T.name_of name.now all }
 {
     match firsts.get(name) {
         Some(one) => Some(*one),

@@ -15,7 +15,8 @@ pub(crate) fn numbers_by_name(
     endpoints: &[Endpoint],
 ) -> Result<BTreeMap<Text, u32>, Memory>
     requires { IsDistinct bytes_eq (map (λ endpoint. endpoint.name) endpoints.now) }
-    ensures { IfOk result (λ numbers. numbers.entries ≡ map (λ endpoint. (endpoint.name, endpoint.identity)) (by_name (λ endpoint. endpoint.name) endpoints.now)) }
+    ensures { IfOk result (λ numbers. numbers.entries ≡ map (λ endpoint.
+        (endpoint.name, endpoint.identity)) (by_name (λ endpoint. endpoint.name) endpoints.now)) }
 {
     let mut numbers = BTreeMap::new(alloc);
     for i in (0..endpoints.len()).rev() {

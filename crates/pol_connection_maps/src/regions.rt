@@ -52,7 +52,8 @@ pub(crate) fn regions_of(
 
 /// Puts the number of the row at its prefix, if it has one.
 fn put_number(numbers: &mut BTreeMap<Prefix, u32>, row: &IdentityRow) -> Result<(), Memory>
-    ensures { OnOk result ((rows : List OneRow) → AreNumbersOf rows numbers.old → AreNumbersOf (row.now ∷ rows) numbers.new) }
+    ensures { OnOk result ((rows : List OneRow)
+        → AreNumbersOf rows numbers.old → AreNumbersOf (row.now ∷ rows) numbers.new) }
 {
     if let Some(prefix) = row.prefix {
         numbers.insert(prefix, row.number)?;
@@ -77,7 +78,8 @@ pub(crate) fn numbers_of_prefixes(
 /// The number of the prefix of this length around a region, if it has a row.
 fn number_around(numbers: &BTreeMap<Prefix, u32>, region: &Prefix, len: u8) -> Option<u32>
     requires { len ≤ region.now.len }
-    ensures { (rows : List OneRow) → AreNumbersOf rows numbers.now → result ≡ number_of (prefix_of region.now.addr len) (numbered_prefixes rows) }
+    ensures { (rows : List OneRow) → AreNumbersOf rows numbers.now
+        → result ≡ number_of (prefix_of region.now.addr len) (numbered_prefixes rows) }
 {
     let around = Prefix::new(region.network(), len);
     numbers.get(&around).copied()
@@ -85,7 +87,8 @@ fn number_around(numbers: &BTreeMap<Prefix, u32>, region: &Prefix, len: u8) -> O
 
 /// The number of the longest prefix around a region that has a row.
 fn longest_number(numbers: &BTreeMap<Prefix, u32>, region: &Prefix) -> Option<u32>
-    ensures { (rows : List OneRow) → AreNumbersOf rows numbers.now → result ≡ option_map (λ e. e.1) (longest_over region.now (numbered_prefixes rows)) }
+    ensures { (rows : List OneRow) → AreNumbersOf rows numbers.now
+        → result ≡ option_map (λ e. e.1) (longest_over region.now (numbered_prefixes rows)) }
 {
     for len in (0..region.len() + 1).rev() {
         if let Some(number) = number_around(numbers, region, len) {

@@ -14,7 +14,8 @@ ghost use Rattle.pol_connection_text.specs.Lines.{connection_json, name_json, re
 pub fn lines_are_read_as_json()
     ensures connections { (c : OneConnection) → c.range.first < 2 ^ 16 → c.range.last < 2 ^ 16
         → document (print (json_tokens (connection_json c))) ≡ Some (connection_json c) }
-    ensures names { (side : OneSide) (name : OneName) → document (print (json_tokens (name_json side name))) ≡ Some (name_json side name) }
+    ensures names { (side : OneSide) (name : OneName)
+        → document (print (json_tokens (name_json side name))) ≡ Some (name_json side name) }
     ensures refusals { (side : Option OneSide) (line : ℕ) (answer : OneAnswer) → line < 2 ^ 64
         → document (print (json_tokens (refusal_json side line answer))) ≡ Some (refusal_json side line answer) }
 {}

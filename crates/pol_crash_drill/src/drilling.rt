@@ -30,7 +30,8 @@ pub fn drill(alloc: Global, options: Options, call: u32, script: &[u8]) -> Resul
     requires limit { IsSomeAnd options.map_max (λ limit. limit ≤ 65536) }
     requires first { 1 ≤ call }
     requires within { IsTrue (fits_limits script.now) }
-    ensures { IfOk result (λ drilled. IsDrill options call (readings_of script.now) drilled.text.items (if drilled.marked then 1 else 0)) }
+    ensures { IfOk result (λ drilled.
+        IsDrill options call (readings_of script.now) drilled.text.items (if drilled.marked then 1 else 0)) }
 {
     let config = config_of(options);
     let mut disk = MemDisk::new(alloc, Some(u64::from(call)))?;

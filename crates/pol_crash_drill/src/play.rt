@@ -62,7 +62,8 @@ pub(crate) fn play_until(
     requires first { 1 ≤ call }
     requires within { IsTrue (fits_limits script.now) }
     requires empty { disk.old ≡ empty_disk call }
-    ensures { IfOk result (λ told. IsCut (options_of config) call (readings_of script.now) disk.new.past told.text.items told.marked) }
+    ensures { IfOk result (λ told.
+        IsCut (options_of config) call (readings_of script.now) disk.new.past told.text.items told.marked) }
 {
     match play_script(alloc, disk, config, script) {
         Ok(kept) => {

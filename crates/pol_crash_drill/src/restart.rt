@@ -22,7 +22,8 @@ pub(crate) fn count_kept(
 ) -> Result<usize, Memory>
     requires limit { config.map_max ≤ 65536 }
     requires journal { IsSomeJournal (options_of config) (left_by_crash call disk.past) }
-    ensures { (requests : List AnyRequest) → IsJournal (options_of config) requests (left_by_crash call disk.past) → IfOk result (λ count. count ≡ length requests) }
+    ensures { (requests : List AnyRequest) → IsJournal (options_of config) requests (left_by_crash call disk.past)
+        → IfOk result (λ count. count ≡ length requests) }
 {
     let mut left = disk.crash(call % 2 == 1);
     match open_over(alloc, &mut left, config) {

@@ -46,7 +46,8 @@ pub trait Disk {
 
         // What a crash may leave, since when, and the counts.
         ensures crash { (c : List ℕ) → may_leave self.new c → may_leave self.old c }
-        ensures time { Elapses (moment self.old) (moment self.new) (left_since self.old) (left_since self.new) (may_leave self.new) }
+        ensures time { Elapses (moment self.old)
+            (moment self.new) (left_since self.old) (left_since self.new) (may_leave self.new) }
         ensures counted { clock self.new ≡ next_count (clock self.old) }
         ensures failed { IsErr result → Rose (faults self.old) (faults self.new) }
         ensures never_falls { faults self.old ≤ faults self.new };
@@ -63,7 +64,8 @@ pub trait Disk {
 
         // What a crash may leave, since when, and the counts.
         ensures crash { Follows (Torn at (length bytes.now)) (may_leave self.old) (may_leave self.new) }
-        ensures time { Elapses (moment self.old) (moment self.new) (left_since self.old) (left_since self.new) (may_leave self.new) }
+        ensures time { Elapses (moment self.old)
+            (moment self.new) (left_since self.old) (left_since self.new) (may_leave self.new) }
         ensures counted { clock self.new ≡ next_count (clock self.old) }
         ensures failed { IsErr result → Rose (faults self.old) (faults self.new) }
         ensures never_falls { faults self.old ≤ faults self.new };
@@ -77,7 +79,8 @@ pub trait Disk {
 
         // What a crash may leave, since when, and the counts.
         ensures crash { Follows (CutShort len) (may_leave self.old) (may_leave self.new) }
-        ensures time { Elapses (moment self.old) (moment self.new) (left_since self.old) (left_since self.new) (may_leave self.new) }
+        ensures time { Elapses (moment self.old)
+            (moment self.new) (left_since self.old) (left_since self.new) (may_leave self.new) }
         ensures counted { clock self.new ≡ next_count (clock self.old) }
         ensures failed { IsErr result → Rose (faults self.old) (faults self.new) }
         ensures never_falls { faults self.old ≤ faults self.new };
@@ -91,7 +94,8 @@ pub trait Disk {
 
         // What a crash may leave, since when, and the counts.
         ensures crash { (c : List ℕ) → may_leave self.new c → may_leave self.old c }
-        ensures time { Elapses (moment self.old) (moment self.new) (left_since self.old) (left_since self.new) (may_leave self.new) }
+        ensures time { Elapses (moment self.old)
+            (moment self.new) (left_since self.old) (left_since self.new) (may_leave self.new) }
         ensures counted { clock self.new ≡ next_count (clock self.old) }
         ensures failed { IsErr result → Rose (faults self.old) (faults self.new) }
         ensures never_falls { faults self.old ≤ faults self.new };

@@ -231,7 +231,8 @@ impl Disk for MemDisk {
 
         // As every disk.
         ensures crash { (c : List ℕ) → IsImage (held self.new.past) c → IsImage (held self.old.past) c }
-        ensures time { Elapses (length self.old.past) (length self.new.past) (LeftSince self.old.past) (LeftSince self.new.past) (IsImage (held self.new.past)) }
+        ensures time { Elapses (length self.old.past)
+            (length self.new.past) (LeftSince self.old.past) (LeftSince self.new.past) (IsImage (held self.new.past)) }
         ensures failed { IsErr result → Rose self.old.faults self.new.faults }
         ensures never_falls { self.old.faults ≤ self.new.faults }
     {
@@ -252,12 +253,15 @@ impl Disk for MemDisk {
         ensures stopped { IsTrue (is_stopped self.old) → IsErr result }
         ensures too_far { IsTrue (is_too_far at (length bytes.now)) → IsErr result }
         ensures ok { OnOk result (self.new ≡ did (called.Write at bytes.now) self.old) }
-        ensures err { OnErr result (self.new ≡ failed (is_stopped self.old || is_too_far at (length bytes.now)) self.old) }
+        ensures err { OnErr result (self.new
+            ≡ failed (is_stopped self.old || is_too_far at (length bytes.now)) self.old) }
 
         // As every disk.
         ensures written { OnOk result (bytes_in self.new ≡ overwritten (bytes_in self.old) at bytes.now) }
-        ensures crash { Follows (Torn at (length bytes.now)) (IsImage (held self.old.past)) (IsImage (held self.new.past)) }
-        ensures time { Elapses (length self.old.past) (length self.new.past) (LeftSince self.old.past) (LeftSince self.new.past) (IsImage (held self.new.past)) }
+        ensures crash { Follows (Torn at (length bytes.now))
+            (IsImage (held self.old.past)) (IsImage (held self.new.past)) }
+        ensures time { Elapses (length self.old.past)
+            (length self.new.past) (LeftSince self.old.past) (LeftSince self.new.past) (IsImage (held self.new.past)) }
         ensures failed { IsErr result → Rose self.old.faults self.new.faults }
         ensures never_falls { self.old.faults ≤ self.new.faults }
     {
@@ -280,7 +284,8 @@ impl Disk for MemDisk {
         // As every disk.
         ensures cut { OnOk result (bytes_in self.new ≡ take len (bytes_in self.old)) }
         ensures crash { Follows (CutShort len) (IsImage (held self.old.past)) (IsImage (held self.new.past)) }
-        ensures time { Elapses (length self.old.past) (length self.new.past) (LeftSince self.old.past) (LeftSince self.new.past) (IsImage (held self.new.past)) }
+        ensures time { Elapses (length self.old.past)
+            (length self.new.past) (LeftSince self.old.past) (LeftSince self.new.past) (IsImage (held self.new.past)) }
         ensures failed { IsErr result → Rose self.old.faults self.new.faults }
         ensures never_falls { self.old.faults ≤ self.new.faults }
     {
@@ -302,7 +307,8 @@ impl Disk for MemDisk {
         ensures same { OnOk result (bytes_in self.new ≡ bytes_in self.old) }
         ensures durable { OnOk result (Only (bytes_in self.new) (IsImage (held self.new.past))) }
         ensures crash { (c : List ℕ) → IsImage (held self.new.past) c → IsImage (held self.old.past) c }
-        ensures time { Elapses (length self.old.past) (length self.new.past) (LeftSince self.old.past) (LeftSince self.new.past) (IsImage (held self.new.past)) }
+        ensures time { Elapses (length self.old.past)
+            (length self.new.past) (LeftSince self.old.past) (LeftSince self.new.past) (IsImage (held self.new.past)) }
         ensures failed { IsErr result → Rose self.old.faults self.new.faults }
         ensures never_falls { self.old.faults ≤ self.new.faults }
     {

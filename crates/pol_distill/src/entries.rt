@@ -30,7 +30,8 @@ fn push_peer(
     sets: &PeerSets<'_>,
 ) -> Result<(), Memory>
     requires { IsTrue (has_set sets.now peer.now) }
-    ensures { OnOk result (out.new.items ≡ out.old.items ++ flat_map (entries_for kind keys.now) (peer_numbers (set_given sets.now) peer.now)) }
+    ensures { OnOk result (out.new.items
+        ≡ out.old.items ++ flat_map (entries_for kind keys.now) (peer_numbers (set_given sets.now) peer.now)) }
 {
     if selects_every_number(peer) {
         push_identity(out, keys, kind, EVERY_IDENTITY)
@@ -48,7 +49,8 @@ fn push_peers(
     sets: &PeerSets<'_>,
 ) -> Result<(), Memory>
     requires { AllByRecursion (λ p. IsTrue (has_set sets.now p)) peers.now }
-    ensures { OnOk result (out.new.items ≡ out.old.items ++ flat_map (entries_for kind keys.now) (flat_map (peer_numbers (set_given sets.now)) peers.now)) }
+    ensures { OnOk result (out.new.items ≡ out.old.items
+        ++ flat_map (entries_for kind keys.now) (flat_map (peer_numbers (set_given sets.now)) peers.now)) }
 {
     for peer in peers {
         push_peer(out, keys, kind, peer, sets)?;
@@ -67,7 +69,8 @@ fn push_filter(
     sets: &PeerSets<'_>,
 ) -> Result<(), Memory>
     requires { PeersHaveSets sets.now filter.now.peers }
-    ensures { OnOk result (out.new.items ≡ out.old.items ++ entry_entries (set_given sets.now) dir kind (entry_of filter.now)) }
+    ensures { OnOk result (out.new.items
+        ≡ out.old.items ++ entry_entries (set_given sets.now) dir kind (entry_of filter.now)) }
 {
     let ports = filter.ports.as_slice();
     match &filter.peers {
@@ -94,7 +97,8 @@ fn push_allows(
     sets: &PeerSets<'_>,
 ) -> Result<(), Memory>
     requires { ListHasSets sets.now filters.now }
-    ensures { OnOk result (out.new.items ≡ out.old.items ++ flat_map (entry_entries (set_given sets.now) dir allow) (allowing filters.now)) }
+    ensures { OnOk result (out.new.items
+        ≡ out.old.items ++ flat_map (entry_entries (set_given sets.now) dir allow) (allowing filters.now)) }
 {
     for filter in filters {
         if !filter.deny {
@@ -113,7 +117,8 @@ fn push_denies(
     sets: &PeerSets<'_>,
 ) -> Result<(), Memory>
     requires { ListHasSets sets.now filters.now }
-    ensures { OnOk result (out.new.items ≡ out.old.items ++ flat_map (entry_entries (set_given sets.now) dir deny) (denying filters.now)) }
+    ensures { OnOk result (out.new.items
+        ≡ out.old.items ++ flat_map (entry_entries (set_given sets.now) dir deny) (denying filters.now)) }
 {
     for filter in filters {
         if filter.deny {
@@ -131,7 +136,8 @@ fn push_ingress(
     sets: &PeerSets<'_>,
 ) -> Result<(), Memory>
     requires { ListHasSets sets.now filters.now.ingress }
-    ensures { OnOk result (out.new.items ≡ out.old.items ++ direction_entries (set_given sets.now) (filter_parts filters.now) Direction.Ingress) }
+    ensures { OnOk result (out.new.items
+        ≡ out.old.items ++ direction_entries (set_given sets.now) (filter_parts filters.now) Direction.Ingress) }
 {
     let list = filters.ingress.as_slice();
     push_allows(alloc, out, Direction::Ingress, list, sets)?;
@@ -153,7 +159,8 @@ fn push_egress(
     sets: &PeerSets<'_>,
 ) -> Result<(), Memory>
     requires { ListHasSets sets.now filters.now.egress }
-    ensures { OnOk result (out.new.items ≡ out.old.items ++ direction_entries (set_given sets.now) (filter_parts filters.now) Direction.Egress) }
+    ensures { OnOk result (out.new.items
+        ≡ out.old.items ++ direction_entries (set_given sets.now) (filter_parts filters.now) Direction.Egress) }
 {
     let list = filters.egress.as_slice();
     push_allows(alloc, out, Direction::Egress, list, sets)?;

@@ -36,7 +36,8 @@ fn push_peer(
     peer: &Peer,
     rows: &PeerRows<'_>,
 ) -> Result<(), Memory>
-    ensures { OnOk result (out.new.items ≡ out.old.items ++ flat_map (entries_for kind keys.now) (peer_numbers (set_given rows.now) peer.now)) }
+    ensures { OnOk result (out.new.items
+        ≡ out.old.items ++ flat_map (entries_for kind keys.now) (peer_numbers (set_given rows.now) peer.now)) }
 {
     if selects_every_number(peer) {
         push_identity(out, keys, kind, EVERY_IDENTITY)
@@ -56,7 +57,8 @@ fn push_peers(
     peers: &[Peer],
     rows: &PeerRows<'_>,
 ) -> Result<(), Memory>
-    ensures { OnOk result (out.new.items ≡ out.old.items ++ flat_map (entries_for kind keys.now) (flat_map (peer_numbers (set_given rows.now)) peers.now)) }
+    ensures { OnOk result (out.new.items ≡ out.old.items
+        ++ flat_map (entries_for kind keys.now) (flat_map (peer_numbers (set_given rows.now)) peers.now)) }
 {
     for peer in peers {
         push_peer(out, keys, kind, peer, rows)?;
@@ -74,7 +76,8 @@ fn push_kind(
     filter: &Filter,
     rows: &PeerRows<'_>,
 ) -> Result<(), Memory>
-    ensures { OnOk result (out.new.items ≡ out.old.items ++ entry_entries (set_given rows.now) dir kind (entry_of filter.now)) }
+    ensures { OnOk result (out.new.items
+        ≡ out.old.items ++ entry_entries (set_given rows.now) dir kind (entry_of filter.now)) }
 {
     let ports = filter.ports.as_slice();
     match &filter.peers {
@@ -204,7 +207,8 @@ pub fn given(
     filters: &Filters,
     rows: &[SetRow],
 ) -> Result<Vec<(MapKey, Kind)>, Memory>
-    ensures { IfOk result (λ raw. (q : OneKey) (k : OneKind) → times raw.items q k ≡ times (raw_of filters.now rows.now) q k) }
+    ensures { IfOk result (λ raw.
+        (q : OneKey) (k : OneKind) → times raw.items q k ≡ times (raw_of filters.now rows.now) q k) }
 {
     let index = PeerRows::new(alloc, rows, &[], true)?;
     all_given(alloc, filters, &index)

@@ -40,7 +40,8 @@ fn push_protos(
     proto: Option<Proto>,
     parts: &[PortPrefix],
 ) -> Result<(), Memory>
-    ensures { OnOk result (out.new.items ≡ out.old.items ++ flat_map (λ own. map (part_entry dir kind id own) parts.now) (protos_of proto)) }
+    ensures { OnOk result (out.new.items ≡ out.old.items ++ flat_map (λ own.
+        map (part_entry dir kind id own) parts.now) (protos_of proto)) }
 {
     match proto {
         Some(proto) => push_parts(out, dir, kind, id, proto, parts),

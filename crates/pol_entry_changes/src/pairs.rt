@@ -42,7 +42,9 @@ fn push_newer(
 ) -> Result<usize, Memory>
     requires within { from ≤ length filters.now }
     ensures within { IfOk result (λ to. to ≤ length filters.now) }
-    ensures left { IfOk result (λ to. come.new.items ++ flat_map (given_by (set_given rows.now) dir) (drop to filters.now) ≡ come.old.items ++ flat_map (given_by (set_given rows.now) dir) (drop from filters.now)) }
+    ensures left { IfOk result (λ to.
+        come.new.items ++ flat_map (given_by (set_given rows.now) dir) (drop to filters.now)
+        ≡ come.old.items ++ flat_map (given_by (set_given rows.now) dir) (drop from filters.now)) }
 {
     let mut to = from;
     while to < filters.len() && newest < filters[to].stamp {
@@ -66,11 +68,14 @@ fn pair(
     moves: &PeerMoves<'_>,
 ) -> Result<usize, Memory>
     requires within { from ≤ length others.now }
-    requires stays { (other : OneFilter) → Contains others.now other → StandsAt one.now other → (one.now ≡ other) × PeersTold was.now is.now moves.now other.peers }
+    requires stays { (other : OneFilter) → Contains others.now other
+        → StandsAt one.now other → (one.now ≡ other) × PeersTold was.now is.now moves.now other.peers }
     requires before { AllByRecursion Ascend was.now }
     requires after { AllByRecursion Ascend is.now }
     ensures within { IfOk result (λ to. to ≤ length others.now) }
-    ensures left { IfOk result (λ to. Between (given_by (set_given was.now) dir one.now) (flat_map (given_by (set_given is.now) dir) (drop from others.now)) (flat_map (given_by (set_given is.now) dir) (drop to others.now)) out.old out.new) }
+    ensures left { IfOk result (λ to.
+        Between (given_by (set_given was.now) dir one.now) (flat_map (given_by (set_given is.now) dir)
+        (drop from others.now)) (flat_map (given_by (set_given is.now) dir) (drop to others.now)) out.old out.new) }
 {
     if from < others.len() && stands_at(one, &others[from]) {
         stays(alloc, out, dir, one, was, is, moves)?;
@@ -95,7 +100,8 @@ pub(crate) fn walk(
     requires stays { Stays was.now is.now moves.now old.now new.now }
     requires before { AllByRecursion Ascend was.now }
     requires after { AllByRecursion Ascend is.now }
-    ensures { OnOk result (GoesOn (flat_map (given_by (set_given was.now) dir) old.now) (flat_map (given_by (set_given is.now) dir) new.now) out.old out.new) }
+    ensures { OnOk result (GoesOn (flat_map (given_by (set_given was.now) dir) old.now)
+        (flat_map (given_by (set_given is.now) dir) new.now) out.old out.new) }
 {
     let newest = newest(old);
     let mut at = 0;

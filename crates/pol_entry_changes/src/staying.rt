@@ -103,7 +103,8 @@ fn peer_stays(
     requires told { IsTold was.now is.now moves.now peer.now }
     requires before { AllByRecursion Ascend was.now }
     requires after { AllByRecursion Ascend is.now }
-    ensures { OnOk result (GoesOn (of_numbers dir one.now (peer_numbers (set_given was.now) peer.now)) (of_numbers dir one.now (peer_numbers (set_given is.now) peer.now)) out.old out.new) }
+    ensures { OnOk result (GoesOn (of_numbers dir one.now (peer_numbers (set_given was.now) peer.now))
+        (of_numbers dir one.now (peer_numbers (set_given is.now) peer.now)) out.old out.new) }
 {
     if selects_every_number(peer) {
         return Ok(());
@@ -130,7 +131,8 @@ fn peers_stay(
     requires told { AllByRecursion (IsTold was.now is.now moves.now) peers.now }
     requires before { AllByRecursion Ascend was.now }
     requires after { AllByRecursion Ascend is.now }
-    ensures { OnOk result (GoesOn (of_numbers dir one.now (flat_map (peer_numbers (set_given was.now)) peers.now)) (of_numbers dir one.now (flat_map (peer_numbers (set_given is.now)) peers.now)) out.old out.new) }
+    ensures { OnOk result (GoesOn (of_numbers dir one.now (flat_map (peer_numbers (set_given was.now)) peers.now))
+        (of_numbers dir one.now (flat_map (peer_numbers (set_given is.now)) peers.now)) out.old out.new) }
 {
     for peer in peers {
         peer_stays(alloc, out, dir, one, peer, was, is, moves)?;
@@ -151,7 +153,8 @@ pub(crate) fn stays(
     requires told { PeersTold was.now is.now moves.now one.now.peers }
     requires before { AllByRecursion Ascend was.now }
     requires after { AllByRecursion Ascend is.now }
-    ensures { OnOk result (GoesOn (given_by (set_given was.now) dir one.now) (given_by (set_given is.now) dir one.now) out.old out.new) }
+    ensures { OnOk result
+        (GoesOn (given_by (set_given was.now) dir one.now) (given_by (set_given is.now) dir one.now) out.old out.new) }
 {
     match &one.peers {
         Peers::Every => Ok(()),

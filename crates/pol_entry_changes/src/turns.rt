@@ -26,7 +26,8 @@ use std::alloc::Global;
 
 /// Appends an allow that comes or goes.
 fn push_turn(out: &mut Moved, was: bool, is: bool, key: MapKey) -> Result<(), Memory>
-    ensures { OnOk result (GoesOn (entry_where was (key, OneKind.Allow)) (entry_where is (key, OneKind.Allow)) out.old out.new) }
+    ensures { OnOk result
+        (GoesOn (entry_where was (key, OneKind.Allow)) (entry_where is (key, OneKind.Allow)) out.old out.new) }
 {
     if is && !was {
         out.come.push((key, Kind::Allow))?;
@@ -39,7 +40,8 @@ fn push_turn(out: &mut Moved, was: bool, is: bool, key: MapKey) -> Result<(), Me
 
 /// Appends the allow of every key of an identity, if it comes or goes.
 fn push_turn_of(out: &mut Moved, was: bool, is: bool, dir: Direction, id: u32) -> Result<(), Memory>
-    ensures { OnOk result (GoesOn (entry_where was (allow_every dir id)) (entry_where is (allow_every dir id)) out.old out.new) }
+    ensures { OnOk result
+        (GoesOn (entry_where was (allow_every dir id)) (entry_where is (allow_every dir id)) out.old out.new) }
 {
     push_turn(out, was, is, every_key(dir, id))
 }
@@ -81,7 +83,8 @@ fn push_walks(
     requires egress { Stays was_rows.now is_rows.now moves.now was.now.egress is.now.egress }
     requires before { AllByRecursion Ascend was_rows.now }
     requires after { AllByRecursion Ascend is_rows.now }
-    ensures { OnOk result (GoesOn (of_filters (set_given was_rows.now) was.now) (of_filters (set_given is_rows.now) is.now) out.old out.new) }
+    ensures { OnOk result (GoesOn (of_filters (set_given was_rows.now) was.now)
+        (of_filters (set_given is_rows.now) is.now) out.old out.new) }
 {
     let ingress = Direction::Ingress;
     walk(
@@ -139,7 +142,8 @@ fn walked(
 ) -> Result<Moved, Memory>
     requires ingress { Stays was_rows.now is_rows.now moves.now was.now.ingress is.now.ingress }
     requires egress { Stays was_rows.now is_rows.now moves.now was.now.egress is.now.egress }
-    ensures { IfOk result (Leads (of_filters (set_given was_rows.now) was.now ++ of_no_filter was.now) (of_filters (set_given is_rows.now) is.now ++ of_no_filter is.now)) }
+    ensures { IfOk result (Leads (of_filters (set_given was_rows.now) was.now
+        ++ of_no_filter was.now) (of_filters (set_given is_rows.now) is.now ++ of_no_filter is.now)) }
 {
     sets_ascend(was_rows);
     sets_ascend(is_rows);

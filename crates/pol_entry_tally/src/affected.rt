@@ -35,7 +35,8 @@ fn moved_keys(
     gone: &[(MapKey, Kind)],
 ) -> Result<Vec<MapKey>, Memory>
     ensures once { IfOk result (λ keys. IsStrictlySortedBy key_cmp keys.items) }
-    ensures has { IfOk result (λ keys. (q : OneKey) (k : OneKind) → 0 < times come.now q k + times gone.now q k → has_key q keys.items ≡ true) }
+    ensures has { IfOk result (λ keys.
+        (q : OneKey) (k : OneKind) → 0 < times come.now q k + times gone.now q k → has_key q keys.items ≡ true) }
 {
     let mut moved = Vec::with_capacity(alloc, come.len().saturating_add(gone.len()))?;
     push_keys(come, &mut moved)?;
@@ -105,7 +106,8 @@ pub(crate) fn affected(
     gone: &[(MapKey, Kind)],
 ) -> Result<Vec<MapKey>, Memory>
     ensures ascends { IfOk result (λ keys. IsStrictlySortedBy key_cmp keys.items) }
-    ensures gathers { IfOk result (λ keys. (q : OneKey) (k : OneKind) → 0 < times come.now q k + times gone.now q k → Gathers (cells_of tally.now) keys.items q) }
+    ensures gathers { IfOk result (λ keys. (q : OneKey) (k : OneKind)
+        → 0 < times come.now q k + times gone.now q k → Gathers (cells_of tally.now) keys.items q) }
 {
     let moved = moved_keys(alloc, come, gone)?;
     let under = under(alloc, tally, &moved)?;

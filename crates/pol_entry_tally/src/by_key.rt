@@ -18,7 +18,8 @@ pub(crate) fn cell_in(cells: &BTreeMap<u64, Cell>, key: &MapKey) -> Cell
 
 /// The change gives the key once more. After an error all is as before.
 pub(crate) fn raise(cells: &mut BTreeMap<u64, Cell>, key: MapKey) -> Result<(), Memory>
-    ensures ok { OnOk result ((q : OneKey) → cell_in cells.new q ≡ with_cell (cell_in cells.old) key (raised 1 (cell_in cells.old key)) q) }
+    ensures ok { OnOk result ((q : OneKey)
+        → cell_in cells.new q ≡ with_cell (cell_in cells.old) key (raised 1 (cell_in cells.old key)) q) }
     ensures err { OnErr result ((q : OneKey) → cell_in cells.new q ≡ cell_in cells.old q) }
 {
     raise_at(cells, number_of(&key))?;
@@ -28,14 +29,16 @@ pub(crate) fn raise(cells: &mut BTreeMap<u64, Cell>, key: MapKey) -> Result<(), 
 /// The change takes the key away once. It takes no memory.
 pub(crate) fn lower(cells: &mut BTreeMap<u64, Cell>, key: MapKey)
     requires there { 0 < (cell_in cells.old key).after }
-    ensures { (q : OneKey) → cell_in cells.new q ≡ with_cell (cell_in cells.old) key (lowered 1 (cell_in cells.old key)) q }
+    ensures { (q : OneKey)
+        → cell_in cells.new q ≡ with_cell (cell_in cells.old) key (lowered 1 (cell_in cells.old key)) q }
 {
     lower_at(cells, number_of(&key));
 }
 
 /// Lets the number of that side stand for both. It takes no memory.
 pub(crate) fn settle(cells: &mut BTreeMap<u64, Cell>, key: MapKey, side: Side)
-    ensures { (q : OneKey) → cell_in cells.new q ≡ with_cell (cell_in cells.old) key (settled side (cell_in cells.old key)) q }
+    ensures { (q : OneKey)
+        → cell_in cells.new q ≡ with_cell (cell_in cells.old) key (settled side (cell_in cells.old key)) q }
 {
     settle_at(cells, number_of(&key), side);
 }

@@ -96,7 +96,8 @@ fn raise_from(cells: &mut BTreeMap<u64, Cell>, number: u64, old: Cell) -> Result
 /// The change gives the key of that number once more. After an error all is as before. A number that is new is looked for
 /// once.
 pub(crate) fn raise_at(cells: &mut BTreeMap<u64, Cell>, number: u64) -> Result<(), Memory>
-    ensures ok { OnOk result ((n : ℕ) → cell_at cells.new n ≡ put_at (cell_at cells.old) number (raised 1 (cell_at cells.old number)) n) }
+    ensures ok { OnOk result ((n : ℕ)
+        → cell_at cells.new n ≡ put_at (cell_at cells.old) number (raised 1 (cell_at cells.old number)) n) }
     ensures err { OnErr result ((n : ℕ) → cell_at cells.new n ≡ cell_at cells.old n) }
 {
     let one = Cell {
@@ -124,7 +125,8 @@ fn lower_cell(cell: &mut Cell)
 /// The change takes the key of that number away once. It takes no memory.
 pub(crate) fn lower_at(cells: &mut BTreeMap<u64, Cell>, number: u64)
     requires there { 0 < (cell_at cells.old number).after }
-    ensures { (n : ℕ) → cell_at cells.new n ≡ put_at (cell_at cells.old) number (lowered 1 (cell_at cells.old number)) n }
+    ensures { (n : ℕ)
+        → cell_at cells.new n ≡ put_at (cell_at cells.old) number (lowered 1 (cell_at cells.old number)) n }
 {
     if let Some(cell) = cells.get_mut(&number) {
         lower_cell(cell);
@@ -146,7 +148,8 @@ fn settle_cell(cell: &mut Cell, side: Side) -> u32
 
 /// The same of the cell at a number.
 fn settle_found(cells: &mut BTreeMap<u64, Cell>, number: u64, side: Side) -> u32
-    ensures settled { (n : ℕ) → cell_at cells.new n ≡ put_at (cell_at cells.old) number (settled side (cell_at cells.old number)) n }
+    ensures settled { (n : ℕ)
+        → cell_at cells.new n ≡ put_at (cell_at cells.old) number (settled side (cell_at cells.old number)) n }
     ensures kept { result ≡ on side (cell_at cells.old number) }
 {
     match cells.get_mut(&number) {
@@ -157,7 +160,8 @@ fn settle_found(cells: &mut BTreeMap<u64, Cell>, number: u64, side: Side) -> u32
 
 /// Lets the number of that side stand for both. It takes no memory.
 pub(crate) fn settle_at(cells: &mut BTreeMap<u64, Cell>, number: u64, side: Side)
-    ensures { (n : ℕ) → cell_at cells.new n ≡ put_at (cell_at cells.old) number (settled side (cell_at cells.old number)) n }
+    ensures { (n : ℕ)
+        → cell_at cells.new n ≡ put_at (cell_at cells.old) number (settled side (cell_at cells.old number)) n }
 {
     if settle_found(cells, number, side) == 0 {
         clear(cells, number);

@@ -33,8 +33,10 @@ fn listed(
     come: &[(MapKey, Kind)],
     gone: &[(MapKey, Kind)],
 ) -> Result<Changed, Memory>
-    ensures list { IfOk result (λ changed. ListsAffected (cells_of tally.now) (λ q k. times come.now q k + times gone.now q k) changed.list) }
-    ensures size { IfOk result (λ changed. changed.size + clear_count changed.list ≡ size + new_count (times_on before (cells_of tally.now)) changed.list) }
+    ensures list { IfOk result (λ changed.
+        ListsAffected (cells_of tally.now) (λ q k. times come.now q k + times gone.now q k) changed.list) }
+    ensures size { IfOk result (λ changed. changed.size + clear_count changed.list
+        ≡ size + new_count (times_on before (cells_of tally.now)) changed.list) }
 {
     let keys = affected(alloc, tally, come, gone)?;
     let (changes, size) = changes_at(alloc, tally, size, &keys)?;
@@ -53,11 +55,16 @@ fn staged(
     come: &[(MapKey, Kind)],
     gone: &[(MapKey, Kind)],
 ) -> Result<Changed, Memory>
-    requires there { (q : OneKey) (k : OneKind) → times gone.now q k ≤ (cells_of tally.old q k).after + times come.now q k }
-    ensures ok { OnOk result ((q : OneKey) (k : OneKind) → cells_of tally.new q k ≡ lowered (times gone.now q k) (raised (times come.now q k) (cells_of tally.old q k))) }
-    ensures before { (q : OneKey) (k : OneKind) → IsStillBefore (times come.now q k + times gone.now q k) (cells_of tally.old q k) (cells_of tally.new q k) }
-    ensures list { IfOk result (λ changed. ListsAffected (cells_of tally.new) (λ q k. times come.now q k + times gone.now q k) changed.list) }
-    ensures size { IfOk result (λ changed. changed.size + clear_count changed.list ≡ size + new_count (times_on before (cells_of tally.new)) changed.list) }
+    requires there { (q : OneKey) (k : OneKind)
+        → times gone.now q k ≤ (cells_of tally.old q k).after + times come.now q k }
+    ensures ok { OnOk result ((q : OneKey) (k : OneKind) → cells_of tally.new q k
+        ≡ lowered (times gone.now q k) (raised (times come.now q k) (cells_of tally.old q k))) }
+    ensures before { (q : OneKey) (k : OneKind)
+        → IsStillBefore (times come.now q k + times gone.now q k) (cells_of tally.old q k) (cells_of tally.new q k) }
+    ensures list { IfOk result (λ changed.
+        ListsAffected (cells_of tally.new) (λ q k. times come.now q k + times gone.now q k) changed.list) }
+    ensures size { IfOk result (λ changed. changed.size + clear_count changed.list
+        ≡ size + new_count (times_on before (cells_of tally.new)) changed.list) }
 {
     raise_all(tally, come)?;
     lower_all(tally, gone);
@@ -67,7 +74,8 @@ fn staged(
 
 /// Lets a side stand for both, wherever something came or went. It takes no memory.
 fn settle_both(tally: &mut Tally, come: &[(MapKey, Kind)], gone: &[(MapKey, Kind)], side: Side)
-    ensures { (q : OneKey) (k : OneKind) → cells_of tally.new q k ≡ settled_where (times gone.now q k) side (settled_where (times come.now q k) side (cells_of tally.old q k)) }
+    ensures { (q : OneKey) (k : OneKind) → cells_of tally.new q k
+        ≡ settled_where (times gone.now q k) side (settled_where (times come.now q k) side (cells_of tally.old q k)) }
 {
     settle_all(tally, come, side);
     settle_all(tally, gone, side);
@@ -75,14 +83,16 @@ fn settle_both(tally: &mut Tally, come: &[(MapKey, Kind)], gone: &[(MapKey, Kind
 
 /// The change that is under way stands.
 fn keep(tally: &mut Tally, come: &[(MapKey, Kind)], gone: &[(MapKey, Kind)])
-    ensures { (q : OneKey) (k : OneKind) → cells_of tally.new q k ≡ settled_where (times gone.now q k) after (settled_where (times come.now q k) after (cells_of tally.old q k)) }
+    ensures { (q : OneKey) (k : OneKind) → cells_of tally.new q k
+        ≡ settled_where (times gone.now q k) after (settled_where (times come.now q k) after (cells_of tally.old q k)) }
 {
     settle_both(tally, come, gone, Side::After);
 }
 
 /// The change that is under way is taken back.
 fn take_back(tally: &mut Tally, come: &[(MapKey, Kind)], gone: &[(MapKey, Kind)])
-    ensures { (q : OneKey) (k : OneKind) → cells_of tally.new q k ≡ settled_where (times gone.now q k) before (settled_where (times come.now q k) before (cells_of tally.old q k)) }
+    ensures { (q : OneKey) (k : OneKind) → cells_of tally.new q k ≡ settled_where
+        (times gone.now q k) before (settled_where (times come.now q k) before (cells_of tally.old q k)) }
 {
     settle_both(tally, come, gone, Side::Before);
 }
@@ -111,11 +121,14 @@ impl Tally {
         requires rest { IsAtRest self.old }
         requires there { (q : OneKey) (k : OneKind) → times gone.now q k ≤ times_of self.old q k + times come.now q k }
         ensures rest { IsAtRest self.new }
-        ensures counts { OnOk result ((q : OneKey) (k : OneKind) → times_of self.new q k + times gone.now q k ≡ times_of self.old q k + times come.now q k) }
-        ensures list { IfOk result (λ changed. (was is : List Entry) → AllByRecursion IsSmall was → AllByRecursion IsSmall is → IsTallyOf was self.old → IsTallyOf is self.new
-            → IsDifference changed.list (table_of (canonical was)) (table_of (canonical is))) }
-        ensures size { IfOk result (λ changed. (was is : List Entry) → AllByRecursion IsSmall was → AllByRecursion IsSmall is → IsTallyOf was self.old → IsTallyOf is self.new
-            → size ≡ length (canonical was) → changed.size ≡ length (canonical is)) }
+        ensures counts { OnOk result ((q : OneKey) (k : OneKind)
+            → times_of self.new q k + times gone.now q k ≡ times_of self.old q k + times come.now q k) }
+        ensures list { IfOk result (λ changed.
+            (was is : List Entry) → AllByRecursion IsSmall was → AllByRecursion IsSmall is → IsTallyOf was self.old
+            → IsTallyOf is self.new → IsDifference changed.list (table_of (canonical was)) (table_of (canonical is))) }
+        ensures size { IfOk result (λ changed.
+            (was is : List Entry) → AllByRecursion IsSmall was → AllByRecursion IsSmall is → IsTallyOf was self.old
+            → IsTallyOf is self.new → size ≡ length (canonical was) → changed.size ≡ length (canonical is)) }
         ensures err { OnErr result ((q : OneKey) (k : OneKind) → times_of self.new q k ≡ times_of self.old q k) }
     {
         match staged(alloc, self, size, come, gone) {

@@ -45,8 +45,10 @@ pub(crate) fn changes_at(
     size: u64,
     keys: &[MapKey],
 ) -> Result<(Vec<Change>, u64), Memory>
-    ensures changes { IfOk result (λ made. made.0.items ≡ changes_at (times_on Before (cells_of tally.now)) (times_on After (cells_of tally.now)) keys.now) }
-    ensures size { IfOk result (λ made. made.1 + clear_count made.0.items ≡ size + new_count (times_on Before (cells_of tally.now)) made.0.items) }
+    ensures changes { IfOk result (λ made. made.0.items
+        ≡ changes_at (times_on Before (cells_of tally.now)) (times_on After (cells_of tally.now)) keys.now) }
+    ensures size { IfOk result (λ made.
+        made.1 + clear_count made.0.items ≡ size + new_count (times_on Before (cells_of tally.now)) made.0.items) }
 {
     let mut changes = Vec::with_capacity(alloc, keys.len())?;
     let mut grown = size;

@@ -38,8 +38,10 @@ fn either(one: bool, other: bool) -> bool
 
 /// Whether a key of the protocol with fewer bits of the port is denied, before the change and after it.
 fn are_under_ports(tally: &Tally, key: &MapKey, proto: Proto) -> (bool, bool)
-    ensures before { result.0 ≡ any_below (λ len. is_given (times_on before (cells_of tally.now)) deny (port_key key.now.dir key.now.id proto (prefix_at key.now.port.bits len))) key.now.port.len }
-    ensures after { result.1 ≡ any_below (λ len. is_given (times_on after (cells_of tally.now)) deny (port_key key.now.dir key.now.id proto (prefix_at key.now.port.bits len))) key.now.port.len }
+    ensures before { result.0 ≡ any_below (λ len. is_given (times_on before (cells_of tally.now)) deny
+        (port_key key.now.dir key.now.id proto (prefix_at key.now.port.bits len))) key.now.port.len }
+    ensures after { result.1 ≡ any_below (λ len. is_given (times_on after (cells_of tally.now)) deny
+        (port_key key.now.dir key.now.id proto (prefix_at key.now.port.bits len))) key.now.port.len }
 {
     let mut before = false;
     let mut after = false;

@@ -42,7 +42,8 @@ impl Tally {
 
     /// The change gives the key that kind once more. After an error all is as before.
     pub(crate) fn raise(&mut self, key: MapKey, kind: Kind) -> Result<(), Memory>
-        ensures ok { OnOk result ((q : OneKey) (k : OneKind) → cells_of self.new q k ≡ with_one (cells_of self.old) key kind (raised 1 (cells_of self.old key kind)) q k) }
+        ensures ok { OnOk result ((q : OneKey) (k : OneKind) → cells_of self.new q k
+            ≡ with_one (cells_of self.old) key kind (raised 1 (cells_of self.old key kind)) q k) }
         ensures err { OnErr result ((q : OneKey) (k : OneKind) → cells_of self.new q k ≡ cells_of self.old q k) }
     {
         match kind {
@@ -54,7 +55,8 @@ impl Tally {
     /// The change takes the kind away from the key once. It takes no memory.
     pub(crate) fn lower(&mut self, key: MapKey, kind: Kind)
         requires there { 0 < (cells_of self.old key kind).after }
-        ensures { (q : OneKey) (k : OneKind) → cells_of self.new q k ≡ with_one (cells_of self.old) key kind (lowered 1 (cells_of self.old key kind)) q k }
+        ensures { (q : OneKey) (k : OneKind) → cells_of self.new q k
+            ≡ with_one (cells_of self.old) key kind (lowered 1 (cells_of self.old key kind)) q k }
     {
         match kind {
             Kind::Allow => lower(&mut self.allows, key),
@@ -64,7 +66,8 @@ impl Tally {
 
     /// Lets the number of that side stand for both. It takes no memory.
     pub(crate) fn settle(&mut self, key: MapKey, kind: Kind, side: Side)
-        ensures { (q : OneKey) (k : OneKind) → cells_of self.new q k ≡ with_one (cells_of self.old) key kind (settled side (cells_of self.old key kind)) q k }
+        ensures { (q : OneKey) (k : OneKind) → cells_of self.new q k
+            ≡ with_one (cells_of self.old) key kind (settled side (cells_of self.old key kind)) q k }
     {
         match kind {
             Kind::Allow => settle(&mut self.allows, key, side),

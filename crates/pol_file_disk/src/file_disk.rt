@@ -57,7 +57,8 @@ impl FileDisk {
     /// A call that did what it should.
     fn passed(&mut self) -> Result<(), Failed>
         ensures ok { IsOk result }
-        ensures new { self.new ≡ record { mirror = self.old.mirror; calls = next_count self.old.calls; faults = self.old.faults } }
+        ensures new { self.new
+            ≡ record { mirror = self.old.mirror; calls = next_count self.old.calls; faults = self.old.faults } }
     {
         self.calls = self.calls.saturating_add(1);
         Ok(())

@@ -80,7 +80,8 @@ fn push_entries(
     entries: &[Entry],
 ) -> Result<(), Memory>
     requires { length entries.now < 2 ^ 32 }
-    ensures { OnOk result (out.new.items ≡ out.old.items ++ entry_filters (filter_at stamped.now rule section) 0 entries.now) }
+    ensures { OnOk result (out.new.items
+        ≡ out.old.items ++ entry_filters (filter_at stamped.now rule section) 0 entries.now) }
 {
     for (i, entry) in entries.iter().enumerate() {
         if entry.takes_effect() {
@@ -100,7 +101,8 @@ fn push_section(
     section: Section,
 ) -> Result<(), Memory>
     requires { HasShortSections rule.now }
-    ensures { OnOk result (out.new.items ≡ out.old.items ++ entry_filters (filter_at stamped.now number section) 0 (section_of section rule.now)) }
+    ensures { OnOk result (out.new.items
+        ≡ out.old.items ++ entry_filters (filter_at stamped.now number section) 0 (section_of section rule.now)) }
 {
     push_entries(out, stamped, number, section, rule.entries_of(section))
 }
@@ -114,7 +116,8 @@ fn push_rule(
     dir: Direction,
 ) -> Result<(), Memory>
     requires { HasShortSections rule.now }
-    ensures filters { OnOk result (out.new.filters.items ≡ out.old.filters.items ++ rule_filters stamped.now dir number rule.now) }
+    ensures filters { OnOk result (out.new.filters.items
+        ≡ out.old.filters.items ++ rule_filters stamped.now dir number rule.now) }
     ensures some { OnOk result (out.new.some ≡ (out.old.some || rule_says dir rule.now)) }
 {
     push_section(&mut out.filters, stamped, number, rule, allow_section(dir))?;
@@ -133,10 +136,14 @@ fn push_policy(
 ) -> Result<(), Memory>
     requires rules { length stamped.now.policy.rules < 2 ^ 32 }
     requires sections { AllByRecursion HasShortSections stamped.now.policy.rules }
-    ensures ingress_filters { OnOk result (ingress.new.filters.items ≡ ingress.old.filters.items ++ policy_filters stamped.now labels.now Ingress 0 stamped.now.policy.rules) }
-    ensures ingress_some { OnOk result (ingress.new.some ≡ (ingress.old.some || policy_says labels.now Ingress stamped.now)) }
-    ensures egress_filters { OnOk result (egress.new.filters.items ≡ egress.old.filters.items ++ policy_filters stamped.now labels.now Egress 0 stamped.now.policy.rules) }
-    ensures egress_some { OnOk result (egress.new.some ≡ (egress.old.some || policy_says labels.now Egress stamped.now)) }
+    ensures ingress_filters { OnOk result (ingress.new.filters.items
+        ≡ ingress.old.filters.items ++ policy_filters stamped.now labels.now Ingress 0 stamped.now.policy.rules) }
+    ensures ingress_some { OnOk result (ingress.new.some
+        ≡ (ingress.old.some || policy_says labels.now Ingress stamped.now)) }
+    ensures egress_filters { OnOk result (egress.new.filters.items
+        ≡ egress.old.filters.items ++ policy_filters stamped.now labels.now Egress 0 stamped.now.policy.rules) }
+    ensures egress_some { OnOk result (egress.new.some
+        ≡ (egress.old.some || policy_says labels.now Egress stamped.now)) }
 {
     for (i, rule) in stamped.policy.rules.as_slice().iter().enumerate() {
         if rule.subject.is_met_by(labels) {
@@ -163,7 +170,8 @@ fn all_said(alloc: Global, policies: &[Stamped], labels: &LabelSet) -> Result<(S
 
 /// Whether a direction is enforced for an endpoint with these labels, where this is said of the direction.
 fn is_enforced(mode: Mode, labels: &LabelSet, said: &Said) -> bool
-    ensures { (policies : List OnePolicy) (dir : AnyDirection) → IsSaid policies labels.now dir said.now → result ≡ labels_enforced mode policies labels.now dir }
+    ensures { (policies : List OnePolicy) (dir : AnyDirection)
+        → IsSaid policies labels.now dir said.now → result ≡ labels_enforced mode policies labels.now dir }
 {
     match mode {
         Mode::Always => true,

@@ -44,13 +44,15 @@ pub fn no_generated_line_is_refused()
 /// So 32 lines of a generated script and one for each round are answered by a commit: answered in input order, from the
 /// state alone, as the summary counts them ('profile').
 pub fn commits_are_counted()
-    ensures { (options : Options) (n : ℕ) → count_by is_committed (serial_answers options (readings_of (generated n))) ≡ 32 + n }
+    ensures { (options : Options) (n : ℕ)
+        → count_by is_committed (serial_answers options (readings_of (generated n))) ≡ 32 + n }
 {}
 
 /// And there are 32 verdicts for each ten rounds, the last of them perhaps begun: answered in input order, from the state
 /// alone, as the summary counts them by their words ('profile').
 pub fn verdicts_are_counted()
-    ensures { (options : Options) (n : ℕ) → count_by is_verdict (serial_answers options (readings_of (generated n))) ≡ 32 * ((n + 9) / 10) }
+    ensures { (options : Options) (n : ℕ)
+        → count_by is_verdict (serial_answers options (readings_of (generated n))) ≡ 32 * ((n + 9) / 10) }
 {}
 
 /// No policy map of a generated script has more than 1,923 entries, at any number of its commits, for every number and

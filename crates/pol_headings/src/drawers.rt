@@ -46,8 +46,11 @@ pub(crate) fn put(
 ) -> Result<(), Memory>
     requires { IsUnique same_heading drawers.old }
     ensures unique { IsUnique same_heading drawers.new }
-    ensures ok { OnOk result ((other : OneHeading) (n : ℕ) → is_filed (drawers_of drawers.new.entries) other n ≡ (is_filed (drawers_of drawers.old.entries) other n || (same_heading (heading_by heading.now) other && (number == n)))) }
-    ensures err { OnErr result ((other : OneHeading) (n : ℕ) → is_filed (drawers_of drawers.new.entries) other n ≡ is_filed (drawers_of drawers.old.entries) other n) }
+    ensures ok { OnOk result ((other : OneHeading) (n : ℕ)
+        → is_filed (drawers_of drawers.new.entries) other n ≡ (is_filed
+        (drawers_of drawers.old.entries) other n || (same_heading (heading_by heading.now) other && (number == n)))) }
+    ensures err { OnErr result ((other : OneHeading) (n : ℕ)
+        → is_filed (drawers_of drawers.new.entries) other n ≡ is_filed (drawers_of drawers.old.entries) other n) }
 {
     match drawers.get_mut(heading) {
         Some(numbers) => {
@@ -70,7 +73,9 @@ pub(crate) fn take(
 )
     requires { IsUnique same_heading drawers.old }
     ensures unique { IsUnique same_heading drawers.new }
-    ensures rest { (other : OneHeading) (n : ℕ) → is_filed (drawers_of drawers.new.entries) other n ≡ (is_filed (drawers_of drawers.old.entries) other n && not (same_heading (heading_by heading.now) other && (number == n))) }
+    ensures rest { (other : OneHeading) (n : ℕ)
+        → is_filed (drawers_of drawers.new.entries) other n ≡ (is_filed (drawers_of drawers.old.entries) other n && not
+        (same_heading (heading_by heading.now) other && (number == n))) }
 {
     take_from(drawers, heading, number);
     if is_empty_at(drawers, heading) {
@@ -82,7 +87,9 @@ pub(crate) fn take(
 fn take_from(drawers: &mut IndexMap<Heading, BTreeSet<u64>>, heading: &HeadingRef<'_>, number: u64)
     requires { IsUnique same_heading drawers.old }
     ensures unique { IsUnique same_heading drawers.new }
-    ensures rest { (other : OneHeading) (n : ℕ) → is_filed (drawers_of drawers.new.entries) other n ≡ (is_filed (drawers_of drawers.old.entries) other n && not (same_heading (heading_by heading.now) other && (number == n))) }
+    ensures rest { (other : OneHeading) (n : ℕ)
+        → is_filed (drawers_of drawers.new.entries) other n ≡ (is_filed (drawers_of drawers.old.entries) other n && not
+        (same_heading (heading_by heading.now) other && (number == n))) }
 {
     if let Some(numbers) = drawers.get_mut(heading) {
         take_out(numbers, number);
@@ -103,7 +110,8 @@ fn is_empty_at(drawers: &IndexMap<Heading, BTreeSet<u64>>, heading: &HeadingRef<
 fn clear(drawers: &mut IndexMap<Heading, BTreeSet<u64>>, heading: &HeadingRef<'_>)
     requires empty { IsEmptyAt (heading_by heading.now) (drawers_of drawers.old.entries) }
     ensures unique { IsUnique same_heading drawers.new }
-    ensures rest { (other : OneHeading) (n : ℕ) → is_filed (drawers_of drawers.new.entries) other n ≡ is_filed (drawers_of drawers.old.entries) other n }
+    ensures rest { (other : OneHeading) (n : ℕ)
+        → is_filed (drawers_of drawers.new.entries) other n ≡ is_filed (drawers_of drawers.old.entries) other n }
 {
     drawers.swap_remove(heading);
 }

@@ -68,22 +68,26 @@ impl Filing {
 
     /// Files a number under a heading. The one error is want of memory, and then all is filed as before.
     pub fn file(&mut self, heading: &HeadingRef<'_>, number: u64) -> Result<(), Memory>
-        ensures ok { OnOk result ((other : OneHeading) (n : ℕ) → is_filed self.new other n ≡ (is_filed self.old other n || (same_heading (heading_by heading.now) other && (number == n)))) }
-        ensures err { OnErr result ((other : OneHeading) (n : ℕ) → is_filed self.new other n ≡ is_filed self.old other n) }
+        ensures ok { OnOk result ((other : OneHeading) (n : ℕ) → is_filed self.new other n
+            ≡ (is_filed self.old other n || (same_heading (heading_by heading.now) other && (number == n)))) }
+        ensures err { OnErr result ((other : OneHeading) (n : ℕ)
+            → is_filed self.new other n ≡ is_filed self.old other n) }
     {
         put(&mut self.drawers, self.alloc, heading, number)
     }
 
     /// Takes a number from under a heading. It takes no memory.
     pub fn unfile(&mut self, heading: &HeadingRef<'_>, number: u64)
-        ensures { (other : OneHeading) (n : ℕ) → is_filed self.new other n ≡ (is_filed self.old other n && not (same_heading (heading_by heading.now) other && (number == n))) }
+        ensures { (other : OneHeading) (n : ℕ) → is_filed self.new other n
+            ≡ (is_filed self.old other n && not (same_heading (heading_by heading.now) other && (number == n))) }
     {
         take(&mut self.drawers, heading, number);
     }
 
     /// The numbers that are filed under a heading, ascending, each once. The one error is want of memory.
     pub fn filed_at(&self, alloc: Global, heading: &HeadingRef<'_>) -> Result<Vec<u64>, Memory>
-        ensures members { IfOk result (λ numbers. (n : ℕ) → has n numbers.items ≡ is_filed self.now (heading_by heading.now) n) }
+        ensures members { IfOk result (λ numbers.
+            (n : ℕ) → has n numbers.items ≡ is_filed self.now (heading_by heading.now) n) }
         ensures ascend { IfOk result (λ numbers. Ascends numbers.items) }
     {
         match self.drawers.get(heading) {
@@ -106,7 +110,8 @@ impl Filing {
 
     /// Puts the numbers under a heading behind these.
     fn push_filed(&self, heading: &HeadingRef<'_>, numbers: &mut Vec<u64>) -> Result<(), Memory>
-        ensures { OnOk result ((n : ℕ) → has n numbers.new.items ≡ (has n numbers.old.items || is_filed self.now (heading_by heading.now) n)) }
+        ensures { OnOk result ((n : ℕ)
+            → has n numbers.new.items ≡ (has n numbers.old.items || is_filed self.now (heading_by heading.now) n)) }
     {
         match self.drawers.get(heading) {
             None => Ok(()),

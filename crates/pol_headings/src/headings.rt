@@ -44,7 +44,8 @@ impl Headings {
     /// Adds the headings under which an identity of these labels and this prefix is filed; those of all peers that select
     /// it are among them. The one error is want of memory.
     pub fn add_all_of(&mut self, labels: &LabelSet, prefix: &Option<Prefix>) -> Result<(), Memory>
-        ensures added { OnOk result ((other : OneHeading) → is_among self.new other ≡ (is_among self.old other || is_filed_as labels.now prefix.now other)) }
+        ensures added { OnOk result ((other : OneHeading)
+            → is_among self.new other ≡ (is_among self.old other || is_filed_as labels.now prefix.now other)) }
         ensures all { OnOk result (HasAllOf labels.now prefix.now self.new) }
         ensures kept { OnOk result (AreKept self.old self.new) }
     {
@@ -63,7 +64,8 @@ impl Headings {
 
     /// One heading more, which is copied where it isn't there yet.
     fn add(&mut self, heading: &HeadingRef<'_>) -> Result<(), Memory>
-        ensures { OnOk result ((other : OneHeading) → is_among self.new other ≡ (is_among self.old other || same_heading (heading_by heading.now) other)) }
+        ensures { OnOk result ((other : OneHeading)
+            → is_among self.new other ≡ (is_among self.old other || same_heading (heading_by heading.now) other)) }
     {
         if !self.set.contains(heading) {
             self.set.insert(heading.to_heading(self.alloc)?)?;
@@ -73,7 +75,8 @@ impl Headings {
 
     /// The heading of each label.
     fn add_labels(&mut self, labels: &[Label]) -> Result<(), Memory>
-        ensures { OnOk result ((other : OneHeading) → is_among self.new other ≡ (is_among self.old other || list_any (λ label. same_heading (label_heading label) other) labels.now)) }
+        ensures { OnOk result ((other : OneHeading) → is_among self.new other
+            ≡ (is_among self.old other || list_any (λ label. same_heading (label_heading label) other) labels.now)) }
     {
         for label in labels {
             self.add(&HeadingRef::of_label(label))?;
@@ -83,7 +86,8 @@ impl Headings {
 
     /// The headings of the prefix, where there is one.
     fn add_prefix(&mut self, prefix: &Option<Prefix>) -> Result<(), Memory>
-        ensures { OnOk result ((other : OneHeading) → is_among self.new other ≡ (is_among self.old other || stands_in_octets prefix.now other)) }
+        ensures { OnOk result ((other : OneHeading)
+            → is_among self.new other ≡ (is_among self.old other || stands_in_octets prefix.now other)) }
     {
         match prefix {
             None => Ok(()),
@@ -93,7 +97,8 @@ impl Headings {
 
     /// The prefixes of whole octets in which this one lies.
     fn add_octets(&mut self, prefix: &Prefix) -> Result<(), Memory>
-        ensures { OnOk result ((other : OneHeading) → is_among self.new other ≡ (is_among self.old other || is_octets prefix.now (prefix.now.len / 8 + 1) other)) }
+        ensures { OnOk result ((other : OneHeading) → is_among self.new other
+            ≡ (is_among self.old other || is_octets prefix.now (prefix.now.len / 8 + 1) other)) }
     {
         for octets in 0..prefix.len() / 8 + 1 {
             let octets = Prefix::new(prefix.network(), octets * 8);

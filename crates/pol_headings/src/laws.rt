@@ -28,8 +28,11 @@ pub fn equal_headings_are_the_same()
 /// An identity stands under a label exactly where it has one of the key and the value, and under a prefix exactly where it
 /// has a prefix that lies in it.
 pub fn headings_are_conditions()
-    ensures label { (key value : List ℕ) (row : OneRow) → stands_under (heading.Label key value) row ≡ list_any (λ label. bytes_eq label.key key && bytes_eq label.value value) row.labels }
-    ensures prefix { (p : OnePrefix) (row : OneRow) → stands_under (heading.Prefix p) row ≡ option_map_or (covers p) row.prefix false }
+    ensures label { (key value : List ℕ) (row : OneRow)
+        → stands_under (heading.Label key value) row ≡ list_any (λ label.
+        bytes_eq label.key key && bytes_eq label.value value) row.labels }
+    ensures prefix { (p : OnePrefix) (row : OneRow)
+        → stands_under (heading.Prefix p) row ≡ option_map_or (covers p) row.prefix false }
     ensures any { (row : OneRow) → stands_under heading.Any row ≡ true }
 {}
 
@@ -45,12 +48,15 @@ pub fn headings_of_peers_are_whole()
 
 /// A selector whose first requirement asks for one value alone stands under the key and the value.
 pub fn one_value_is_a_heading()
-    ensures { (requirement : OneRequirement) (others : List OneRequirement) (value : List ℕ) → requirement.op ≡ AsksOneOf → requirement.values ≡ value ∷ [] → heading_of (peer.Labels (requirement ∷ others)) ≡ heading.Label requirement.key value }
+    ensures { (requirement : OneRequirement) (others : List OneRequirement) (value : List ℕ)
+        → requirement.op ≡ AsksOneOf → requirement.values ≡ value ∷ []
+        → heading_of (peer.Labels (requirement ∷ others)) ≡ heading.Label requirement.key value }
 {}
 
 /// A prefix stands under the longest prefix of whole octets in which it lies.
 pub fn prefixes_stand_under_whole_octets()
-    ensures octets { (p : OnePrefix) (except : List OnePrefix) → heading_of (peer.Cidr p except) ≡ heading.Prefix (whole_octets p) }
+    ensures octets { (p : OnePrefix) (except : List OnePrefix)
+        → heading_of (peer.Cidr p except) ≡ heading.Prefix (whole_octets p) }
     ensures around { (p : OnePrefix) → IsPrefix p → covers (whole_octets p) p ≡ true }
     ensures whole { (p : OnePrefix) → (whole_octets p).len % 8 ≡ 0 }
     ensures longest { (p : OnePrefix) → p.len < (whole_octets p).len + 8 }
@@ -58,5 +64,6 @@ pub fn prefixes_stand_under_whole_octets()
 
 /// All entities but three stand under a label.
 pub fn entities_stand_under_labels()
-    ensures { (e : OneEntity) → heading_of (peer.Entity e) ≡ heading.Any → (e ≡ entity.All) ⊎ (e ≡ entity.World) ⊎ (e ≡ entity.Cluster) }
+    ensures { (e : OneEntity) → heading_of (peer.Entity e) ≡ heading.Any
+        → (e ≡ entity.All) ⊎ (e ≡ entity.World) ⊎ (e ≡ entity.Cluster) }
 {}

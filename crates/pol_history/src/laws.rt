@@ -40,7 +40,8 @@ pub fn legal_event_by_event()
 pub fn legal_histories_grow()
     ensures more { (options : Options) (history : List OneEvent) (event : OneEvent)
         → IsLegal options (history ++ event ∷ []) ↔ (IsLegal options history × MayFollow options history event) }
-    ensures beginnings { (options : Options) (history : List OneEvent) (n : ℕ) → IsLegal options history → IsLegal options (take n history) }
+    ensures beginnings { (options : Options) (history : List OneEvent) (n : ℕ)
+        → IsLegal options history → IsLegal options (take n history) }
 {}
 
 /// What one event more makes of the commits, of those of one pass, of an endpoint's last report, and of what a board
@@ -51,16 +52,19 @@ pub fn one_event_more()
     ensures own { (pass : ℕ) (history : List OneEvent) (event : OneEvent)
         → commits_by pass (history ++ event ∷ []) ≡ commits_by pass history ++ commits_by pass (event ∷ []) }
     ensures report { (endpoint : OneEndpoint) (history : List OneEvent) (event : OneEvent)
-        → last_report endpoint (history ++ event ∷ []) ≡ report_after endpoint (revision_of history) (last_report endpoint history) event }
+        → last_report endpoint (history ++ event ∷ [])
+        ≡ report_after endpoint (revision_of history) (last_report endpoint history) event }
     ensures content { (options : Options) (history : List OneEvent) (event : OneEvent)
-        → content_of options (history ++ event ∷ []) ≡ content_after options (commits_in history) (content_of options history) event }
+        → content_of options (history ++ event ∷ [])
+        ≡ content_after options (commits_in history) (content_of options history) event }
 {}
 
 /// What a board holds of a legal history: the number of its commits, and by name each live endpoint, with its last report
 /// and its last published map, which is the canonical one at its revision, with what each address was there. It holds
 /// nothing of an endpoint that is gone ('profile').
 pub fn boards_hold()
-    ensures commits { (options : Options) (history : List OneEvent) → (content_of options history).commits ≡ revision_of history }
+    ensures commits { (options : Options) (history : List OneEvent)
+        → (content_of options history).commits ≡ revision_of history }
     ensures rows { (options : Options) (history : List OneEvent) (name : List ℕ) → IsLegal options history
         → ShowsRow options history name ((content_of options history).live name) }
 {}
@@ -68,14 +72,15 @@ pub fn boards_hold()
 /// A look-up is told by what a board holds, wherever reading an endpoint's map gives the verdict of a scan of all rules,
 /// which is the law of the map ('profile').
 pub fn looks_are_told()
-    ensures { (options : Options) (history : List OneEvent) (query : Query) → MapsAreRead options → query.port < 2 ^ 16 → IsLegal options history
-        → look_in (content_of options history) query ≡ look options history query }
+    ensures { (options : Options) (history : List OneEvent) (query : Query) → MapsAreRead options → query.port < 2 ^ 16
+        → IsLegal options history → look_in (content_of options history) query ≡ look options history query }
 {}
 
 /// A live endpoint's row is the same at each revision since it was added ('profile').
 pub fn rows_stay()
-    ensures { (options : Options) (history : List OneEvent) (endpoint : OneEndpoint) (row : Endpoint) (revision : ℕ) → endpoint.added ≤ revision
-        → revision ≤ revision_of history → live_endpoint endpoint (state_now options history) ≡ Some row
+    ensures { (options : Options) (history : List OneEvent) (endpoint : OneEndpoint) (row : Endpoint) (revision : ℕ)
+        → endpoint.added ≤ revision → revision ≤ revision_of history
+        → live_endpoint endpoint (state_now options history) ≡ Some row
         → live_endpoint endpoint (state_after options history revision) ≡ Some row }
 {}
 
@@ -91,7 +96,8 @@ pub fn law_of_histories()
 /// Each step of the machine keeps its history legal, and what it has taken ('profile').
 pub fn machines_stay_sound()
     ensures start { (options : Options) → IsSound options machine_start }
-    ensures step { (options : Options) (m : Machine) (step : Step) → IsSound options m → IsSound options (step_of options m step).1 }
+    ensures step { (options : Options) (m : Machine) (step : Step)
+        → IsSound options m → IsSound options (step_of options m step).1 }
 {}
 
 // ---- what a legal history tells of reports and looks
@@ -99,17 +105,19 @@ pub fn machines_stay_sound()
 /// The last report of a live endpoint: its revision is one since the endpoint was added, and was committed before the
 /// report ('profile').
 pub fn last_reports_are_bounded()
-    ensures { (options : Options) (history : List OneEvent) (endpoint : OneEndpoint) → IsLegal options history
-        → IfSome (last_report endpoint history)
-        (λ last. (endpoint.added ≤ last.revision) × (last.revision ≤ last.commits) × (last.commits ≤ revision_of history)) }
+    ensures { (options : Options) (history : List OneEvent) (endpoint : OneEndpoint)
+        → IsLegal options history → IfSome (last_report endpoint history) (λ last.
+        (endpoint.added ≤ last.revision) × (last.revision ≤ last.commits) × (last.commits ≤ revision_of history)) }
 {}
 
 /// Reports of one endpoint are of ever later revisions, each with all commits before the reports before it ('profile').
 pub fn reports_grow()
-    ensures revision { (options : Options) (history : List OneEvent) (endpoint : OneEndpoint) (i j first second : ℕ) → IsLegal options history → i < j
+    ensures revision { (options : Options) (history : List OneEvent) (endpoint : OneEndpoint) (i j first second : ℕ)
+        → IsLegal options history → i < j
         → IsReport history i endpoint first → IsReport history j endpoint second → first < second }
-    ensures commits { (options : Options) (history : List OneEvent) (endpoint : OneEndpoint) (i j first second : ℕ) → IsLegal options history → i < j
-        → IsReport history i endpoint first → IsReport history j endpoint second → revision_of (take i history) ≤ second }
+    ensures commits { (options : Options) (history : List OneEvent) (endpoint : OneEndpoint) (i j first second : ℕ)
+        → IsLegal options history → i < j → IsReport history i endpoint first
+        → IsReport history j endpoint second → revision_of (take i history) ≤ second }
 {}
 
 /// The revision that the fold finds is that of the last event that published a map of the endpoint.
@@ -120,8 +128,9 @@ pub fn published_maps_are_the_last()
 
 /// A look in a longer history finds a map that is no older, while the endpoint lives on ('profile').
 pub fn looks_grow()
-    ensures { (options : Options) (history more : List OneEvent) (query : Query) (row : Endpoint) (revision : ℕ) (word : Word)
-        → IsLegal options (history ++ more) → endpoint_of query.endpoint (state_now options history).endpoints ≡ Some row
+    ensures { (options : Options) (history more : List OneEvent)
+        (query : Query) (row : Endpoint) (revision : ℕ) (word : Word) → IsLegal options (history ++ more)
+        → endpoint_of query.endpoint (state_now options history).endpoints ≡ Some row
         → look options history query ≡ Found revision word
         → Lives (state_now options (history ++ more)) (record { name = query.endpoint; added = row.added })
         → FindsSince options (history ++ more) query revision }
@@ -133,12 +142,13 @@ pub fn looks_grow()
 /// a pass gains in two calls, one after the other, it gains in both, also where the second shows it all its own
 /// commits ('profile').
 pub fn views_join()
-    ensures join { (first second history : List OneEvent) → IsPrefix first history → IsPrefix second history → length first ≤ length second
-        → IsPrefix first second }
+    ensures join { (first second history : List OneEvent)
+        → IsPrefix first history → IsPrefix second history → length first ≤ length second → IsPrefix first second }
     ensures grow { (options : Options) (first second third : PassView) (own more : List Request)
         → Grows options first second own → Grows options second third more → Grows options first third (own ++ more) }
     ensures whole { (options : Options) (pass : ℕ) (first second third : PassView) (own more : List Request)
-        → Grows options first second own → GrowsWhole options pass second third more → GrowsWhole options pass first third (own ++ more) }
+        → Grows options first second own
+        → GrowsWhole options pass second third more → GrowsWhole options pass first third (own ++ more) }
 {}
 
 /// A history has at most as many commits as events, and so of one pass. A history begins another exactly where it is as
@@ -147,8 +157,8 @@ pub fn beginnings_have_fewer()
     ensures commits { (history : List OneEvent) → revision_of history ≤ length history }
     ensures own { (pass : ℕ) (history : List OneEvent) → length (commits_by pass history) ≤ length history }
     ensures cut { (old new : List OneEvent) → IsPrefix old new ↔ (take (length old) new ≡ old) }
-    ensures same_own { (pass : ℕ) (old new : List OneEvent) → IsPrefix old new → length (commits_by pass new) ≡ length (commits_by pass old)
-        → commits_by pass old ≡ commits_by pass new }
+    ensures same_own { (pass : ℕ) (old new : List OneEvent) → IsPrefix old new
+        → length (commits_by pass new) ≡ length (commits_by pass old) → commits_by pass old ≡ commits_by pass new }
 {}
 
 // ---- what calls may answer
@@ -157,24 +167,31 @@ pub fn beginnings_have_fewer()
 /// gone, they may answer to a caller who had seen less before and has seen more after, so calls that are made of others
 /// answer what those may ('profile').
 pub fn answers_stay()
-    ensures accepted { (options : Options) (pass : ℕ) (shorter old new longer : List OneEvent) (request : Request) (done : Committed)
-        → IsPrefix shorter old → IsPrefix new longer → IsAccepted options pass old new request done → IsAccepted options pass shorter longer request done }
-    ensures refused { (options : Options) (shorter old new longer : List OneEvent) (request : Request) (refused : Refused)
-        → IsPrefix shorter old → IsPrefix new longer → IsRefused options old new request refused → IsRefused options shorter longer request refused }
-    ensures traced { (options : Options) (shorter old new longer : List OneEvent) (query : Query) (revision : ℕ) (trace : Trace)
-        → IsPrefix shorter old → IsPrefix new longer → IsTraced options old new query revision trace → IsTraced options shorter longer query revision trace }
+    ensures accepted { (options : Options) (pass : ℕ) (shorter old new longer : List OneEvent)
+        (request : Request) (done : Committed) → IsPrefix shorter old → IsPrefix new longer
+        → IsAccepted options pass old new request done → IsAccepted options pass shorter longer request done }
+    ensures refused { (options : Options) (shorter old new longer : List OneEvent)
+        (request : Request) (refused : Refused) → IsPrefix shorter old → IsPrefix new longer
+        → IsRefused options old new request refused → IsRefused options shorter longer request refused }
+    ensures traced { (options : Options) (shorter old new longer : List OneEvent)
+        (query : Query) (revision : ℕ) (trace : Trace) → IsPrefix shorter old → IsPrefix new longer
+        → IsTraced options old new query revision trace → IsTraced options shorter longer query revision trace }
     ensures absent { (options : Options) (shorter old new longer : List OneEvent) (query : Query) (revision : ℕ)
-        → IsPrefix shorter old → IsPrefix new longer → IsAbsent options old new query revision → IsAbsent options shorter longer query revision }
+        → IsPrefix shorter old → IsPrefix new longer
+        → IsAbsent options old new query revision → IsAbsent options shorter longer query revision }
     ensures row { (shorter old new longer : List OneEvent) (synced : ℕ) (row : FullSlot)
         → IsPrefix shorter old → IsPrefix new longer → IsRow old new synced row → IsRow shorter longer synced row }
     ensures publish { (shorter old new longer : List OneEvent) (synced : ℕ) (endpoint : OneEndpoint)
-        → IsPrefix shorter old → IsPrefix new longer → HasPublish old new synced endpoint → HasPublish shorter longer synced endpoint }
+        → IsPrefix shorter old → IsPrefix new longer
+        → HasPublish old new synced endpoint → HasPublish shorter longer synced endpoint }
     ensures published { (options : Options) (slot : ℕ) (shorter old new longer : List OneEvent) (revision : ℕ)
-        → IsPrefix shorter old → IsPrefix new longer → IsPublished options slot old new revision → IsPublished options slot shorter longer revision }
+        → IsPrefix shorter old → IsPrefix new longer
+        → IsPublished options slot old new revision → IsPublished options slot shorter longer revision }
     ensures full { (options : Options) (slot : ℕ) (shorter old new longer : List OneEvent) (revision count : ℕ)
-        → IsPrefix shorter old → IsPrefix new longer → IsFull options slot old new revision count → IsFull options slot shorter longer revision count }
-    ensures gone { (options : Options) (slot : ℕ) (shorter old new longer : List OneEvent)
-        → IsPrefix shorter old → IsPrefix new longer → IsGone options slot old new → IsGone options slot shorter longer }
+        → IsPrefix shorter old → IsPrefix new longer
+        → IsFull options slot old new revision count → IsFull options slot shorter longer revision count }
+    ensures gone { (options : Options) (slot : ℕ) (shorter old new longer : List OneEvent) → IsPrefix shorter old
+        → IsPrefix new longer → IsGone options slot old new → IsGone options slot shorter longer }
 {}
 
 /// A report counts for a sync where it was made in the call, or is the endpoint's last one, and is of the sync's revision or
@@ -182,13 +199,15 @@ pub fn answers_stay()
 pub fn reports_count()
     ensures made { (old new : List OneEvent) (synced place revision : ℕ) (endpoint : OneEndpoint) → synced ≤ revision
         → IsReport new place endpoint revision → length old ≤ place → Counts old new synced place endpoint revision }
-    ensures last { (old new : List OneEvent) (synced place revision : ℕ) (endpoint : OneEndpoint) → synced ≤ revision → length old ≤ length new
+    ensures last { (old new : List OneEvent) (synced place revision : ℕ) (endpoint : OneEndpoint)
+        → synced ≤ revision → length old ≤ length new
         → IsLastReport new (length new) place endpoint revision → Counts old new synced place endpoint revision }
 {}
 
 /// Passes of a list have met once each of them was shown one history, whose commits are of the passes that were handed
 /// out ('profile').
 pub fn passes_meet()
-    ensures { (options : Options) (passes : List ℕ) (history : List OneEvent) (before after : List PassState) → length after ≡ length before
-        → AreOf passes history → AreShown options history (meetings_of before after) → HaveMet options passes (meetings_of before after) }
+    ensures { (options : Options) (passes : List ℕ) (history : List OneEvent) (before after : List PassState)
+        → length after ≡ length before → AreOf passes history
+        → AreShown options history (meetings_of before after) → HaveMet options passes (meetings_of before after) }
 {}

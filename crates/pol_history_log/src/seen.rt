@@ -32,7 +32,8 @@ impl<N: NodeName> Model for Seen<N> {
 
     ghost view = { λ s. s.reached.log };
 
-    ghost invariant = { λ s. (s.events ≡ length s.reached.log) × (s.reached.book ≡ N.book) × IsLegal N.options s.reached.log };
+    ghost invariant = { λ s.
+        (s.events ≡ length s.reached.log) × (s.reached.book ≡ N.book) × IsLegal N.options s.reached.log };
 }
 
 /// A commit that is added.
@@ -148,7 +149,8 @@ impl<N: NodeName> Seen<N> {
         requires room { length self.now < 2 ^ 62 }
         requires fresh { ⟦<Add as Plain<X, HistoryEvent, u64>>⟧.state asked.now ≡ None }
         requires may { MayFollow N.options self.now (⟦<Add as Plain<X, HistoryEvent, u64>>⟧.ask asked.now) }
-        ensures { IfSome result (λ longer. longer ≡ self.now ++ ⟦<Add as Plain<X, HistoryEvent, u64>>⟧.ask asked.now ∷ []) }
+        ensures { IfSome result (λ longer.
+            longer ≡ self.now ++ ⟦<Add as Plain<X, HistoryEvent, u64>>⟧.ask asked.now ∷ []) }
     {
         let mut reached = self.reached.again();
         let mut offer: Offer<HistoryEvent, u64, Law, Nothing> = reached.plain::<Nothing, X, Add>(
@@ -209,7 +211,8 @@ impl<N: NodeName> Seen<N> {
     ) -> Option<Seen<N>>
         requires room { length self.now < 2 ^ 62 }
         requires may { PublishMayFollow N.options self.now (id_of name.now added) revision map.now }
-        ensures { IfSome result (λ longer. longer ≡ self.now ++ event.Publish (id_of name.now added) revision map.now ∷ []) }
+        ensures { IfSome result (λ longer.
+            longer ≡ self.now ++ event.Publish (id_of name.now added) revision map.now ∷ []) }
     {
         self.add(
             book,
@@ -233,7 +236,8 @@ impl<N: NodeName> Seen<N> {
     ) -> Option<Seen<N>>
         requires room { length self.now < 2 ^ 62 }
         requires may { BlockedMayFollow N.options self.now (id_of name.now added) revision count }
-        ensures { IfSome result (λ longer. longer ≡ self.now ++ event.Blocked (id_of name.now added) revision count ∷ []) }
+        ensures { IfSome result (λ longer.
+            longer ≡ self.now ++ event.Blocked (id_of name.now added) revision count ∷ []) }
     {
         self.add(
             book,

@@ -57,7 +57,8 @@ impl Identities {
         ensures number { IfOk result (λ number. number ≡ number_for_prefix prefix self.old) }
         ensures ok { OnOk result (self.new ≡ prefix_held prefix self.old) }
         ensures err { OnErr result (self.new ≡ self.old) }
-        ensures exhausted { IsErrOf result IdentError.Exhausted ↔ ((locals_held self.old ≡ LOCAL_IDENTITIES) × (number_of_prefix prefix self.old ≡ None)) }
+        ensures exhausted { IsErrOf result IdentError.Exhausted
+            ↔ ((locals_held self.old ≡ LOCAL_IDENTITIES) × (number_of_prefix prefix self.old ≡ None)) }
         ensures sound { KeepsRows self.new }
     {
         let len = prefix.len();

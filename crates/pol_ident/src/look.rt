@@ -14,7 +14,8 @@ impl Identities {
     /// The labels and the prefix of the number.
     fn look(&self, number: u32) -> Option<(&LabelSet, Option<Prefix>)>
         ensures labels { option_map (λ found. found.0.now) result ≡ labels_at number self.now }
-        ensures prefix { option_map (λ found. found.1) result ≡ option_map (λ row. row.prefix) (row_of number self.now) }
+        ensures prefix { option_map (λ found.
+            found.1) result ≡ option_map (λ row. row.prefix) (row_of number self.now) }
         ensures sound { KeepsRows self.now }
     {
         match place_of(number) {

@@ -48,7 +48,8 @@ fn numbers_of(
     rows: &[IdentityRow],
     heading: &HeadingRef<'_>,
 ) -> Result<Vec<u32>, Memory>
-    ensures { IfOk result (λ numbers. numbers.items ≡ map (λ row. row.number) (filter (stands_under (heading_by heading.now)) rows.now)) }
+    ensures { IfOk result (λ numbers.
+        numbers.items ≡ map (λ row. row.number) (filter (stands_under (heading_by heading.now)) rows.now)) }
 {
     rows.iter()
         .filter(|row| stands_under(*row, heading))
@@ -63,7 +64,8 @@ fn push_cluster(
     numbers: &mut Vec<u32>,
 ) -> Result<(), Memory>
     requires few { length cluster.now ≤ CLUSTER_IDENTITIES }
-    ensures { OnOk result (numbers.new.items ≡ numbers.old.items ++ numbers_where CLUSTER_FIRST (λ labels. stands_with labels None (heading_by heading.now)) cluster.now) }
+    ensures { OnOk result (numbers.new.items ≡ numbers.old.items ++ numbers_where CLUSTER_FIRST (λ labels.
+        stands_with labels None (heading_by heading.now)) cluster.now) }
 {
     match heading {
         HeadingRef::Label { .. } => cluster.push_numbers_with(CLUSTER_FIRST, heading, numbers),
@@ -77,8 +79,10 @@ fn push_cluster(
 fn family_with(ipv4: &LabelSet, ipv6: &LabelSet, key: &str, value: &str) -> Option<Family>
     requires ipv4 { ipv4.now ≡ world_labels (world_in Ipv4) }
     requires ipv6 { ipv6.now ≡ world_labels (world_in Ipv6) }
-    ensures some { IfSome result (λ family. carries_heading (ByLabel key.now value.now) (world_labels (world_in family)) ≡ true) }
-    ensures none { IfNone result ((family : OneFamily) → carries_heading (ByLabel key.now value.now) (world_labels (world_in family)) ≡ false) }
+    ensures some { IfSome result (λ family.
+        carries_heading (ByLabel key.now value.now) (world_labels (world_in family)) ≡ true) }
+    ensures none { IfNone result ((family : OneFamily)
+        → carries_heading (ByLabel key.now value.now) (world_labels (world_in family)) ≡ false) }
 {
     if has_label(ipv4, key, value) {
         return Some(Family::Ipv4);
@@ -101,7 +105,8 @@ fn push_local(
     requires valid { ArePrefixes local.now }
     requires ipv4 { ipv4.now ≡ world_labels (world_in Ipv4) }
     requires ipv6 { ipv6.now ≡ world_labels (world_in Ipv6) }
-    ensures { OnOk result (numbers.new.items ≡ numbers.old.items ++ numbers_where LOCAL_FIRST (λ prefix. stands_with (world_labels (world_around prefix)) (Some prefix) (heading_by heading.now)) local.now) }
+    ensures { OnOk result (numbers.new.items ≡ numbers.old.items ++ numbers_where LOCAL_FIRST (λ prefix.
+        stands_with (world_labels (world_around prefix)) (Some prefix) (heading_by heading.now)) local.now) }
 {
     match heading {
         HeadingRef::Label { key, value } => match family_with(ipv4, ipv6, *key, *value) {
@@ -117,7 +122,8 @@ impl Identities {
     /// The numbers of the identities that stand under the heading, ascending: of the reserved ones each is looked at, of the
     /// others those alone that are filed under it ('profile'). The one error is want of memory.
     pub fn numbers_under(&self, alloc: Global, heading: &HeadingRef<'_>) -> Result<Vec<u32>, Memory>
-        ensures numbers { IfOk result (λ numbers. numbers.items ≡ map (λ row. row.number) (filter (stands_under (heading_by heading.now)) self.now)) }
+        ensures numbers { IfOk result (λ numbers.
+            numbers.items ≡ map (λ row. row.number) (filter (stands_under (heading_by heading.now)) self.now)) }
         ensures sound { KeepsRows self.now }
     {
         let mut numbers = numbers_of(alloc, &self.reserved, heading)?;

@@ -92,7 +92,8 @@ fn push_places(slots: &[Option<Held>], first: u32, numbers: &mut Vec<u32>) -> Re
 /// A place's key has another index.
 fn relink(slots: &mut Vec<Option<Held>>, place: u32, index: usize)
     requires within { place < length slots.old.items }
-    ensures { slots.new.items ≡ slice_set slots.old.items place (with_index index (slice_index_or slots.old.items place None)) }
+    ensures { slots.new.items
+        ≡ slice_set slots.old.items place (with_index index (slice_index_or slots.old.items place None)) }
 {
     if let Some(held) = slots[place as usize] {
         slots[place as usize] = Some(Held {
@@ -112,7 +113,8 @@ fn take_out<K: Eq + Hash + Drop>(
     requires tied { IsTied places.old.entries slots.old.items }
     requires taken { IsIndexOf index (slice_index_or slots.old.items place None) }
     ensures tied { IsTied places.new.entries slots.new.items }
-    ensures shown { all_shown places.new.entries slots.new.items ≡ slice_set (all_shown places.old.entries slots.old.items) place None }
+    ensures shown { all_shown places.new.entries slots.new.items
+        ≡ slice_set (all_shown places.old.entries slots.old.items) place None }
 {
     places.swap_remove_index(index);
     slots[place as usize] = None;

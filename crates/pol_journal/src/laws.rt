@@ -14,8 +14,9 @@ pub fn whole_journals()
     ensures nothing { (options : Options) → IsJournal options [] [] }
     ensures one_byte { (options : Options) (byte : ℕ) → IsJournal options [] (byte ∷ []) }
     ensures closed { (options : Options) (rest : List ℕ) → IsJournal options [] (0 ∷ rest) }
-    ensures one { (options : Options) (request : Request) (line rest : List ℕ) → length line < 2 ^ 32 → asked_in line ≡ Some request
-        → fault_of (state_of options []) request ≡ None → IsJournal options (request ∷ []) ((1 ∷ record_of line) ++ 0 ∷ rest) }
+    ensures one { (options : Options) (request : Request) (line rest : List ℕ)
+        → length line < 2 ^ 32 → asked_in line ≡ Some request → fault_of (state_of options []) request ≡ None
+        → IsJournal options (request ∷ []) ((1 ∷ record_of line) ++ 0 ∷ rest) }
 {}
 
 /// A journal is damaged at the open gate whose record isn't whole, whose line isn't read as a commit, or whose request has a fault
@@ -25,6 +26,7 @@ pub fn damaged_journals()
     ensures no_next_gate { (options : Options) → journal_of options (1 ∷ 0 ∷ 0 ∷ 0 ∷ 0 ∷ []) ≡ Err 0 }
     ensures no_commit { (options : Options) (line rest : List ℕ) → length line < 2 ^ 32 → asked_in line ≡ None
         → journal_of options ((1 ∷ record_of line) ++ 0 ∷ rest) ≡ Err 0 }
-    ensures a_fault { (options : Options) (request : Request) (fault : Fault) (line rest : List ℕ) → length line < 2 ^ 32
-        → asked_in line ≡ Some request → fault_of (state_of options []) request ≡ Some fault → journal_of options ((1 ∷ record_of line) ++ 0 ∷ rest) ≡ Err 0 }
+    ensures a_fault { (options : Options) (request : Request) (fault : Fault) (line rest : List ℕ)
+        → length line < 2 ^ 32 → asked_in line ≡ Some request → fault_of (state_of options []) request ≡ Some fault
+        → journal_of options ((1 ∷ record_of line) ++ 0 ∷ rest) ≡ Err 0 }
 {}

@@ -70,7 +70,8 @@ pub(crate) fn has_name(value: &Value) -> bool
 
 /// A text of the metadata.
 pub(crate) fn metadata_text<'v>(value: &'v Value, name: &str) -> Option<&'v str>
-    ensures { option_map (λ text. text.now) result ≡ option_and_then (text_at name.now) (present (codes "metadata") (view value.now)) }
+    ensures { option_map (λ text.
+        text.now) result ≡ option_and_then (text_at name.now) (present (codes "metadata") (view value.now)) }
 {
     text_at(present(value, "metadata")?, name)
 }
@@ -89,9 +90,11 @@ fn has_specs(value: &Value) -> bool
 fn head_of(value: &Value) -> Result<Head, DocError>
     ensures fault { Finds (head_fault (view value.now)) result }
     ensures kind { IfOk result (λ head. head.cluster_wide ≡ is_cluster_wide (view value.now)) }
-    ensures metadata { IfOk result (λ head. present (codes "metadata") (view value.now) ≡ Some (view head.metadata.now)) }
+    ensures metadata { IfOk result (λ head.
+        present (codes "metadata") (view value.now) ≡ Some (view head.metadata.now)) }
     ensures name { IfOk result (λ head. text_at (codes "name") (view head.metadata.now) ≡ Some head.name.now) }
-    ensures spec { IfOk result (λ head. option_map (λ spec. view spec.now) head.spec ≡ present (codes "spec") (view value.now)) }
+    ensures spec { IfOk result (λ head.
+        option_map (λ spec. view spec.now) head.spec ≡ present (codes "spec") (view value.now)) }
 {
     if !is_text_at(value, "apiVersion", "cilium.io/v2") {
         return Err(DocError::Fault(DocFault::NotPolicy));
@@ -142,7 +145,8 @@ fn build_key(alloc: Global, head: &Head) -> Result<PolicyKey, Memory>
 
 /// The rule of `spec`, then those of `specs`.
 fn build_rules(alloc: Global, value: &Value, spec: Option<&Value>) -> Result<RawRules, Memory>
-    ensures { IfOk result (λ rules. rules ≡ rules_with (option_map (λ spec. view spec.now) spec.entry) (view value.now)) }
+    ensures { IfOk result (λ rules.
+        rules ≡ rules_with (option_map (λ spec. view spec.now) spec.entry) (view value.now)) }
 {
     let more: RawRules = items_at(alloc, value, "specs")?;
     match spec {

@@ -31,8 +31,9 @@ pub fn what_is_read_has_its_names_in_order()
 
 /// A document that is read has nothing wrong at any place that a path leads to.
 pub fn what_is_read_has_no_cause()
-    ensures { (d : Data) (policy : RawPolicy) → read_document d ≡ Ok policy
-        → (path : List Step) (shape : Shape) (value : Data) → IsAt kind.Policy path d shape value → cause_of shape value ≡ None }
+    ensures { (d : Data) (policy : RawPolicy)
+        → read_document d ≡ Ok policy → (path : List Step) (shape : Shape) (value : Data)
+        → IsAt kind.Policy path d shape value → cause_of shape value ≡ None }
 {}
 
 /// A document that is read has no unknown and no unsupported member, at any depth that is read.
@@ -44,27 +45,32 @@ pub fn what_is_read_is_of_the_table()
 /// A policy with a name and a rule that is refused is so for what is wrong at a place that the fault's
 /// path leads to, and nothing is wrong at the places before it.
 pub fn the_first_fault_is_told()
-    ensures { (d : Data) (fault : DocFault) → head_fault d ≡ None → read_document d ≡ Err fault → IsFirstFault kind.Policy d fault }
+    ensures { (d : Data) (fault : DocFault)
+        → head_fault d ≡ None → read_document d ≡ Err fault → IsFirstFault kind.Policy d fault }
 {}
 
 /// The key of a document that is read: its name is the name of a policy, and its namespace that of a namespace; a
 /// cluster-wide policy has none.
 pub fn keys_have_their_forms()
-    ensures name { (d : Data) (policy : RawPolicy) → read_document d ≡ Ok policy → IsTrue (is_dns_name policy.key.name) }
-    ensures namespace { (d : Data) (policy : RawPolicy) → read_document d ≡ Ok policy → policy.key.cluster_wide ≡ false → IsTrue (is_dns_name policy.key.namespace) }
-    ensures cluster_wide { (d : Data) (policy : RawPolicy) → read_document d ≡ Ok policy → policy.key.cluster_wide ≡ true → policy.key.namespace ≡ [] }
+    ensures name { (d : Data) (policy : RawPolicy)
+        → read_document d ≡ Ok policy → IsTrue (is_dns_name policy.key.name) }
+    ensures namespace { (d : Data) (policy : RawPolicy)
+        → read_document d ≡ Ok policy → policy.key.cluster_wide ≡ false → IsTrue (is_dns_name policy.key.namespace) }
+    ensures cluster_wide { (d : Data) (policy : RawPolicy)
+        → read_document d ≡ Ok policy → policy.key.cluster_wide ≡ true → policy.key.namespace ≡ [] }
 {}
 
 /// The document of a NetworkPolicy without a fault has nothing wrong at any place that a path leads to.
 pub fn networks_that_are_read_have_no_cause()
-    ensures { (d : Data) → network_fault d ≡ None
-        → (path : List Step) (shape : Shape) (value : Data) → IsAt kind.NetworkPolicy path d shape value → cause_of shape value ≡ None }
+    ensures { (d : Data) → network_fault d ≡ None → (path : List Step) (shape : Shape) (value : Data)
+        → IsAt kind.NetworkPolicy path d shape value → cause_of shape value ≡ None }
 {}
 
 /// A NetworkPolicy with a name and a spec that is refused is so for what is wrong at a place that the
 /// fault's path leads to, and nothing is wrong at the places before it.
 pub fn the_first_fault_of_a_network_is_told()
-    ensures { (d : Data) (fault : DocFault) → network_head_fault d ≡ None → network_fault d ≡ Some fault → IsFirstFault kind.NetworkPolicy d fault }
+    ensures { (d : Data) (fault : DocFault)
+        → network_head_fault d ≡ None → network_fault d ≡ Some fault → IsFirstFault kind.NetworkPolicy d fault }
 {}
 
 /// The name of a NetworkPolicy without a fault is the name of a policy, and its namespace that of a namespace.

@@ -69,7 +69,8 @@ fn walk_member(alloc: Global, kind: ObjectKind, name: &str, value: &Value) -> Re
 /// The first fault of a member's value, seen from its object. Most values hold nothing and are sound.
 #[cycle(walk)]
 fn walk_one(alloc: Global, name: &str, content: Content, value: &Value) -> Result<(), DocError>
-    ensures { Finds (fault_below (first_found (map (under (named name.now)) (places (one content) (view value.now))))) result }
+    ensures { Finds
+        (fault_below (first_found (map (under (named name.now)) (places (one content) (view value.now))))) result }
 {
     if is_sound_leaf(content, value) {
         return Ok(());

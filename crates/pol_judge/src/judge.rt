@@ -21,7 +21,8 @@ fn rule_covers(
     number: u32,
     query: &Query,
 ) -> bool
-    ensures { result ≡ rule_covers section (selects_number identities.now number) query.now.proto query.now.port rule.now }
+    ensures { result
+        ≡ rule_covers section (selects_number identities.now number) query.now.proto query.now.port rule.now }
 {
     rule.entries_of(section).iter().any(|entry| covers_packet(
         entry,
@@ -42,7 +43,8 @@ fn policy_covers(
     number: u32,
     query: &Query,
 ) -> bool
-    ensures { result ≡ has_rule (rule_covers section (selects_number identities.now number) query.now.proto query.now.port) endpoint.now stamped.now }
+    ensures { result ≡ has_rule (rule_covers section
+        (selects_number identities.now number) query.now.proto query.now.port) endpoint.now stamped.now }
 {
     let rules = stamped.policy.rules.as_slice();
     rules.iter().any(|rule| endpoint.is_selected_by(rule)
@@ -58,7 +60,8 @@ fn some_entry_covers(
     number: u32,
     query: &Query,
 ) -> bool
-    ensures { result ≡ some_covers policies.now endpoint.now section (selects_number identities.now number) query.now.proto query.now.port }
+    ensures { result ≡ some_covers policies.now endpoint.now section
+        (selects_number identities.now number) query.now.proto query.now.port }
 {
     policies.iter().any(|stamped| policy_covers(
         stamped, endpoint, section, identities, number, query,
@@ -76,7 +79,8 @@ pub fn verdict_at(
     number: u32,
     query: &Query,
 ) -> Word
-    ensures word { result ≡ word_of localhost (parts_of mode policies.now identities.now) query.now endpoint.now number }
+    ensures word { result
+        ≡ word_of localhost (parts_of mode policies.now identities.now) query.now endpoint.now number }
 {
     let dir = query.dir;
     if matches!(mode, Mode::Never) {

@@ -26,7 +26,8 @@ fn push_entries(
     query: &Query,
 ) -> Result<(), Memory>
     requires { length entries.now < 2 ^ 32 }
-    ensures { OnOk result (out.new.items ≡ out.old.items ++ entry_places (entry_covers (selects_number identities.now number) query.now.proto query.now.port) key.now rule section 0 entries.now) }
+    ensures { OnOk result (out.new.items ≡ out.old.items ++ entry_places (entry_covers
+        (selects_number identities.now number) query.now.proto query.now.port) key.now rule section 0 entries.now) }
 {
     for (i, entry) in entries.iter().enumerate() {
         if covers_packet(entry, identities, number, query.proto, query.port) {
@@ -53,7 +54,9 @@ fn push_policy(
 ) -> Result<(), Memory>
     requires rules { length policy.now.rules < 2 ^ 32 }
     requires sections { AllByRecursion HasShortSections policy.now.rules }
-    ensures { OnOk result (out.new.items ≡ out.old.items ++ rule_places (rule_selects endpoint.now) (entry_covers (selects_number identities.now number) query.now.proto query.now.port) policy.now.key section 0 policy.now.rules) }
+    ensures { OnOk result (out.new.items
+        ≡ out.old.items ++ rule_places (rule_selects endpoint.now) (entry_covers (selects_number identities.now number)
+        query.now.proto query.now.port) policy.now.key section 0 policy.now.rules) }
 {
     for (i, rule) in policy.rules.as_slice().iter().enumerate() {
         if endpoint.is_selected_by(rule) {
@@ -84,7 +87,8 @@ pub(crate) fn places_in(
     query: &Query,
 ) -> Result<Places, Memory>
     requires { AllByRecursion (λ stamped. IsShortPolicy stamped.policy) policies.now }
-    ensures { IfOk result (λ places. places ≡ covering_places policies.now endpoint.now section (entry_covers (selects_number identities.now number) query.now.proto query.now.port)) }
+    ensures { IfOk result (λ places. places ≡ covering_places policies.now endpoint.now section
+        (entry_covers (selects_number identities.now number) query.now.proto query.now.port)) }
 {
     let mut out = Vec::new(alloc);
     for stamped in policies {

@@ -23,7 +23,8 @@ fn deny_places(
     query: &Query,
 ) -> Result<Places, Memory>
     requires { AllByRecursion (λ stamped. IsShortPolicy stamped.policy) policies.now }
-    ensures { IfOk result (λ places. places ≡ covering_places policies.now endpoint.now (deny_section query.now.dir) (covers_number identities.now query.now number)) }
+    ensures { IfOk result (λ places. places ≡ covering_places policies.now endpoint.now
+        (deny_section query.now.dir) (covers_number identities.now query.now number)) }
 {
     let section = deny_section(query.dir);
     places_in(
@@ -41,7 +42,8 @@ fn allow_places(
     query: &Query,
 ) -> Result<Places, Memory>
     requires { AllByRecursion (λ stamped. IsShortPolicy stamped.policy) policies.now }
-    ensures { IfOk result (λ places. places ≡ covering_places policies.now endpoint.now (allow_section query.now.dir) (covers_number identities.now query.now number)) }
+    ensures { IfOk result (λ places. places ≡ covering_places policies.now endpoint.now
+        (allow_section query.now.dir) (covers_number identities.now query.now number)) }
 {
     let section = allow_section(query.dir);
     places_in(
@@ -63,7 +65,8 @@ pub fn explain_at(
     query: &Query,
 ) -> Result<Trace, Memory>
     requires short { AllByRecursion (λ stamped. IsShortPolicy stamped.policy) policies.now }
-    ensures trace { IfOk result (λ trace. trace ≡ trace_of localhost (parts_of mode policies.now identities.now) query.now endpoint.now number) }
+    ensures trace { IfOk result (λ trace.
+        trace ≡ trace_of localhost (parts_of mode policies.now identities.now) query.now endpoint.now number) }
 {
     let word = verdict_at(
         localhost, mode, policies, identities, endpoint, number, query,

@@ -49,7 +49,8 @@ fn step<L: Ledger>(
     steps: &mut Steps<L>,
 ) -> Result<Committed, KeptError>
     ensures options { options_in machine.new ≡ options_in machine.old }
-    ensures machine { (m : OneMachine) → Stands machine.old m → Commits (options_in machine.old) m request machine.new result }
+    ensures machine { (m : OneMachine) → Stands machine.old m
+        → Commits (options_in machine.old) m request machine.new result }
     ensures no_call { loses result ≡ false }
     ensures cost { Costs (state_in machine.old.repo) (step.Commit request) steps.old steps.new }
 {
@@ -95,7 +96,8 @@ pub fn commit_over<D: Disk, L: Ledger>(
 
     // The machine.
     ensures options { options_in machine.new ≡ options_in machine.old }
-    ensures machine { (m : OneMachine) → Stands machine.old m → Commits (options_in machine.old) m request machine.new result }
+    ensures machine { (m : OneMachine) → Stands machine.old m
+        → Commits (options_in machine.old) m request machine.new result }
     ensures accepted { OnOk result (requests_in machine.new ≡ requests_in machine.old ++ request ∷ []) }
     ensures too_long { 2 ^ 32 ≤ length line.now → IsErrOf result KeptError.Memory }
     ensures cost { Costs (state_in machine.old.repo) (step.Commit request) steps.old steps.new }
@@ -106,7 +108,8 @@ pub fn commit_over<D: Disk, L: Ledger>(
     ensures failed { IsErrOf result KeptError.Disk → Rose (D.faults disk.old) (D.faults disk.new) }
 
     // A crash at any moment leaves a journal of the requests before, or of this one more.
-    ensures any_moment { LeavesOnly D.moment D.left_since disk.old disk.new (IsJournalOrOneMore (options_in machine.old) (requests_in machine.old) request) }
+    ensures any_moment { LeavesOnly D.moment D.left_since disk.old disk.new
+        (IsJournalOrOneMore (options_in machine.old) (requests_in machine.old) request) }
 
     // The calls, and the counts.
     ensures calls { OnOk result (Runs D.does D.fails disk.old (calls_of_commit (D.seen disk.old) line.now) disk.new) }

@@ -95,9 +95,11 @@ impl KeptFilters {
 
     /// Keeps it for the slot, in the place of what was kept.
     fn put(&mut self, slot: u32, kept: Kept) -> Result<(), Memory>
-        ensures kept { (policies : List OnePolicy) (mode : AnyMode) → arc_value kept.filters ≡ filters_for policies kept.labels mode kept.localhost
+        ensures kept { (policies : List OnePolicy) (mode : AnyMode)
+            → arc_value kept.filters ≡ filters_for policies kept.labels mode kept.localhost
             → AreKeptOf policies mode self.old → AreKeptOf policies mode self.new }
-        ensures listed { (cache : AnyCache) → IsListedIn cache kept → AreListedIn cache self.old → AreListedIn cache self.new }
+        ensures listed { (cache : AnyCache)
+            → IsListedIn cache kept → AreListedIn cache self.old → AreListedIn cache self.new }
     {
         self.rows.insert(slot, kept)?;
         Ok(())
@@ -114,10 +116,11 @@ impl KeptFilters {
         filters: &Arc<Filters>,
         known: KnownPeers,
     ) -> Result<(), Memory>
-        ensures kept { (policies : List OnePolicy) (mode : AnyMode) → arc_value filters.now ≡ filters_for policies labels.now mode localhost
+        ensures kept { (policies : List OnePolicy) (mode : AnyMode)
+            → arc_value filters.now ≡ filters_for policies labels.now mode localhost
             → AreKeptOf policies mode self.old → AreKeptOf policies mode self.new }
-        ensures listed { (cache : AnyCache) → IsListingOf (filter_peers (arc_value filters.now)) known.rows → IsKnownIn cache known
-            → AreListedIn cache self.old → AreListedIn cache self.new }
+        ensures listed { (cache : AnyCache) → IsListingOf (filter_peers (arc_value filters.now)) known.rows
+            → IsKnownIn cache known → AreListedIn cache self.old → AreListedIn cache self.new }
     {
         let kept = Kept::new(alloc, labels, localhost, filters, known)?;
         self.put(slot, kept)

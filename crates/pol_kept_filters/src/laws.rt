@@ -13,7 +13,8 @@ ghost use Rattle.pol_kept_filters.specs.Kept.{AreKeptOf, KeysDiffer, selects, wi
 /// either, or goes.
 pub fn filters_are_of_policies_that_select()
     ensures comes { (policies : List Stamped) (new : Stamped) (labels : List Label) (mode : Mode) (localhost : Bool)
-        → selects labels new.policy ≡ false → IfSome (policy_at new.policy.key policies) (λ old. selects labels old.policy ≡ false)
+        → selects labels new.policy ≡ false
+        → IfSome (policy_at new.policy.key policies) (λ old. selects labels old.policy ≡ false)
         → filters_for (applied new policies) labels mode localhost ≡ filters_for policies labels mode localhost }
     ensures goes { (policies : List Stamped) (key : PolicyKey) (labels : List Label) (mode : Mode) (localhost : Bool)
         → KeysDiffer policies → IfSome (policy_at key policies) (λ old. selects labels old.policy ≡ false)
@@ -22,8 +23,10 @@ pub fn filters_are_of_policies_that_select()
 
 /// What is left, once what a policy selects was forgotten, is kept of the policies with it, or without it.
 pub fn what_is_left_is_kept()
-    ensures comes { (policies : List Stamped) (new : Stamped) (mode : Mode) (rows : List Kept) → AreKeptOf policies mode rows
-        → AreKeptOf (applied new policies) mode (without_old (policy_at new.policy.key policies) (without_selected new.policy rows)) }
-    ensures goes { (policies : List Stamped) (key : PolicyKey) (mode : Mode) (rows : List Kept) → KeysDiffer policies → AreKeptOf policies mode rows
+    ensures comes { (policies : List Stamped) (new : Stamped) (mode : Mode) (rows : List Kept)
+        → AreKeptOf policies mode rows → AreKeptOf (applied new policies) mode
+        (without_old (policy_at new.policy.key policies) (without_selected new.policy rows)) }
+    ensures goes { (policies : List Stamped) (key : PolicyKey) (mode : Mode) (rows : List Kept)
+        → KeysDiffer policies → AreKeptOf policies mode rows
         → AreKeptOf (removed key policies) mode (without_old (policy_at key policies) rows) }
 {}

@@ -25,9 +25,11 @@ fn has_same_modes(one: &Filters, other: &Filters) -> bool
 /// Whether filters of these sets stay, with these moves, as they are.
 fn are_still(was: &Filters, was_rows: &[SetRow], is: &Filters, moves: &[Move]) -> bool
     ensures work { IsTrue result → (rows : List OneRow) → AllByRecursion Ascend rows → NamesFilters was.now is.now
-        → MovesTell (record { filters = was.now; rows = was_rows.now }) is.now rows moves.now → IsWorkOf is.now rows (record { filters = was.now; rows = was_rows.now }) }
+        → MovesTell (record { filters = was.now; rows = was_rows.now }) is.now rows moves.now
+        → IsWorkOf is.now rows (record { filters = was.now; rows = was_rows.now }) }
     ensures map { IsTrue result → (rows : List OneRow) → AllByRecursion Ascend rows → NamesFilters was.now is.now
-        → MovesTell (record { filters = was.now; rows = was_rows.now }) is.now rows moves.now → distilled was.now was_rows.now ≡ distilled is.now rows }
+        → MovesTell (record { filters = was.now; rows = was_rows.now }) is.now rows moves.now
+        → distilled was.now was_rows.now ≡ distilled is.now rows }
 {
     sets_ascend(was_rows);
     if !all_still(moves) {
@@ -44,9 +46,11 @@ impl Work {
     /// moves. Then it is the work of the filters and of any rows of which the moves tell, and its map is theirs. It may be
     /// false though nothing differs.
     pub fn stays_by(&self, filters: &Filters, moves: &Option<Moves>) -> bool
-        ensures work { IsTrue result → (rows : List OneRow) → AllByRecursion Ascend rows → NamesFilters self.now.filters filters.now
+        ensures work { IsTrue result → (rows : List OneRow)
+            → AllByRecursion Ascend rows → NamesFilters self.now.filters filters.now
             → IfSome moves.now (MovesTell self.now filters.now rows) → IsWorkOf filters.now rows self.now }
-        ensures map { IsTrue result → (rows : List OneRow) → AllByRecursion Ascend rows → NamesFilters self.now.filters filters.now
+        ensures map { IsTrue result → (rows : List OneRow)
+            → AllByRecursion Ascend rows → NamesFilters self.now.filters filters.now
             → IfSome moves.now (MovesTell self.now filters.now rows) → map_of self.now ≡ distilled filters.now rows }
     {
         match moves {

@@ -25,7 +25,8 @@ fn moved_by(
     moves: &Option<Moves>,
 ) -> Result<Moved, Memory>
     requires named { NamesFilters was.now is.now }
-    requires moves { IfSome moves.now (MovesTell (record { filters = was.now; rows = was_rows.now }) is.now is_rows.now) }
+    requires moves { IfSome moves.now
+        (MovesTell (record { filters = was.now; rows = was_rows.now }) is.now is_rows.now) }
     ensures { IfOk result (Leads (raw_of was.now was_rows.now) (raw_of is.now is_rows.now)) }
 {
     match moves {
@@ -49,9 +50,11 @@ pub(crate) fn turned(
     requires kept { IsKept was.now was_rows.now size tally.old }
     requires sets { HaveSets is_rows.now is.now }
     requires named { NamesFilters was.now is.now }
-    requires moves { IfSome moves.now (MovesTell (record { filters = was.now; rows = was_rows.now }) is.now is_rows.now) }
+    requires moves { IfSome moves.now
+        (MovesTell (record { filters = was.now; rows = was_rows.now }) is.now is_rows.now) }
     ensures kept { IfOk result (λ changed. IsKept is.now is_rows.now changed.size tally.new) }
-    ensures list { IfOk result (λ changed. IsDifference changed.list (table_of (distilled was.now was_rows.now)) (table_of (distilled is.now is_rows.now))) }
+    ensures list { IfOk result (λ changed. IsDifference changed.list
+        (table_of (distilled was.now was_rows.now)) (table_of (distilled is.now is_rows.now))) }
     ensures err { OnErr result (IsKept was.now was_rows.now size tally.new) }
 {
     let moved = moved_by(alloc, was, was_rows, is, is_rows, moves)?;

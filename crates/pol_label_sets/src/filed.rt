@@ -10,7 +10,8 @@ use pol_labels::Label;
 
 /// Files the place under the heading of each label. After an error some of them may be filed.
 pub(crate) fn file_each(filing: &mut Filing, labels: &[Label], place: u32) -> Result<(), Memory>
-    ensures filed { OnOk result ((heading : OneHeading) (other : ℕ) → is_filed filing.new heading other ≡ (is_filed filing.old heading other || is_of labels.now place heading other)) }
+    ensures filed { OnOk result ((heading : OneHeading) (other : ℕ) → is_filed filing.new heading other
+        ≡ (is_filed filing.old heading other || is_of labels.now place heading other)) }
     ensures apart { IsFiledApart labels.now place filing.old filing.new }
 {
     for label in labels {
@@ -21,7 +22,8 @@ pub(crate) fn file_each(filing: &mut Filing, labels: &[Label], place: u32) -> Re
 
 /// Takes the place from under the heading of each label. It takes no memory.
 pub(crate) fn unfile_each(filing: &mut Filing, labels: &[Label], place: u32)
-    ensures { (heading : OneHeading) (other : ℕ) → is_filed filing.new heading other ≡ (is_filed filing.old heading other && not (is_of labels.now place heading other)) }
+    ensures { (heading : OneHeading) (other : ℕ) → is_filed filing.new heading other
+        ≡ (is_filed filing.old heading other && not (is_of labels.now place heading other)) }
 {
     for label in labels {
         filing.unfile(&HeadingRef::of_label(label), u64::from(place));

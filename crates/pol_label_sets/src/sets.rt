@@ -170,7 +170,8 @@ impl LabelSets {
         numbers: &mut Vec<u32>,
     ) -> Result<(), Memory>
         requires fits { first + length self.now < 2 ^ 32 }
-        ensures { OnOk result (numbers.new.items ≡ numbers.old.items ++ numbers_where first (carries_heading (heading_by heading.now)) self.now) }
+        ensures { OnOk result (numbers.new.items
+            ≡ numbers.old.items ++ numbers_where first (carries_heading (heading_by heading.now)) self.now) }
     {
         let places = self.filing.filed_at(self.alloc, heading)?;
         push_each(&places, first, numbers)

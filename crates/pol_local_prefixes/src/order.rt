@@ -19,9 +19,11 @@ pub(crate) fn push_within(
     within: &Prefix,
     numbers: &mut Vec<u32>,
 ) -> Result<(), Memory>
-    requires fits { (prefix : Prefix) (place : ℕ) → get prefix_cmp order.now prefix ≡ Some place → first + place < 2 ^ 32 }
+    requires fits { (prefix : Prefix) (place : ℕ)
+        → get prefix_cmp order.now prefix ≡ Some place → first + place < 2 ^ 32 }
     ensures ascends { IsOrdered prefix_cmp order.now }
-    ensures pushed { OnOk result (numbers.new.items ≡ numbers.old.items ++ map (number_from first) (entries_within within.now order.now.entries)) }
+    ensures pushed { OnOk result (numbers.new.items
+        ≡ numbers.old.items ++ map (number_from first) (entries_within within.now order.now.entries)) }
 {
     for (prefix, place) in order.range(*within..) {
         if !within.covers(prefix) {

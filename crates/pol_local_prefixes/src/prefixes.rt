@@ -149,7 +149,8 @@ impl LocalPrefixes {
         numbers: &mut Vec<u32>,
     ) -> Result<(), Memory>
         requires fits { first + length self.now < 2 ^ 32 }
-        ensures { OnOk result (numbers.new.items ≡ numbers.old.items ++ numbers_where first (covers within.now) self.now) }
+        ensures { OnOk result (numbers.new.items
+            ≡ numbers.old.items ++ numbers_where first (covers within.now) self.now) }
     {
         let start = numbers.len();
         push_within(&self.order, first, within, numbers)?;

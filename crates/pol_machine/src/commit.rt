@@ -20,7 +20,8 @@ use std::sync::ledger::Ledger;
 
 /// An endpoint comes, with the commit of this number.
 fn add_row(alloc: Global, rows: &mut Rows, name: &Text, revision: u64) -> Result<(), Memory>
-    ensures ok { OnOk result ((other : List ℕ) → by_name rows.new other ≡ with_one name.now (Some (new_row revision)) (by_name rows.old) other) }
+    ensures ok { OnOk result ((other : List ℕ)
+        → by_name rows.new other ≡ with_one name.now (Some (new_row revision)) (by_name rows.old) other) }
     ensures err { OnErr result (SameRows (by_name rows.old) (by_name rows.new)) }
 {
     let key = name.copy(alloc)?;
@@ -47,7 +48,8 @@ fn remove_row(rows: &mut Rows, name: &Text)
 /// The rows after a request, which is the commit of this number. The one error is want of memory, and then the rows are as
 /// before.
 fn take_in(alloc: Global, rows: &mut Rows, request: &Request, revision: u64) -> Result<(), Memory>
-    ensures ok { OnOk result ((other : List ℕ) → by_name rows.new other ≡ rows_after revision request.now (by_name rows.old) other) }
+    ensures ok { OnOk result ((other : List ℕ)
+        → by_name rows.new other ≡ rows_after revision request.now (by_name rows.old) other) }
     ensures err { OnErr result (SameRows (by_name rows.old) (by_name rows.new)) }
 {
     match request {
@@ -73,7 +75,8 @@ fn accept(alloc: Global, repo: &mut Repo, rows: &mut Rows, ready: Ready) -> Resu
     requires request { repo.old.prepared ≡ Some ready.request }
     requires no_fault { fault_of (state_in repo.old) ready.request ≡ None }
     requires done { ready.done ≡ committed_of (after (state_in repo.old) ready.request) ready.request }
-    ensures { Commits (record repo.old { prepared = None }) repo.new (by_name rows.old) (by_name rows.new) ready.request result }
+    ensures { Commits (record repo.old { prepared = None }) repo.new
+        (by_name rows.old) (by_name rows.new) ready.request result }
 {
     match take_in(alloc, rows, &ready.request, ready.done.revision) {
         Ok(()) => Ok(Reply::Committed(repo.accept(ready))),

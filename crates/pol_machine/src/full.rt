@@ -84,7 +84,8 @@ pub(crate) fn full_rows(
     rows: &Rows,
     endpoints: &[EndpointRow],
 ) -> Result<FullList, Memory>
-    ensures those { IfOk result (λ full. IsPermutation (filter_map (λ e. row_kept e (by_name rows.now e.name)) endpoints.now) full) }
+    ensures those { IfOk result (λ full.
+        IsPermutation (filter_map (λ e. row_kept e (by_name rows.now e.name)) endpoints.now) full) }
     ensures sorted { IfOk result (λ full. FullRowsAscend full) }
 {
     in_row_order(rows_kept(alloc, rows, endpoints)?)

@@ -26,6 +26,6 @@ pub fn histories_are_legal()
 /// A look-up in a legal history is told by its content alone: by the live endpoints' published maps, and what each address was
 /// at their revisions ('profile').
 pub fn looks_are_told()
-    ensures { (options : Options) (history : List HistoryEvent) (query : Query) → query.port < 2 ^ 16 → IsLegal options history
-        → look_in (content_of options history) query ≡ look options history query }
+    ensures { (options : Options) (history : List HistoryEvent) (query : Query) → query.port < 2 ^ 16
+        → IsLegal options history → look_in (content_of options history) query ≡ look options history query }
 {}

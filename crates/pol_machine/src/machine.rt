@@ -49,7 +49,8 @@ impl Model for Machine {
 
     ghost view = { λ m. record { limit = m.limit; repo = m.repo; rows = m.rows.entries; takes = m.takes.entries } };
 
-    ghost invariant = { λ m. StandsForSome (kept_of (record { limit = m.limit; repo = m.repo; rows = m.rows.entries; takes = m.takes.entries })) };
+    ghost invariant = { λ m. StandsForSome
+        (kept_of (record { limit = m.limit; repo = m.repo; rows = m.rows.entries; takes = m.takes.entries })) };
 }
 
 /// A destructor of its own, so that how the parts go is proved here, and not in each crate that lets a machine go.
@@ -78,7 +79,8 @@ impl Machine {
     /// memory.
     pub fn new(alloc: Global, mode: Mode, localhost: bool, map_max: u32) -> Result<Machine, Memory>
         requires limit { map_max ≤ 65536 }
-        ensures options { IfOk result (λ machine. options_in machine ≡ record { mode = mode; localhost = localhost; map_max = Some map_max }) }
+        ensures options { IfOk result (λ machine.
+            options_in machine ≡ record { mode = mode; localhost = localhost; map_max = Some map_max }) }
         ensures start { IfOk result (λ machine. Stands machine machine_start) }
     {
         Ok(Machine {
@@ -103,8 +105,10 @@ impl Machine {
     fn commit<L: Ledger>(&mut self, request: Request, steps: &mut Steps<L>) -> Result<Reply, Memory>
         requires short { IsShort request }
         ensures options { options_in self.new ≡ options_in self.old }
-        ensures step { (m : OneMachine) → Stands self.old m → StepsTo (options_in self.old) m (step.Commit request) self.new result }
-        ensures cost { is_of_policy request ≡ false → steps.new ≤ steps.old + label_peers (state_in self.old.repo).policies }
+        ensures step { (m : OneMachine) → Stands self.old m
+            → StepsTo (options_in self.old) m (step.Commit request) self.new result }
+        ensures cost { is_of_policy request ≡ false
+            → steps.new ≤ steps.old + label_peers (state_in self.old.repo).policies }
     {
         commit(self.alloc, &mut self.repo, &mut self.rows, request, steps)
     }
@@ -112,7 +116,8 @@ impl Machine {
     /// The slot's endpoint is taken.
     fn take(&mut self, slot: u32) -> Result<Reply, Memory>
         ensures options { options_in self.new ≡ options_in self.old }
-        ensures step { (m : OneMachine) → Stands self.old m → StepsTo (options_in self.old) m (step.Take slot) self.new result }
+        ensures step { (m : OneMachine) → Stands self.old m
+            → StepsTo (options_in self.old) m (step.Take slot) self.new result }
     {
         self.repo.refresh(self.alloc, slot);
         take(self.alloc, &self.repo, &self.rows, &mut self.takes, slot)
@@ -121,7 +126,8 @@ impl Machine {
     /// What was taken for the slot is published, or reported as too large.
     fn finish(&mut self, slot: u32) -> Result<Reply, Memory>
         ensures options { options_in self.new ≡ options_in self.old }
-        ensures step { (m : OneMachine) → Stands self.old m → StepsTo (options_in self.old) m (step.Finish slot) self.new result }
+        ensures step { (m : OneMachine) → Stands self.old m
+            → StepsTo (options_in self.old) m (step.Finish slot) self.new result }
     {
         let commits = self.repo.revision();
         finish(
@@ -136,7 +142,8 @@ impl Machine {
 
     /// What a look-up finds, with at most 36 steps. It takes no memory.
     fn look<L: Ledger>(&self, query: &Query, steps: &mut Steps<L>) -> Reply
-        ensures found { (m : OneMachine) → Stands self.now m → result ≡ (step_of (options_in self.now) m (step.Look query.now)).0 }
+        ensures found { (m : OneMachine)
+            → Stands self.now m → result ≡ (step_of (options_in self.now) m (step.Look query.now)).0 }
         ensures cost { steps.new ≤ steps.old + 36 }
     {
         // A port is below 2 ^ 16.
@@ -165,7 +172,8 @@ impl Machine {
     /// The slot's endpoint is taken, and what was taken is finished.
     fn turn(&mut self, slot: u32) -> Result<Reply, Memory>
         ensures options { options_in self.new ≡ options_in self.old }
-        ensures led { (m : OneMachine) → Stands self.old m → LedTo (options_in self.old) m (turn_of slot) self.new result }
+        ensures led { (m : OneMachine) → Stands self.old m
+            → LedTo (options_in self.old) m (turn_of slot) self.new result }
     {
         match self.take(slot) {
             Ok(_) => self.finish(slot),
@@ -176,7 +184,8 @@ impl Machine {
     /// The same for each of these slots, one after another.
     fn turns(&mut self, slots: &[u32]) -> Result<(), Memory>
         ensures options { options_in self.new ≡ options_in self.old }
-        ensures led { (m : OneMachine) → Stands self.old m → LedTo (options_in self.old) m (turns_at slots.now) self.new result }
+        ensures led { (m : OneMachine) → Stands self.old m
+            → LedTo (options_in self.old) m (turns_at slots.now) self.new result }
     {
         for slot in slots {
             match self.turn(*slot) {
@@ -197,9 +206,10 @@ impl Machine {
     /// These slots are taken and finished, and the rows told.
     fn sync_at(&mut self, slots: &[u32]) -> Result<FullList, Memory>
         ensures options { options_in self.new ≡ options_in self.old }
-        ensures led { (m : OneMachine) → Stands self.old m → LedTo (options_in self.old) m (turns_at slots.now) self.new result }
-        ensures full { (m : OneMachine) → Stands self.old m
-            → IfOk result (ListsRows (options_in self.old) (machine_from (options_in self.old) m (turns_at slots.now)).history) }
+        ensures led { (m : OneMachine) → Stands self.old m
+            → LedTo (options_in self.old) m (turns_at slots.now) self.new result }
+        ensures full { (m : OneMachine) → Stands self.old m → IfOk result
+            (ListsRows (options_in self.old) (machine_from (options_in self.old) m (turns_at slots.now)).history) }
     {
         match self.turns(slots) {
             Ok(_) => self.full(),
@@ -213,9 +223,10 @@ impl Machine {
     /// The one error is want of memory. Then some slots were finished, from the first on.
     pub fn sync(&mut self) -> Result<FullList, Memory>
         ensures options { options_in self.new ≡ options_in self.old }
-        ensures led { (m : OneMachine) → Stands self.old m → LedTo (options_in self.old) m (turns_in (options_in self.old) m.history) self.new result }
-        ensures full { (m : OneMachine) → Stands self.old m
-            → IfOk result (ListsRows (options_in self.old) (machine_from (options_in self.old) m (turns_in (options_in self.old) m.history)).history) }
+        ensures led { (m : OneMachine) → Stands self.old m
+            → LedTo (options_in self.old) m (turns_in (options_in self.old) m.history) self.new result }
+        ensures full { (m : OneMachine) → Stands self.old m → IfOk result (ListsRows (options_in self.old)
+            (machine_from (options_in self.old) m (turns_in (options_in self.old) m.history)).history) }
     {
         match slots_of(self.alloc, self.repo().endpoints()) {
             Ok(slots) => self.sync_at(slots.as_slice()),

@@ -88,7 +88,8 @@ pub(crate) fn look<L: Ledger>(
     query: &Query,
     steps: &mut Steps<L>,
 ) -> Reply
-    ensures found { result ≡ reply_found (look_row commits query.now (option_map row_held (by_name rows.now query.now.endpoint))) }
+    ensures found { result
+        ≡ reply_found (look_row commits query.now (option_map row_held (by_name rows.now query.now.endpoint))) }
     ensures forward { steps.old ≤ steps.new }
     ensures cost { steps.new ≤ steps.old + 36 }
 {

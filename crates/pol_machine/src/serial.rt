@@ -18,7 +18,8 @@ use std::sync::ledger::Ledger;
 
 /// Why the packet is allowed or denied, in the present state.
 fn explained(alloc: Global, machine: &Machine, query: &Query) -> Result<SerialAnswer, Memory>
-    ensures { (m : OneMachine) → Stands machine.now m → SaidTo (options_in machine.now) m (question.Explain query.now) result }
+    ensures { (m : OneMachine) → Stands machine.now m
+        → SaidTo (options_in machine.now) m (question.Explain query.now) result }
 {
     let repo = machine.repo();
     let revision = repo.revision();
@@ -32,7 +33,8 @@ fn explained(alloc: Global, machine: &Machine, query: &Query) -> Result<SerialAn
 /// The slot of each live endpoint is taken and finished.
 fn synced(machine: &mut Machine) -> Result<SerialAnswer, Memory>
     ensures options { options_in machine.new ≡ options_in machine.old }
-    ensures led { (m : OneMachine) → Stands machine.old m → LedTo (options_in machine.old) m (events_of (options_in machine.old) m question.Sync) machine.new result }
+    ensures led { (m : OneMachine) → Stands machine.old m
+        → LedTo (options_in machine.old) m (events_of (options_in machine.old) m question.Sync) machine.new result }
     ensures said { (m : OneMachine) → Stands machine.old m → SaidTo (options_in machine.old) m question.Sync result }
 {
     let revision = machine.repo().revision();
@@ -50,8 +52,10 @@ fn replied<L: Ledger>(
 ) -> Result<SerialAnswer, Memory>
     requires given { IsGiven event }
     ensures options { options_in machine.new ≡ options_in machine.old }
-    ensures led { (m : OneMachine) → Stands machine.old m → LedTo (options_in machine.old) m (event ∷ []) machine.new result }
-    ensures said { (m : OneMachine) → Stands machine.old m → IfOk result (λ said. said ≡ told.Replied (step_of (options_in machine.old) m event).0) }
+    ensures led { (m : OneMachine) → Stands machine.old m
+        → LedTo (options_in machine.old) m (event ∷ []) machine.new result }
+    ensures said { (m : OneMachine) → Stands machine.old m
+        → IfOk result (λ said. said ≡ told.Replied (step_of (options_in machine.old) m event).0) }
 {
     match machine.step(event, steps) {
         Ok(reply) => Ok(SerialAnswer::Replied(reply)),
@@ -72,7 +76,8 @@ pub fn answer<L: Ledger>(
 ) -> Result<SerialAnswer, Memory>
     requires short { IsShortAsked asked }
     ensures options { options_in machine.new ≡ options_in machine.old }
-    ensures led { (m : OneMachine) → Stands machine.old m → LedTo (options_in machine.old) m (events_of (options_in machine.old) m asked) machine.new result }
+    ensures led { (m : OneMachine) → Stands machine.old m
+        → LedTo (options_in machine.old) m (events_of (options_in machine.old) m asked) machine.new result }
     ensures said { (m : OneMachine) → Stands machine.old m → SaidTo (options_in machine.old) m asked result }
 {
     match asked {

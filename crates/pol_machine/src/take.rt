@@ -49,7 +49,8 @@ pub(crate) fn take(
     slot: u32,
 ) -> Result<Reply, Memory>
     requires idle { repo.now.prepared ≡ None }
-    requires kept { IfSome (since_of (by_name rows.now) (endpoint_in slot (state_in repo.now).endpoints)) (λ revision. revision ≤ (state_in repo.now).revision) }
+    requires kept { IfSome (since_of (by_name rows.now) (endpoint_in slot (state_in repo.now).endpoints)) (λ revision.
+        revision ≤ (state_in repo.now).revision) }
     ensures { WhatTakes repo.now (by_name rows.now) slot (by_slot takes.old) (by_slot takes.new) result }
 {
     let since = since(rows, repo, slot);

@@ -166,7 +166,8 @@ impl ChangeList {
     /// Leaves out each `Clear` of a key that `base` doesn't name: of a table that has no other keys than those, the list
     /// makes what it made before. It takes no memory.
     pub fn leave_out_clears(&mut self, base: &ChangeList)
-        ensures leads { (table : PolicyMap) → HasOnlyKeysOf base.now table → changed self.new table ≡ changed self.old table }
+        ensures leads { (table : PolicyMap)
+            → HasOnlyKeysOf base.now table → changed self.new table ≡ changed self.old table }
         ensures few { AreFew base.now self.new }
         ensures ascending { IsAscending self.new }
     {
@@ -180,8 +181,10 @@ impl ChangeList {
     /// memory.
     pub fn then(&self, alloc: Global, later: &ChangeList) -> Result<ChangeList, Memory>
         ensures ascending { IfOk result (λ both. IsAscending both) }
-        ensures keys { IfOk result (λ both. (key : MapKey) → said both key ≡ option_or (said later.now key) (said self.now key)) }
-        ensures leads { IfOk result (λ both. (table : PolicyMap) → changed both table ≡ changed later.now (changed self.now table)) }
+        ensures keys { IfOk result (λ both.
+            (key : MapKey) → said both key ≡ option_or (said later.now key) (said self.now key)) }
+        ensures leads { IfOk result (λ both.
+            (table : PolicyMap) → changed both table ≡ changed later.now (changed self.now table)) }
     {
         let changes = merged(alloc, self.as_slice(), later.as_slice())?;
         Ok(ChangeList { changes })

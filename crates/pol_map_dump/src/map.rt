@@ -34,7 +34,8 @@ pub struct MapText {
 /// The map of the endpoint of that name, or that none is live after so many commits.
 pub(crate) fn map_of(alloc: Global, repo: &Repo, name: &str) -> Result<MapText, Memory>
     requires { repo.now.prepared ≡ None }
-    ensures text { IfOk result (λ map. map.text.items ≡ map_text_in repo.now.options (state_in repo.now) (endpoint_of name.now (state_in repo.now).endpoints)) }
+    ensures text { IfOk result (λ map. map.text.items
+        ≡ map_text_in repo.now.options (state_in repo.now) (endpoint_of name.now (state_in repo.now).endpoints)) }
     ensures live { IfOk result (λ map. map.live ≡ is_some (endpoint_of name.now (state_in repo.now).endpoints)) }
 {
     match repo.endpoint(name) {
@@ -56,7 +57,8 @@ fn no_map(alloc: Global, revision: u64) -> Result<MapText, Memory>
 fn map_in_slot(alloc: Global, repo: &Repo, endpoint: &Endpoint) -> Result<MapText, Memory>
     requires idle { repo.now.prepared ≡ None }
     requires slot { endpoint_in endpoint.now.slot (state_in repo.now).endpoints ≡ Some endpoint.now }
-    ensures text { IfOk result (λ map. map.text.items ≡ table_text (policy_map repo.now.options (state_in repo.now) endpoint.now)) }
+    ensures text { IfOk result (λ map.
+        map.text.items ≡ table_text (policy_map repo.now.options (state_in repo.now) endpoint.now)) }
     ensures live { IfOk result (λ map. map.live ≡ true) }
 {
     match repo.take(alloc, endpoint.slot, None) {

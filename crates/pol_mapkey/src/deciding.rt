@@ -19,7 +19,8 @@ impl Word {
     /// either denies, and else an allow on either allows (profile: how the keys of two identities are weighed).
     pub fn of(own: Option<Kind>, every: Option<Kind>) -> Word
         ensures kinds { result ≡ word_of_kinds own every }
-        ensures entries { (a b : Option Entry) → own ≡ option_map (λ e. e.1) a → every ≡ option_map (λ e. e.1) b → result ≡ word_of a b }
+        ensures entries { (a b : Option Entry)
+            → own ≡ option_map (λ e. e.1) a → every ≡ option_map (λ e. e.1) b → result ≡ word_of a b }
     {
         if denies(own) || denies(every) {
             Word::DeniedByRule

@@ -32,13 +32,14 @@ pub fn covers_is_a_partial_order()
 
 /// A key covers another of its identity exactly where it covers each packet that the other covers.
 pub fn covers_is_of_packets()
-    ensures { (a b : MapKey) → (covers a b ≡ true)
-        ↔ ((a.id ≡ b.id) × ((dir : Direction) (proto : Proto) (port : ℕ) → covers_packet b dir proto port ≡ true → covers_packet a dir proto port ≡ true)) }
+    ensures { (a b : MapKey) → (covers a b ≡ true) ↔ ((a.id ≡ b.id) × ((dir : Direction) (proto : Proto) (port : ℕ)
+        → covers_packet b dir proto port ≡ true → covers_packet a dir proto port ≡ true)) }
 {}
 
 /// The keys of one identity that cover a packet form a chain: of each two, one covers the other.
 pub fn keys_of_a_packet_form_a_chain()
-    ensures { (a b : MapKey) (dir : Direction) (proto : Proto) (port : ℕ) → a.id ≡ b.id → covers_packet a dir proto port ≡ true
+    ensures { (a b : MapKey) (dir : Direction) (proto : Proto) (port : ℕ)
+        → a.id ≡ b.id → covers_packet a dir proto port ≡ true
         → covers_packet b dir proto port ≡ true → (covers a b ≡ true) ⊎ (covers b a ≡ true) }
 {}
 
@@ -46,13 +47,13 @@ pub fn keys_of_a_packet_form_a_chain()
 /// cover.
 pub fn there_is_a_longest()
     ensures { (entries : List Entry) (dir : Direction) (id : ℕ) (proto : Proto) (port : ℕ)
-        → MatchOption (longest entries dir id proto port)
-        (All (λ e. reaches dir id proto port e ≡ true → ⊥) entries)
-        (λ e. Contains entries e × (reaches dir id proto port e ≡ true) × All (λ f. reaches dir id proto port f ≡ true → covers f.0 e.0 ≡ true) entries) }
+        → MatchOption (longest entries dir id proto port) (All (λ e.
+        reaches dir id proto port e ≡ true → ⊥) entries) (λ e. Contains entries e × (reaches dir id proto port e ≡ true)
+        × All (λ f. reaches dir id proto port f ≡ true → covers f.0 e.0 ≡ true) entries) }
 {}
 
 /// What a map says doesn't depend on the order of its entries, where each key stands once.
 pub fn reading_is_of_the_entries()
-    ensures { (xs ys : List Entry) (dir : Direction) (id : ℕ) (proto : Proto) (port : ℕ) → EachKeyOnce xs
-        → ((e : Entry) → Contains xs e ↔ Contains ys e) → read_map xs dir id proto port ≡ read_map ys dir id proto port }
+    ensures { (xs ys : List Entry) (dir : Direction) (id : ℕ) (proto : Proto) (port : ℕ) → EachKeyOnce xs → ((e : Entry)
+        → Contains xs e ↔ Contains ys e) → read_map xs dir id proto port ≡ read_map ys dir id proto port }
 {}

@@ -32,7 +32,8 @@ pub fn keys_of_a_map_ascend()
 /// A map has a key exactly where a raw entry has it, and no raw deny of the same direction and identity
 /// covers it strictly.
 pub fn which_keys_a_map_has()
-    ensures { (raw : List Entry) (key : MapKey) → HasKey (canonical raw) key ↔ (HasKey raw key × IsUnderNoDeny raw key) }
+    ensures { (raw : List Entry) (key : MapKey)
+        → HasKey (canonical raw) key ↔ (HasKey raw key × IsUnderNoDeny raw key) }
 {}
 
 /// A key of a map is a deny exactly where some raw entry of it is one.
@@ -59,28 +60,31 @@ pub fn a_map_is_of_its_peers_sets()
 
 /// In no state is the number 0 allocated, which stands for every identity in a map.
 pub fn zero_is_no_identity()
-    ensures { (options : AllOptions) (requests : List OneRequest) → All (λ row. 0 < row.number) (state_of options requests).identities }
+    ensures { (options : AllOptions) (requests : List OneRequest)
+        → All (λ row. 0 < row.number) (state_of options requests).identities }
 {}
 
 /// The size of a map is the number of its entries.
 pub fn size_of_a_map()
-    ensures { (options : AllOptions) (s : State) (endpoint : OneEndpoint) → map_size options s endpoint ≡ length (policy_map options s endpoint) }
+    ensures { (options : AllOptions) (s : State) (endpoint : OneEndpoint)
+        → map_size options s endpoint ≡ length (policy_map options s endpoint) }
 {}
 
 /// Maps written out: of an endpoint that one identity may reach on TCP port 80, then may not, and then may
 /// again; of one that all may reach on that port, allocated or not; of one that a prefix may reach, which lies
 /// in a denied world; and of one that may reach a prefix, but for a part of it.
 pub fn maps_written_out()
-    ensures let_in { map_after (codes "web") x_let_in
-        ≡ Some ((every_key Ingress 1, Allow) ∷ (port_key Ingress 257 Tcp (prefix_at 80 16), Allow) ∷ (every_key Egress 0, Allow) ∷ []) }
+    ensures let_in { map_after (codes "web") x_let_in ≡ Some ((every_key Ingress 1, Allow)
+        ∷ (port_key Ingress 257 Tcp (prefix_at 80 16), Allow) ∷ (every_key Egress 0, Allow) ∷ []) }
     ensures denied { map_after (codes "web") x_denied
         ≡ Some ((every_key Ingress 1, Allow) ∷ (every_key Ingress 257, Deny) ∷ (every_key Egress 0, Allow) ∷ []) }
-    ensures let_in_again { map_after (codes "web") x_let_in_again
-        ≡ Some ((every_key Ingress 1, Allow) ∷ (port_key Ingress 257 Tcp (prefix_at 80 16), Allow) ∷ (every_key Egress 0, Allow) ∷ []) }
-    ensures all { map_after (codes "web") all_let_in
-        ≡ Some ((port_key Ingress 0 Tcp (prefix_at 80 16), Allow) ∷ (every_key Ingress 1, Allow) ∷ (every_key Egress 0, Allow) ∷ []) }
+    ensures let_in_again { map_after (codes "web") x_let_in_again ≡ Some ((every_key Ingress 1, Allow)
+        ∷ (port_key Ingress 257 Tcp (prefix_at 80 16), Allow) ∷ (every_key Egress 0, Allow) ∷ []) }
+    ensures all { map_after (codes "web") all_let_in ≡ Some ((port_key Ingress 0 Tcp (prefix_at 80 16), Allow)
+        ∷ (every_key Ingress 1, Allow) ∷ (every_key Egress 0, Allow) ∷ []) }
     ensures world { map_after (codes "web") net_of_denied_world
-        ≡ Some ((every_key Ingress 1, Allow) ∷ (every_key Ingress 2, Deny) ∷ (every_key Ingress 9, Deny) ∷ (every_key Ingress 10, Deny) ∷ (every_key Ingress 16777217, Deny) ∷ (every_key Egress 0, Allow) ∷ []) }
+        ≡ Some ((every_key Ingress 1, Allow) ∷ (every_key Ingress 2, Deny) ∷ (every_key Ingress 9, Deny)
+        ∷ (every_key Ingress 10, Deny) ∷ (every_key Ingress 16777217, Deny) ∷ (every_key Egress 0, Allow) ∷ []) }
     ensures net { map_after (codes "web") net_without_part
         ≡ Some ((every_key Ingress 0, Allow) ∷ (every_key Ingress 1, Allow) ∷ (every_key Egress 16777217, Allow) ∷ []) }
 {}
@@ -98,11 +102,15 @@ pub fn sizes_written_out()
 pub fn words_of_addresses()
     ensures inside { word_after (codes "web") net_without_part Egress (addr_of_octets 10 0 0 1) ≡ Some Allowed }
     ensures part { word_after (codes "web") net_without_part Egress (addr_of_octets 10 1 0 1) ≡ Some DeniedByDefault }
-    ensures outside { word_after (codes "web") net_without_part Egress (addr_of_octets 11 0 0 1) ≡ Some DeniedByDefault }
-    ensures denied { word_after (codes "web") net_of_denied_world Ingress (addr_of_octets 10 0 0 1) ≡ Some DeniedByRule }
-    ensures endpoint { word_after (codes "web") net_of_denied_world Ingress (addr_of_octets 192 168 0 1) ≡ Some DeniedByDefault }
+    ensures outside { word_after (codes "web") net_without_part Egress (addr_of_octets 11 0 0 1)
+        ≡ Some DeniedByDefault }
+    ensures denied { word_after (codes "web") net_of_denied_world Ingress (addr_of_octets 10 0 0 1)
+        ≡ Some DeniedByRule }
+    ensures endpoint { word_after (codes "web") net_of_denied_world Ingress (addr_of_octets 192 168 0 1)
+        ≡ Some DeniedByDefault }
     ensures cluster_inside { word_after (codes "web") cluster_let_in Ingress (addr_of_octets 10 0 0 9) ≡ Some Allowed }
-    ensures cluster_outside { word_after (codes "web") cluster_let_in Ingress (addr_of_octets 11 0 0 1) ≡ Some DeniedByDefault }
+    ensures cluster_outside { word_after (codes "web") cluster_let_in Ingress (addr_of_octets 11 0 0 1)
+        ≡ Some DeniedByDefault }
 {}
 
 /// An address has the number of its endpoint, else of the longest held prefix around it, else of the world of its family.

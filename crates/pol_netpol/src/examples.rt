@@ -33,43 +33,60 @@ pub fn types_have_defaults()
 
 /// A `podSelector` beside a `namespaceSelector` asks for both, and isn't a peer of its own.
 pub fn selectors_of_one_peer_are_both_met()
-    ensures both { peer_takes (codes "default") (pods_in (asking (codes "app") (codes "web")) (asking (codes "team") (codes "red"))) (row (pod_of_team (codes "other") (codes "web") (codes "red")) None) ≡ true }
-    ensures pods_alone { peer_takes (codes "default") (pods_in (asking (codes "app") (codes "web")) (asking (codes "team") (codes "red"))) (row (pod_of_team (codes "default") (codes "web") (codes "blue")) None) ≡ false }
-    ensures namespaces_alone { peer_takes (codes "default") (pods_in (asking (codes "app") (codes "web")) (asking (codes "team") (codes "red"))) (row (pod_of_team (codes "other") (codes "db") (codes "red")) None) ≡ false }
-    ensures own_namespace { peer_takes (codes "default") (pods (asking (codes "app") (codes "web"))) (row (pod (codes "other") (codes "web")) None) ≡ false }
+    ensures both { peer_takes (codes "default") (pods_in (asking (codes "app") (codes "web")) (asking
+        (codes "team") (codes "red"))) (row (pod_of_team (codes "other") (codes "web") (codes "red")) None) ≡ true }
+    ensures pods_alone { peer_takes (codes "default") (pods_in (asking (codes "app") (codes "web")) (asking
+        (codes "team") (codes "red"))) (row (pod_of_team (codes "default") (codes "web") (codes "blue")) None) ≡ false }
+    ensures namespaces_alone { peer_takes (codes "default") (pods_in (asking (codes "app") (codes "web")) (asking
+        (codes "team") (codes "red"))) (row (pod_of_team (codes "other") (codes "db") (codes "red")) None) ≡ false }
+    ensures own_namespace { peer_takes (codes "default")
+        (pods (asking (codes "app") (codes "web"))) (row (pod (codes "other") (codes "web")) None) ≡ false }
 {}
 
 /// A `namespaceSelector` that asks nothing selects the pods of every namespace, and nothing but pods.
 pub fn empty_namespace_selectors_select_pods()
-    ensures every_pod { peer_takes (codes "default") (namespaces anything) (row (pod (codes "other") (codes "web")) None) ≡ true }
+    ensures every_pod { peer_takes (codes "default")
+        (namespaces anything) (row (pod (codes "other") (codes "web")) None) ≡ true }
     ensures no_pod { peer_takes (codes "default") (namespaces anything) (net 1) ≡ false }
 {}
 
 /// An expression whose operator isn't known is met by nothing, whatever the labels; no object that is accepted has one.
 pub fn unknown_operators_select_nothing()
-    ensures has { (labels : List Label) → meets (of_pod labels) (record { labels = []; expressions = record { key = codes "app"; operator = codes "Has"; values = [] } ∷ [] }) ≡ false }
-    ensures of_another_case { (labels : List Label) → meets (of_pod labels) (record { labels = []; expressions = record { key = codes "app"; operator = codes "exists"; values = [] } ∷ [] }) ≡ false }
+    ensures has { (labels : List Label) → meets (of_pod labels)
+        (record { labels = []; expressions = record { key = codes "app"; operator = codes "Has"; values = [] } ∷ [] })
+        ≡ false }
+    ensures of_another_case { (labels : List Label) → meets (of_pod labels)
+        (record { labels = []; expressions = record { key = codes "app"; operator = codes "exists"; values = [] } ∷ [] })
+        ≡ false }
 {}
 
 /// An `ipBlock` takes what lies in its range, but nothing that lies in an exception, and no pod.
 pub fn blocks_except()
-    ensures within { peer_takes (codes "default") (block (codes "10.0.0.0/8") (codes "10.1.0.0/16" ∷ [])) (net 2) ≡ true }
-    ensures excepted { peer_takes (codes "default") (block (codes "10.0.0.0/8") (codes "10.1.0.0/16" ∷ [])) (net 1) ≡ false }
-    ensures no_prefix { peer_takes (codes "default") (block (codes "0.0.0.0/0") []) (row (pod (codes "default") (codes "web")) None) ≡ false }
+    ensures within { peer_takes (codes "default") (block (codes "10.0.0.0/8") (codes "10.1.0.0/16" ∷ [])) (net 2)
+        ≡ true }
+    ensures excepted { peer_takes (codes "default") (block (codes "10.0.0.0/8") (codes "10.1.0.0/16" ∷ [])) (net 1)
+        ≡ false }
+    ensures no_prefix { peer_takes (codes "default")
+        (block (codes "0.0.0.0/0") []) (row (pod (codes "default") (codes "web")) None) ≡ false }
 {}
 
 /// A range takes nothing of the other family, not even 0.0.0.0/0 or ::/0 does; and an exception of the other family doesn't lie
 /// inside its range ('profile').
 pub fn blocks_are_of_one_family()
-    ensures within { peer_takes (codes "default") (block (codes "2001:db8::/32") (codes "2001:DB8:1::/48" ∷ [])) (net6 2) ≡ true }
-    ensures excepted { peer_takes (codes "default") (block (codes "2001:db8::/32") (codes "2001:DB8:1::/48" ∷ [])) (net6 1) ≡ false }
+    ensures within { peer_takes (codes "default")
+        (block (codes "2001:db8::/32") (codes "2001:DB8:1::/48" ∷ [])) (net6 2) ≡ true }
+    ensures excepted { peer_takes (codes "default")
+        (block (codes "2001:db8::/32") (codes "2001:DB8:1::/48" ∷ [])) (net6 1) ≡ false }
     ensures ipv6_world { peer_takes (codes "default") (block (codes "::/0") []) (net6 1) ≡ true }
     ensures not_ipv4 { peer_takes (codes "default") (block (codes "::/0") []) (net 1) ≡ false }
     ensures not_ipv6 { peer_takes (codes "default") (block (codes "0.0.0.0/0") []) (net6 1) ≡ false }
     ensures same_family { first_fault (lets_block_in (codes "::/0") (codes "2001:db8::/32" ∷ [])) ≡ None }
-    ensures except_of_ipv6 { first_fault (lets_block_in (codes "10.0.0.0/8") (codes "2001:db8::/32" ∷ [])) ≡ Some (fault_at (Some (section.Ingress, 0)) rule.ExceptOutside) }
-    ensures except_of_ipv4 { first_fault (lets_block_in (codes "::/0") (codes "10.0.0.0/8" ∷ [])) ≡ Some (fault_at (Some (section.Ingress, 0)) rule.ExceptOutside) }
-    ensures bad_text { first_fault (lets_block_in (codes "1::2::3/64") []) ≡ Some (fault_at (Some (section.Ingress, 0)) rule.BadCidr) }
+    ensures except_of_ipv6 { first_fault (lets_block_in (codes "10.0.0.0/8") (codes "2001:db8::/32" ∷ []))
+        ≡ Some (fault_at (Some (section.Ingress, 0)) rule.ExceptOutside) }
+    ensures except_of_ipv4 { first_fault (lets_block_in (codes "::/0") (codes "10.0.0.0/8" ∷ []))
+        ≡ Some (fault_at (Some (section.Ingress, 0)) rule.ExceptOutside) }
+    ensures bad_text { first_fault (lets_block_in (codes "1::2::3/64") [])
+        ≡ Some (fault_at (Some (section.Ingress, 0)) rule.BadCidr) }
 {}
 
 /// A port without a protocol is of TCP alone; without `endPort` it is one port, and without `port` every port.
@@ -85,14 +102,22 @@ pub fn ports_have_defaults()
 /// Each fault of an object.
 pub fn objects_are_refused()
     ensures no_subject { first_fault (record deny { subject = None }) ≡ Some (fault_at None rule.NoSelector) }
-    ensures bad_selector { first_fault (object (asking (codes "k8s:app") (codes "db")) [] [] []) ≡ Some (fault_at None rule.BadSelector) }
-    ensures bad_type { first_fault (object anything (codes "ingress" ∷ []) [] []) ≡ Some (fault_at None rule.BadPolicyType) }
-    ensures no_member { first_fault (object anything [] (entry (bare ∷ []) [] ∷ []) []) ≡ Some (fault_at (Some (section.Ingress, 0)) rule.BadPeer) }
-    ensures bad_protocol { first_fault (object anything [] [] (entry [] [] ∷ entry [] (port_with (codes "tcp") 80 ∷ []) ∷ [])) ≡ Some (fault_at (Some (section.Egress, 1)) rule.BadProtocol) }
-    ensures port_zero { first_fault (object anything [] (entry [] (port (Some 0) None ∷ []) ∷ []) []) ≡ Some (fault_at (Some (section.Ingress, 0)) rule.BadPort) }
-    ensures end_below { first_fault (object anything [] (entry [] (port (Some 80) (Some 79) ∷ []) ∷ []) []) ≡ Some (fault_at (Some (section.Ingress, 0)) rule.BadEndPort) }
-    ensures end_alone { first_fault (object anything [] (entry [] (port None (Some 79) ∷ []) ∷ []) []) ≡ Some (fault_at (Some (section.Ingress, 0)) rule.BadEndPort) }
-    ensures by_number { first_fault (object anything [] (entry (bare ∷ []) (port (Some 0) None ∷ []) ∷ []) []) ≡ Some (fault_at (Some (section.Ingress, 0)) rule.BadPort) }
+    ensures bad_selector { first_fault (object (asking (codes "k8s:app") (codes "db")) [] [] [])
+        ≡ Some (fault_at None rule.BadSelector) }
+    ensures bad_type { first_fault (object anything (codes "ingress" ∷ []) [] [])
+        ≡ Some (fault_at None rule.BadPolicyType) }
+    ensures no_member { first_fault (object anything [] (entry (bare ∷ []) [] ∷ []) [])
+        ≡ Some (fault_at (Some (section.Ingress, 0)) rule.BadPeer) }
+    ensures bad_protocol { first_fault (object anything [] [] (entry [] [] ∷ entry [] (port_with (codes "tcp") 80 ∷ [])
+        ∷ [])) ≡ Some (fault_at (Some (section.Egress, 1)) rule.BadProtocol) }
+    ensures port_zero { first_fault (object anything [] (entry [] (port (Some 0) None ∷ []) ∷ []) [])
+        ≡ Some (fault_at (Some (section.Ingress, 0)) rule.BadPort) }
+    ensures end_below { first_fault (object anything [] (entry [] (port (Some 80) (Some 79) ∷ []) ∷ []) [])
+        ≡ Some (fault_at (Some (section.Ingress, 0)) rule.BadEndPort) }
+    ensures end_alone { first_fault (object anything [] (entry [] (port None (Some 79) ∷ []) ∷ []) [])
+        ≡ Some (fault_at (Some (section.Ingress, 0)) rule.BadEndPort) }
+    ensures by_number { first_fault (object anything [] (entry (bare ∷ []) (port (Some 0) None ∷ []) ∷ []) [])
+        ≡ Some (fault_at (Some (section.Ingress, 0)) rule.BadPort) }
     ensures none { first_fault web_to_db ≡ None }
 {}
 

@@ -23,5 +23,6 @@ pub fn what_is_read_keeps_its_meaning()
 pub fn keys_of_documents_have_their_forms()
     ensures key { (d : Data) (policy : Policy) → netpol_of d ≡ Ok policy → policy.key ≡ key_of d }
     ensures name { (d : Data) (policy : Policy) → netpol_of d ≡ Ok policy → IsTrue (is_dns_name (network_name d)) }
-    ensures namespace { (d : Data) (policy : Policy) → netpol_of d ≡ Ok policy → IsTrue (is_dns_name (network_namespace d)) }
+    ensures namespace { (d : Data) (policy : Policy)
+        → netpol_of d ≡ Ok policy → IsTrue (is_dns_name (network_namespace d)) }
 {}

@@ -99,7 +99,8 @@ fn push_expressions(
     expressions: &[RawExpression],
     asked: &mut Vec<Requirement>,
 ) -> Result<(), Memory>
-    ensures { OnOk result (asked.new.items ≡ asked.old.items ++ filter_map (expression_requirement front.now) expressions.now) }
+    ensures { OnOk result (asked.new.items
+        ≡ asked.old.items ++ filter_map (expression_requirement front.now) expressions.now) }
 {
     for expression in expressions {
         if let Some(requirement) = expression_requirement(alloc, front, expression)? {

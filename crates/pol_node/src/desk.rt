@@ -92,11 +92,13 @@ impl<N: NodeName, R: Wait + Drop> Desk<N, R> {
         requires handed_out { has N.passes pass.old.number ≡ true }
         requires short { IsShort request }
         ensures grows { OnOk result (PassGrowsWhole N.options pass.old pass.new (request ∷ [])) }
-        ensures accepted { IfOk result (IsAccepted N.options pass.old.number pass.old.has.history pass.new.has.history request) }
+        ensures accepted { IfOk result
+            (IsAccepted N.options pass.old.number pass.old.has.history pass.new.has.history request) }
         ensures nothing { OnErr result (PassGrowsWhole N.options pass.old pass.new []) }
         ensures cause { IfErr result (IsCauseOf N.options pass.old.has.history pass.new.has.history request) }
         ensures stays { OnErr result (self.new.writer.seen ≡ self.old.writer.seen) }
-        ensures cost { is_of_policy request ≡ false → steps.new ≤ steps.old + label_peers (state_now N.options pass.new.has.history).policies }
+        ensures cost { is_of_policy request ≡ false
+            → steps.new ≤ steps.old + label_peers (state_now N.options pass.new.has.history).policies }
         ensures shown { pass.new.has.history ≡ self.new.writer.seen }
     {
         self.writer.show(rt, pass);
@@ -139,7 +141,8 @@ impl<N: NodeName, R: Wait + Drop> Desk<N, R> {
         query: &Query,
     ) -> Result<Traced, TraceError>
         ensures grows { PassGrowsWhole N.options pass.old pass.new [] }
-        ensures traced { IfOk result (λ traced. IsTraced N.options pass.old.has.history pass.new.has.history query.now traced.revision traced.trace) }
+        ensures traced { IfOk result (λ traced.
+            IsTraced N.options pass.old.has.history pass.new.has.history query.now traced.revision traced.trace) }
         ensures cause { IfErr result (IsNotTraced N.options pass.old.has.history pass.new.has.history query.now) }
         ensures stays { self.new.writer.seen ≡ self.old.writer.seen }
         ensures shown { pass.new.has.history ≡ self.new.writer.seen }
@@ -171,8 +174,10 @@ impl<N: NodeName, R: Wait + Drop> Desk<N, R> {
         ensures taken { IfOk result (IsTakenOf N.options (state_now N.options pass.new.has.history) slot) }
         ensures map { IfOk result (λ taken. distilled (arc_value taken.filters) taken.sets
             ≡ policy_map N.options (state_now N.options pass.new.has.history) taken.endpoint) }
-        ensures moves { IfOk result (λ taken. TellsMovesSince N.options (commits_in pass.new.has.history) since taken.sets taken.moves) }
-        ensures gone { IsErrOf result TakeError.Gone ↔ (endpoint_in slot (state_now N.options pass.new.has.history).endpoints ≡ None) }
+        ensures moves { IfOk result (λ taken.
+            TellsMovesSince N.options (commits_in pass.new.has.history) since taken.sets taken.moves) }
+        ensures gone { IsErrOf result TakeError.Gone
+            ↔ (endpoint_in slot (state_now N.options pass.new.has.history).endpoints ≡ None) }
         ensures stays { self.new.writer.seen ≡ self.old.writer.seen }
         ensures shown { pass.new.has.history ≡ self.new.writer.seen }
     {
@@ -197,13 +202,17 @@ impl<N: NodeName, R: Wait + Drop> Desk<N, R> {
         changes: &ChangeList,
     ) -> Result<Finished, Memory>
         requires revision { taken.now.revision ≡ revision_of pass.old.has.history }
-        requires taken { IsTakenOf N.options (state_now N.options pass.old.has.history) taken.now.endpoint.slot taken.now }
-        requires count { count ≡ length (policy_map N.options (state_now N.options pass.old.has.history) taken.now.endpoint) }
+        requires taken { IsTakenOf N.options
+            (state_now N.options pass.old.has.history) taken.now.endpoint.slot taken.now }
+        requires count { count
+            ≡ length (policy_map N.options (state_now N.options pass.old.has.history) taken.now.endpoint) }
         requires last { IfSome last (λ revision. revision ≤ revision_of pass.old.has.history) }
-        requires leads { changed changes.now (table_then N.options pass.old.has.history (endpoint_id taken.now.endpoint) last)
+        requires leads { changed changes.now
+            (table_then N.options pass.old.has.history (endpoint_id taken.now.endpoint) last)
             ≡ table_of (policy_map N.options (state_now N.options pass.old.has.history) taken.now.endpoint) }
         ensures grows { PassGrowsWhole N.options pass.old pass.new [] }
-        ensures finished { IfOk result (Finishes N.options (endpoint_id taken.now.endpoint) taken.now.revision count pass.old.has.history pass.new.has.history) }
+        ensures finished { IfOk result (Finishes N.options
+            (endpoint_id taken.now.endpoint) taken.now.revision count pass.old.has.history pass.new.has.history) }
         ensures nothing { OnErr result (self.new.writer.seen ≡ self.old.writer.seen) }
         ensures shown { pass.new.has.history ≡ self.new.writer.seen }
     {

@@ -49,7 +49,8 @@ fn told_again<N: NodeName>(
     seen: &Seen<N>,
 ) -> Result<Option<SyncReport>, Memory>
     requires tells { IsSynced N.options then.now then.now told.now.revision told.now.full }
-    ensures tells { IfOk result (λ again. IfSome again (λ report. IsSynced N.options seen.now seen.now report.revision report.full)) }
+    ensures tells { IfOk result (λ again.
+        IfSome again (λ report. IsSynced N.options seen.now seen.now report.revision report.full)) }
 {
     if !is_same(then, seen) {
         return Ok(None);
@@ -68,7 +69,8 @@ impl<N: NodeName> LastSync<N> {
 
     // What it told, where just this had been seen.
     fn again(&self, alloc: Global, seen: &Seen<N>) -> Result<Option<SyncReport>, Memory>
-        ensures tells { IfOk result (λ told. IfSome told (λ report. IsSynced N.options seen.now seen.now report.revision report.full)) }
+        ensures tells { IfOk result (λ told.
+            IfSome told (λ report. IsSynced N.options seen.now seen.now report.revision report.full)) }
     {
         told_again(alloc, &self.seen, &self.report, seen)
     }
@@ -81,7 +83,8 @@ pub(crate) fn told_last<N: NodeName, W: Wait>(
     last: &Mutex<Option<LastSync<N>>>,
     pass: &Pass<N>,
 ) -> Result<Option<SyncReport>, Memory>
-    ensures tells { IfOk result (λ told. IfSome told (λ report. IsSynced N.options pass.now.has.history pass.now.has.history report.revision report.full)) }
+    ensures tells { IfOk result (λ told. IfSome told (λ report.
+        IsSynced N.options pass.now.has.history pass.now.has.history report.revision report.full)) }
 {
     let seen = pass.seen();
     let last = last.lock(rt);

@@ -20,7 +20,8 @@ pub fn put_back(
     marks: Marks,
     told: Vec<Items<Answers>>,
 ) -> Result<Vec<Answer>, Memory>
-    ensures { IfOk result (λ answers. (lines : List OneReading) → marks ≡ map mark_of lines → answers.items ≡ answers_to lines told.items) }
+    ensures { IfOk result (λ answers.
+        (lines : List OneReading) → marks ≡ map mark_of lines → answers.items ≡ answers_to lines told.items) }
 {
     let mut left = Left::new(alloc, told);
     let mut answers = Vec::with_capacity(alloc, marks.count())?;
@@ -57,9 +58,11 @@ impl Left {
     // Puts the answer to the next line behind the others. The one error is want of memory.
     fn answer(&mut self, alloc: Global, mark: Mark, answers: &mut Vec<Answer>) -> Result<(), Memory>
         requires { self.old.number < 2 ^ 64 - 1 }
-        ensures answer { OnOk result (answers.new.items ≡ answers.old.items ++ answer_by self.old.number mark (self.old.current.items ∷ self.old.later.items) ∷ []) }
+        ensures answer { OnOk result (answers.new.items ≡ answers.old.items
+            ++ answer_by self.old.number mark (self.old.current.items ∷ self.old.later.items) ∷ []) }
         ensures number { self.new.number ≡ number_by self.old.number mark }
-        ensures told { IsLeft (told_by mark (self.old.current.items ∷ self.old.later.items)) self.new.current.items self.new.later.items }
+        ensures told { IsLeft
+            (told_by mark (self.old.current.items ∷ self.old.later.items)) self.new.current.items self.new.later.items }
     {
         match mark {
             Mark::Faulty(fault) => answers.push(Answer::BadLine(fault))?,
@@ -88,7 +91,8 @@ fn first_of(alloc: Global, later: &mut VecDeque<Items<Answers>>) -> Vec<Answers>
 
 // Puts the session's next answer behind the others. The one error is want of memory.
 fn push_next(lists: &mut Vec<Answers>, session: u8, answers: &mut Vec<Answer>) -> Result<(), Memory>
-    ensures answer { OnOk result (answers.new.items ≡ answers.old.items ++ first_answer (session_at lists.old.items session) ∷ []) }
+    ensures answer { OnOk result (answers.new.items
+        ≡ answers.old.items ++ first_answer (session_at lists.old.items session) ∷ []) }
     ensures rest { lists.new.items ≡ change_session session (λ answers. drop 1 answers) lists.old.items }
 {
     if session == 0 {

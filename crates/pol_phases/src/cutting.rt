@@ -50,7 +50,8 @@ impl Cutting {
 
     // One line more.
     fn take(&mut self, alloc: Global, sessions: u32, reading: Reading) -> Result<(), Memory>
-        ensures { OnOk result ((lines : List OneReading) → IsCut sessions lines self.old.ended.items self.old.current.items self.old.marks
+        ensures { OnOk result ((lines : List OneReading)
+            → IsCut sessions lines self.old.ended.items self.old.current.items self.old.marks
             → IsCut sessions (lines ++ reading ∷ []) self.new.ended.items self.new.current.items self.new.marks) }
     {
         match reading {
@@ -103,7 +104,8 @@ fn no_commands(alloc: Global, sessions: u32) -> Result<Vec<Commands>, Memory>
 // One command more of the session, if there is a list for it.
 fn add(lists: &mut Vec<Commands>, session: u8, command: Command) -> Result<(), Memory>
     requires { IsOfSession command }
-    ensures { OnOk result (lists.new.items ≡ change_session session (λ commands. commands ++ command ∷ []) lists.old.items) }
+    ensures { OnOk result (lists.new.items ≡ change_session session (λ commands.
+        commands ++ command ∷ []) lists.old.items) }
 {
     if session == 0 {
         return Ok(());

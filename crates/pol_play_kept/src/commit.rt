@@ -33,13 +33,16 @@ pub(crate) fn commit_line<D: Disk, L: Ledger>(
     requires read { asked_in line.now ≡ Some request }
     requires kept { IsKept D.seen D.may_leave disk.old machine.old }
     ensures options { options_in machine.new ≡ options_in machine.old }
-    ensures plays { (m : OneMachine) (session phase : ℕ) → Stands machine.old m → reading_of line.now ≡ Ok (asked.Commit session request)
-        → PlaysLine D.seen D.may_leave D.moment D.left_since m phase (reading_of line.now) disk.old machine.old disk.new machine.new result }
+    ensures plays { (m : OneMachine) (session phase : ℕ)
+        → Stands machine.old m → reading_of line.now ≡ Ok (asked.Commit session request)
+        → PlaysLine D.seen D.may_leave D.moment D.left_since m phase
+        (reading_of line.now) disk.old machine.old disk.new machine.new result }
     ensures kept { OnOk result (IsKept D.seen D.may_leave disk.new machine.new) }
 
     // The disk's calls.
-    ensures calls { (m : OneMachine) (session : ℕ) → Stands machine.old m → reading_of line.now ≡ Ok (asked.Commit session request)
-        → OnOk result (RunsFor D.does D.fails (calls_to_keep (accepted_by (options_in machine.old) m (reading_of line.now))) disk.old disk.new) }
+    ensures calls { (m : OneMachine) (session : ℕ) → Stands machine.old m
+        → reading_of line.now ≡ Ok (asked.Commit session request) → OnOk result (RunsFor D.does D.fails
+        (calls_to_keep (accepted_by (options_in machine.old) m (reading_of line.now))) disk.old disk.new) }
     ensures stops { IsErrOf result Stopped.Disk → StopsKeeping D.does D.fails D.seen line.now disk.old disk.new }
 
     // The disk's faults.

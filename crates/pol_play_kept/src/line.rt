@@ -44,11 +44,11 @@ fn answer_other<D: Disk, L: Ledger>(
     requires other { is_commit command ≡ false }
     requires kept { IsKept D.seen D.may_leave _disk.old machine.old }
     ensures options { options_in machine.new ≡ options_in machine.old }
-    ensures plays { (m : OneMachine) → Stands machine.old m
-        → PlaysLine D.seen D.may_leave D.moment D.left_since m phase (reading_of _line.now) _disk.old machine.old _disk.new machine.new result }
+    ensures plays { (m : OneMachine) → Stands machine.old m → PlaysLine D.seen D.may_leave D.moment D.left_since m phase
+        (reading_of _line.now) _disk.old machine.old _disk.new machine.new result }
     ensures kept { OnOk result (IsKept D.seen D.may_leave _disk.new machine.new) }
-    ensures calls { (m : OneMachine) → Stands machine.old m
-        → OnOk result (RunsFor D.does D.fails (calls_to_keep (accepted_by (options_in machine.old) m (reading_of _line.now))) _disk.old _disk.new) }
+    ensures calls { (m : OneMachine) → Stands machine.old m → OnOk result (RunsFor D.does D.fails
+        (calls_to_keep (accepted_by (options_in machine.old) m (reading_of _line.now))) _disk.old _disk.new) }
     ensures memory { IsErrOf result Stopped.Disk → ⊥ }
     ensures same { _disk.new ≡ _disk.old }
 {
@@ -71,13 +71,13 @@ fn answer_read<D: Disk, L: Ledger>(
     requires read { reading_of line.now ≡ Ok command }
     requires kept { IsKept D.seen D.may_leave disk.old machine.old }
     ensures options { options_in machine.new ≡ options_in machine.old }
-    ensures plays { (m : OneMachine) → Stands machine.old m
-        → PlaysLine D.seen D.may_leave D.moment D.left_since m phase (reading_of line.now) disk.old machine.old disk.new machine.new result }
+    ensures plays { (m : OneMachine) → Stands machine.old m → PlaysLine D.seen D.may_leave D.moment D.left_since m phase
+        (reading_of line.now) disk.old machine.old disk.new machine.new result }
     ensures kept { OnOk result (IsKept D.seen D.may_leave disk.new machine.new) }
 
     // The disk's calls.
-    ensures calls { (m : OneMachine) → Stands machine.old m
-        → OnOk result (RunsFor D.does D.fails (calls_to_keep (accepted_by (options_in machine.old) m (reading_of line.now))) disk.old disk.new) }
+    ensures calls { (m : OneMachine) → Stands machine.old m → OnOk result (RunsFor D.does D.fails
+        (calls_to_keep (accepted_by (options_in machine.old) m (reading_of line.now))) disk.old disk.new) }
     ensures stops { IsErrOf result Stopped.Disk → StopsKeeping D.does D.fails D.seen line.now disk.old disk.new }
 
     // The disk's faults.
@@ -130,13 +130,13 @@ pub fn answer_line<D: Disk, L: Ledger>(
 
     // The answer is that of the serial run, and a crash at any moment leaves a journal of the requests before, or of these with what
     // the line accepts.
-    ensures plays { (m : OneMachine) → Stands machine.old m
-        → PlaysLine D.seen D.may_leave D.moment D.left_since m phase (reading_of line.now) disk.old machine.old disk.new machine.new result }
+    ensures plays { (m : OneMachine) → Stands machine.old m → PlaysLine D.seen D.may_leave D.moment D.left_since m phase
+        (reading_of line.now) disk.old machine.old disk.new machine.new result }
     ensures kept { OnOk result (IsKept D.seen D.may_leave disk.new machine.new) }
 
     // The disk's calls.
-    ensures calls { (m : OneMachine) → Stands machine.old m
-        → OnOk result (RunsFor D.does D.fails (calls_to_keep (accepted_by (options_in machine.old) m (reading_of line.now))) disk.old disk.new) }
+    ensures calls { (m : OneMachine) → Stands machine.old m → OnOk result (RunsFor D.does D.fails
+        (calls_to_keep (accepted_by (options_in machine.old) m (reading_of line.now))) disk.old disk.new) }
     ensures stops { IsErrOf result Stopped.Disk → StopsKeeping D.does D.fails D.seen line.now disk.old disk.new }
 
     // The disk's faults.

@@ -61,21 +61,25 @@ pub(crate) fn play_line<D: Disk, L: Ledger>(
     // Whatever lines were answered before.
     ensures goes_on { (options : AllOptions) (start : List AnyRequest) (readings : List AnyReading)
         → IsSoFar D.seen D.may_leave options start readings progress.old disk.old machine.old
-        → OnOk result (IsSoFar D.seen D.may_leave options start (readings ++ reading_of line.now ∷ []) progress.new disk.new machine.new) }
+        → OnOk result (IsSoFar D.seen D.may_leave options start
+        (readings ++ reading_of line.now ∷ []) progress.new disk.new machine.new) }
     ensures stops { (options : AllOptions) (start : List AnyRequest) (readings : List AnyReading)
         → IsSoFar D.seen D.may_leave options start readings progress.old disk.old machine.old
-        → IsErrOf result Stopped.Disk → StopsHere D.seen D.may_leave options start readings (reading_of line.now) progress.new disk.new }
+        → IsErrOf result Stopped.Disk
+        → StopsHere D.seen D.may_leave options start readings (reading_of line.now) progress.new disk.new }
     ensures any_moment { (options : AllOptions) (start : List AnyRequest) (readings : List AnyReading)
         → IsSoFar D.seen D.may_leave options start readings progress.old disk.old machine.old
-        → LeavesOnly D.moment D.left_since disk.old disk.new (IsJournalOrMore options (start ++ accepted options start readings)
+        → LeavesOnly D.moment D.left_since disk.old disk.new
+        (IsJournalOrMore options (start ++ accepted options start readings)
         (accepted_by options (machine_after_lines options (machine_of options start) readings) (reading_of line.now))) }
 
     // The disk's calls.
     ensures calls { (options : AllOptions) (start : List AnyRequest) (readings : List AnyReading)
         → IsSoFar D.seen D.may_leave options start readings progress.old disk.old machine.old
-        → OnOk result (RunsFor D.does D.fails
-        (calls_to_keep (accepted_by options (machine_after_lines options (machine_of options start) readings) (reading_of line.now))) disk.old disk.new) }
-    ensures stops_keeping { IsErrOf result Stopped.Disk → StopsKeeping D.does D.fails D.seen line.now disk.old disk.new }
+        → OnOk result (RunsFor D.does D.fails (calls_to_keep (accepted_by options
+        (machine_after_lines options (machine_of options start) readings) (reading_of line.now))) disk.old disk.new) }
+    ensures stops_keeping { IsErrOf result Stopped.Disk
+        → StopsKeeping D.does D.fails D.seen line.now disk.old disk.new }
 
     // The disk's faults.
     ensures failed { IsErrOf result Stopped.Disk → Rose (D.faults disk.old) (D.faults disk.new) }
@@ -99,21 +103,24 @@ pub(crate) fn play_lines<D: Disk, L: Ledger>(
     script: &[u8],
     steps: &mut Steps<L>,
 ) -> Result<(), Stopped>
-    requires so_far { IsSoFar D.seen D.may_leave (options_in machine.old) (requests_in machine.old) [] progress.old disk.old machine.old }
+    requires so_far { IsSoFar D.seen D.may_leave
+        (options_in machine.old) (requests_in machine.old) [] progress.old disk.old machine.old }
     requires within { IsTrue (fits_limits script.now) }
 
-    ensures whole { OnOk result (IsSoFar D.seen D.may_leave (options_in machine.old) (requests_in machine.old) (readings_of script.now) progress.new disk.new machine.new) }
-    ensures stops { IsErrOf result Stopped.Disk
-        → StopsAt (options_in machine.old) (requests_in machine.old) (readings_of script.now) (D.may_leave disk.new) progress.new.text.items }
-    ensures any_moment { LeavesOnly D.moment D.left_since disk.old disk.new (IsJournalWithin (options_in machine.old) (requests_in machine.old)
+    ensures whole { OnOk result (IsSoFar D.seen D.may_leave
+        (options_in machine.old) (requests_in machine.old) (readings_of script.now) progress.new disk.new machine.new) }
+    ensures stops { IsErrOf result Stopped.Disk → StopsAt (options_in machine.old)
+        (requests_in machine.old) (readings_of script.now) (D.may_leave disk.new) progress.new.text.items }
+    ensures any_moment { LeavesOnly D.moment D.left_since disk.old disk.new
+        (IsJournalWithin (options_in machine.old) (requests_in machine.old)
         (accepted (options_in machine.old) (requests_in machine.old) (readings_of script.now))) }
 
     // The disk's calls.
-    ensures calls { OnOk result (RunsFor D.does D.fails
-        (calls_to_keep (accepted (options_in machine.old) (requests_in machine.old) (readings_of script.now))) disk.old disk.new) }
+    ensures calls { OnOk result (RunsFor D.does D.fails (calls_to_keep
+        (accepted (options_in machine.old) (requests_in machine.old) (readings_of script.now))) disk.old disk.new) }
     ensures stops_at_call { IsErrOf result Stopped.Disk
-        → StopsAtCall D.does D.fails D.seen D.may_leave (options_in machine.old) (requests_in machine.old) (readings_of script.now)
-        progress.new.marked progress.new.text.items disk.old disk.new }
+        → StopsAtCall D.does D.fails D.seen D.may_leave (options_in machine.old) (requests_in machine.old)
+        (readings_of script.now) progress.new.marked progress.new.text.items disk.old disk.new }
 
     // The disk's faults.
     ensures failed { IsErrOf result Stopped.Disk → Rose (D.faults disk.old) (D.faults disk.new) }

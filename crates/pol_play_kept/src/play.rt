@@ -56,7 +56,8 @@ pub fn config_of(options: Options) -> KeptConfig
 /// The texts are written; where the disk failed before them all, the end is its fault.
 fn write_text<K: Sink>(kept: KeptText, sink: &mut K) -> Status
     ensures end { IsTrue (is_answered result) ⊎ ((result ≡ Status.Disk) ⊎ (result ≡ Status.Write)) }
-    ensures answered { IsTrue (is_answered result) → (kept.lost ≡ false) × (status_number result ≡ (if kept.marked then 1 else 0)) }
+    ensures answered { IsTrue (is_answered result)
+        → (kept.lost ≡ false) × (status_number result ≡ (if kept.marked then 1 else 0)) }
     ensures lost { result ≡ Status.Disk → kept.lost ≡ true }
     ensures all { (result ≡ Status.Write → ⊥) → Appends (K.written sink.old) (K.written sink.new) kept.text.items }
     ensures part { result ≡ Status.Write → AppendsPart (K.written sink.old) (K.written sink.new) kept.text.items }
@@ -88,17 +89,20 @@ fn play_bytes<K: Sink, D: Disk>(
     // Where each image was a journal of the same requests.
     ensures played { (start : List AnyRequest) → AllAre options start (D.may_leave disk.old)
         → IsPlayed options start script.now (D.may_leave disk.new) (K.written sink.old) (K.written sink.new) result }
-    ensures any_moment { (start : List AnyRequest) → AllAre options start (D.may_leave disk.old)
-        → LeavesOnly D.moment D.left_since disk.old disk.new (IsJournalWithin options start (accepted options start (readings_of script.now))) }
+    ensures any_moment { (start : List AnyRequest)
+        → AllAre options start (D.may_leave disk.old) → LeavesOnly D.moment D.left_since disk.old disk.new
+        (IsJournalWithin options start (accepted options start (readings_of script.now))) }
 
     // Causes.
-    ensures causes { (IsTrue (is_answered result) ⊎ (result ≡ Status.Write)) ⊎ ((result ≡ Status.Disk) ⊎ ((result ≡ Status.Damaged) ⊎ (result ≡ Status.Memory))) }
+    ensures causes { (IsTrue (is_answered result) ⊎ (result ≡ Status.Write))
+        ⊎ ((result ≡ Status.Disk) ⊎ ((result ≡ Status.Damaged) ⊎ (result ≡ Status.Memory))) }
     ensures write { result ≡ Status.Write → Rose (K.faults sink.old) (K.faults sink.new) }
     ensures failed { result ≡ Status.Disk → Rose (D.faults disk.old) (D.faults disk.new) }
     ensures damaged { result ≡ Status.Damaged → IsDamaged options (D.seen disk.old) }
     ensures journal { IsTrue (has_opened result) → IsSomeJournal options (D.seen disk.old) }
     ensures silent { IsTrue (is_silent result) → Keeps (K.written sink.old) (K.written sink.new) }
-    ensures damaged_stays { result ≡ Status.Damaged → HoldsStill D.seen D.may_leave D.moment D.left_since disk.old disk.new }
+    ensures damaged_stays { result ≡ Status.Damaged
+        → HoldsStill D.seen D.may_leave D.moment D.left_since disk.old disk.new }
     ensures never_falls { D.faults disk.old ≤ D.faults disk.new }
 {
     let config = config_of(options);
@@ -121,10 +125,12 @@ fn play_source<S: Source, K: Sink, D: Disk>(
     requires limit { IsSomeAnd options.map_max (λ limit. limit ≤ 65536) }
 
     // Where each image was a journal of the same requests.
-    ensures played { (start : List AnyRequest) → AllAre options start (D.may_leave disk.old) → IfSome (S.left source.old) (λ script.
+    ensures played { (start : List AnyRequest)
+        → AllAre options start (D.may_leave disk.old) → IfSome (S.left source.old) (λ script.
         IsPlayed options start script (D.may_leave disk.new) (K.written sink.old) (K.written sink.new) result) }
-    ensures any_moment { (start : List AnyRequest) → AllAre options start (D.may_leave disk.old) → OfScript (S.left source.old) (λ script.
-        LeavesOnly D.moment D.left_since disk.old disk.new (IsJournalWithin options start (accepted options start (readings_of script)))) }
+    ensures any_moment { (start : List AnyRequest) → AllAre options start (D.may_leave disk.old)
+        → OfScript (S.left source.old) (λ script. LeavesOnly D.moment D.left_since disk.old disk.new
+        (IsJournalWithin options start (accepted options start (readings_of script)))) }
 
     // Causes.
     ensures no_usage { result ≡ Status.Usage → ⊥ }
@@ -141,7 +147,8 @@ fn play_source<S: Source, K: Sink, D: Disk>(
     ensures at_end { IsTrue (has_read_all result) → IsAtEnd (S.left source.new) }
     ensures silent { IsTrue (is_silent result) → Keeps (K.written sink.old) (K.written sink.new) }
     ensures untouched { (result ≡ Status.Read) ⊎ (result ≡ Status.TooLong) → disk.new ≡ disk.old }
-    ensures damaged_stays { result ≡ Status.Damaged → HoldsStill D.seen D.may_leave D.moment D.left_since disk.old disk.new }
+    ensures damaged_stays { result ≡ Status.Damaged
+        → HoldsStill D.seen D.may_leave D.moment D.left_since disk.old disk.new }
     ensures never_falls { D.faults disk.old ≤ D.faults disk.new }
 {
     match read_script_bytes(alloc, source) {
@@ -172,19 +179,23 @@ pub fn play_kept<S: Source, K: Sink, D: Disk>(
         (start : List AnyRequest) → AllAre options start (D.may_leave disk.old) → IfSome (S.left source.old) (λ script.
         IsPlayed options start script (D.may_leave disk.new) (K.written sink.old) (K.written sink.new) result)) }
     ensures any_moment { IfSome (plays_with (map string_bytes words.now)) (λ options.
-        (start : List AnyRequest) → AllAre options start (D.may_leave disk.old) → OfScript (S.left source.old) (λ script.
-        LeavesOnly D.moment D.left_since disk.old disk.new (IsJournalWithin options start (accepted options start (readings_of script))))) }
+        (start : List AnyRequest) → AllAre options start (D.may_leave disk.old)
+        → OfScript (S.left source.old) (λ script. LeavesOnly D.moment D.left_since disk.old disk.new
+        (IsJournalWithin options start (accepted options start (readings_of script))))) }
 
     // Causes.
     ensures usage { result ≡ Status.Usage → plays_with (map string_bytes words.now) ≡ None }
-    ensures misfit { plays_with (map string_bytes words.now) ≡ None → (result ≡ Status.Usage) ⊎ (result ≡ Status.Memory) }
+    ensures misfit { plays_with (map string_bytes words.now) ≡ None
+        → (result ≡ Status.Usage) ⊎ (result ≡ Status.Memory) }
     ensures read { result ≡ Status.Read → Rose (S.faults source.old) (S.faults source.new) }
     ensures write { result ≡ Status.Write → Rose (K.faults sink.old) (K.faults sink.new) }
     ensures too_long { result ≡ Status.TooLong → IfSome (S.left source.old) (λ script. IsTrue (is_too_long script)) }
     ensures within { IsTrue (has_read_all result) → IfSome (S.left source.old) (λ script. IsTrue (fits_limits script)) }
     ensures failed { result ≡ Status.Disk → Rose (D.faults disk.old) (D.faults disk.new) }
-    ensures damaged { result ≡ Status.Damaged → IfSome (plays_with (map string_bytes words.now)) (λ options. IsDamaged options (D.seen disk.old)) }
-    ensures journal { IsTrue (has_opened result) → IfSome (plays_with (map string_bytes words.now)) (λ options. IsSomeJournal options (D.seen disk.old)) }
+    ensures damaged { result ≡ Status.Damaged
+        → IfSome (plays_with (map string_bytes words.now)) (λ options. IsDamaged options (D.seen disk.old)) }
+    ensures journal { IsTrue (has_opened result)
+        → IfSome (plays_with (map string_bytes words.now)) (λ options. IsSomeJournal options (D.seen disk.old)) }
     ensures complete { DidNotRise (S.faults source.old) (S.faults source.new)
         → DidNotRise (K.faults sink.old) (K.faults sink.new)
         → DidNotRise (D.faults disk.old) (D.faults disk.new)
@@ -197,9 +208,11 @@ pub fn play_kept<S: Source, K: Sink, D: Disk>(
     ensures taken { ConsumesSome (S.left source.old) (S.left source.new) }
     ensures at_end { IsTrue (has_read_all result) → IsAtEnd (S.left source.new) }
     ensures silent { IsTrue (is_silent result) → Keeps (K.written sink.old) (K.written sink.new) }
-    ensures untouched { (result ≡ Status.Usage) ⊎ ((result ≡ Status.Read) ⊎ (result ≡ Status.TooLong)) → disk.new ≡ disk.old }
+    ensures untouched { (result ≡ Status.Usage)
+        ⊎ ((result ≡ Status.Read) ⊎ (result ≡ Status.TooLong)) → disk.new ≡ disk.old }
     ensures misfit_untouched { plays_with (map string_bytes words.now) ≡ None → disk.new ≡ disk.old }
-    ensures damaged_stays { result ≡ Status.Damaged → HoldsStill D.seen D.may_leave D.moment D.left_since disk.old disk.new }
+    ensures damaged_stays { result ≡ Status.Damaged
+        → HoldsStill D.seen D.may_leave D.moment D.left_since disk.old disk.new }
     ensures never_falls { D.faults disk.old ≤ D.faults disk.new }
 {
     match read_words(alloc, words) {

@@ -64,19 +64,19 @@ fn play_opened<L: Ledger, D: Disk>(
     requires opened { Stands machine (machine_of (options_in machine) (requests_in machine)) }
     requires within { IsTrue (fits_limits script.now) }
 
-    ensures whole { IfOk result (λ kept. kept.lost ≡ false
-        → IsWhole (options_in machine) (requests_in machine) (readings_of script.now) (D.may_leave disk.new) kept.text.items (if kept.marked then 1 else 0)) }
-    ensures stops { IfOk result (λ kept. kept.lost ≡ true
-        → StopsAt (options_in machine) (requests_in machine) (readings_of script.now) (D.may_leave disk.new) kept.text.items) }
-    ensures any_moment { LeavesOnly D.moment D.left_since disk.old disk.new (IsJournalWithin (options_in machine) (requests_in machine)
-        (accepted (options_in machine) (requests_in machine) (readings_of script.now))) }
+    ensures whole { IfOk result (λ kept. kept.lost ≡ false → IsWhole (options_in machine) (requests_in machine)
+        (readings_of script.now) (D.may_leave disk.new) kept.text.items (if kept.marked then 1 else 0)) }
+    ensures stops { IfOk result (λ kept. kept.lost ≡ true → StopsAt
+        (options_in machine) (requests_in machine) (readings_of script.now) (D.may_leave disk.new) kept.text.items) }
+    ensures any_moment { LeavesOnly D.moment D.left_since disk.old disk.new (IsJournalWithin (options_in machine)
+        (requests_in machine) (accepted (options_in machine) (requests_in machine) (readings_of script.now))) }
 
     // The disk's calls.
-    ensures calls { IfOk result (λ kept. kept.lost ≡ false → RunsFor D.does D.fails
-        (calls_to_keep (accepted (options_in machine) (requests_in machine) (readings_of script.now))) disk.old disk.new) }
-    ensures stops_at_call { IfOk result (λ kept. kept.lost ≡ true
-        → StopsAtCall D.does D.fails D.seen D.may_leave (options_in machine) (requests_in machine) (readings_of script.now)
-        kept.marked kept.text.items disk.old disk.new) }
+    ensures calls { IfOk result (λ kept. kept.lost ≡ false → RunsFor D.does D.fails (calls_to_keep
+        (accepted (options_in machine) (requests_in machine) (readings_of script.now))) disk.old disk.new) }
+    ensures stops_at_call { IfOk result (λ kept.
+        kept.lost ≡ true → StopsAtCall D.does D.fails D.seen D.may_leave (options_in machine)
+        (requests_in machine) (readings_of script.now) kept.marked kept.text.items disk.old disk.new) }
 
     // The disk's faults.
     ensures lost { IfOk result (λ kept. kept.lost ≡ true → Rose (D.faults disk.old) (D.faults disk.new)) }
@@ -114,28 +114,33 @@ pub fn play_script<D: Disk>(
     requires within { IsTrue (fits_limits script.now) }
 
     // Where each image was a journal of the same requests.
-    ensures whole { (start : List AnyRequest) → AllAre (options_of config) start (D.may_leave disk.old) → IfOk result (λ kept. kept.lost ≡ false
-        → IsWhole (options_of config) start (readings_of script.now) (D.may_leave disk.new) kept.text.items (if kept.marked then 1 else 0)) }
-    ensures stops { (start : List AnyRequest) → AllAre (options_of config) start (D.may_leave disk.old) → IfOk result (λ kept. kept.lost ≡ true
+    ensures whole { (start : List AnyRequest) → AllAre (options_of config) start (D.may_leave disk.old)
+        → IfOk result (λ kept. kept.lost ≡ false → IsWhole (options_of config) start
+        (readings_of script.now) (D.may_leave disk.new) kept.text.items (if kept.marked then 1 else 0)) }
+    ensures stops { (start : List AnyRequest)
+        → AllAre (options_of config) start (D.may_leave disk.old) → IfOk result (λ kept. kept.lost ≡ true
         → StopsAt (options_of config) start (readings_of script.now) (D.may_leave disk.new) kept.text.items) }
-    ensures not_opened { (start : List AnyRequest) → AllAre (options_of config) start (D.may_leave disk.old) → IsErrOf result ScriptError.Disk
-        → AllAre (options_of config) start (D.may_leave disk.new) }
-    ensures any_moment { (start : List AnyRequest) → AllAre (options_of config) start (D.may_leave disk.old)
-        → LeavesOnly D.moment D.left_since disk.old disk.new (IsJournalWithin (options_of config) start (accepted (options_of config) start (readings_of script.now))) }
+    ensures not_opened { (start : List AnyRequest) → AllAre (options_of config) start (D.may_leave disk.old)
+        → IsErrOf result ScriptError.Disk → AllAre (options_of config) start (D.may_leave disk.new) }
+    ensures any_moment { (start : List AnyRequest)
+        → AllAre (options_of config) start (D.may_leave disk.old) → LeavesOnly D.moment D.left_since disk.old disk.new
+        (IsJournalWithin (options_of config) start (accepted (options_of config) start (readings_of script.now))) }
 
     // The disk's calls: those that open the journal, and then four for each request that is accepted, up to one that failed.
-    ensures calls { (start : List AnyRequest) → AllAre (options_of config) start (D.may_leave disk.old) → IfOk result (λ kept. kept.lost ≡ false
-        → RunsFor D.does D.fails (calls_to_open (D.seen disk.old)
-        + calls_to_keep (accepted (options_of config) start (readings_of script.now))) disk.old disk.new) }
-    ensures stops_at_call { (start : List AnyRequest) → AllAre (options_of config) start (D.may_leave disk.old) → IfOk result (λ kept. kept.lost ≡ true
-        → StopsOnceOpened D.does D.fails D.seen D.may_leave (options_of config) start (readings_of script.now)
-        kept.marked kept.text.items disk.old disk.new) }
+    ensures calls { (start : List AnyRequest)
+        → AllAre (options_of config) start (D.may_leave disk.old) → IfOk result (λ kept.
+        kept.lost ≡ false → RunsFor D.does D.fails (calls_to_open (D.seen disk.old) + calls_to_keep
+        (accepted (options_of config) start (readings_of script.now))) disk.old disk.new) }
+    ensures stops_at_call { (start : List AnyRequest) → AllAre (options_of config) start (D.may_leave disk.old)
+        → IfOk result (λ kept. kept.lost ≡ true → StopsOnceOpened D.does D.fails D.seen D.may_leave
+        (options_of config) start (readings_of script.now) kept.marked kept.text.items disk.old disk.new) }
     ensures stops_opening { IsErrOf result ScriptError.Disk → StopsInOpening D.does D.fails D.seen disk.old disk.new }
 
     // Which bytes are opened. A damaged journal stays as it was.
     ensures journal { OnOk result (IsSomeJournal (options_of config) (D.seen disk.old)) }
     ensures damaged { IfErr result (TellsGate (options_of config) (D.seen disk.old)) }
-    ensures damaged_stays { IfErr result (λ why. HoldsAtGate D.seen D.may_leave D.moment D.left_since disk.old why disk.new) }
+    ensures damaged_stays { IfErr result (λ why.
+        HoldsAtGate D.seen D.may_leave D.moment D.left_since disk.old why disk.new) }
 
     // The disk's faults.
     ensures failed { IsErrOf result ScriptError.Disk → Rose (D.faults disk.old) (D.faults disk.new) }

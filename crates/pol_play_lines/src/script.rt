@@ -45,7 +45,8 @@ pub fn play_lines<W: Threads + Wait + Sync, G: Gate + Sync>(
     ensures one_each { IfOk result (λ played. length played.answers.items ≡ length (readings_of script.now)) }
     ensures run { IfOk result (λ played. IsRun options (spots_of (zip (readings_of script.now) played.answers.items))) }
     ensures legal { IfOk result (λ played. IsLegal options played.last) }
-    ensures history { IfOk result (λ played. IsHistoryOf options played.last (zip (readings_of script.now) played.answers.items)) }
+    ensures history { IfOk result (λ played.
+        IsHistoryOf options played.last (zip (readings_of script.now) played.answers.items)) }
 {
     let Some(map_max) = options.map_max else {
         unreachable!();

@@ -18,8 +18,10 @@ pub fn ranges_tell_each_port()
 /// Lists of ranges that are apart say the same of every port only where they are one list. So what is told of ports has one list
 /// of ranges, and a list of ranges tells one thing.
 pub fn ranges_are_a_normal_form()
-    ensures lists { (xs ys : List OneRange) → AreApart xs → AreApart ys → ((port : ℕ) → said_at xs port ≡ said_at ys port) → xs ≡ ys }
-    ensures ports { (f g : ℕ → OneSaid) → (ranges f ≡ ranges g) ↔ ((port : ℕ) → port < all_ports → told (f port) ≡ told (g port)) }
+    ensures lists { (xs ys : List OneRange)
+        → AreApart xs → AreApart ys → ((port : ℕ) → said_at xs port ≡ said_at ys port) → xs ≡ ys }
+    ensures ports { (f g : ℕ → OneSaid) → (ranges f ≡ ranges g)
+        ↔ ((port : ℕ) → port < all_ports → told (f port) ≡ told (g port)) }
 {}
 
 /// Where a connection opens or shuts, a half has another word: so what is told of connections is told of halves too.
@@ -32,9 +34,12 @@ pub fn a_connection_changes_by_a_half()
 /// the open ports of a state alone.
 pub fn ranges_written_out()
     ensures denied { ranges_from 4 0 port_2_shuts ≡ range 2 2 (change open_halves barred) ∷ [] }
-    ensures touch { ranges_from 4 0 all_open ≡ range 0 1 (change barred open_halves) ∷ range 2 3 (change unasked open_halves) ∷ [] }
-    ensures hole { ranges_from 4 0 all_open_but_2 ≡ range 0 1 (change unasked open_halves) ∷ range 3 3 (change unasked open_halves) ∷ [] }
-    ensures halves { ranges_from 4 0 all_open_but_2_by_halves ≡ range 0 1 (by_halves unasked open_halves) ∷ range 2 2 (by_halves unasked barred) ∷ range 3 3 (by_halves unasked open_halves) ∷ [] }
+    ensures touch { ranges_from 4 0 all_open
+        ≡ range 0 1 (change barred open_halves) ∷ range 2 3 (change unasked open_halves) ∷ [] }
+    ensures hole { ranges_from 4 0 all_open_but_2
+        ≡ range 0 1 (change unasked open_halves) ∷ range 3 3 (change unasked open_halves) ∷ [] }
+    ensures halves { ranges_from 4 0 all_open_but_2_by_halves ≡ range 0 1 (by_halves unasked open_halves)
+        ∷ range 2 2 (by_halves unasked barred) ∷ range 3 3 (by_halves unasked open_halves) ∷ [] }
     ensures shut { ranges_from 4 0 shut_otherwise ≡ range 2 3 (by_halves barred unasked) ∷ [] }
     ensures alone { ranges_from 4 0 open_but_2 ≡ range 0 1 (alone open_halves) ∷ range 3 3 (alone open_halves) ∷ [] }
 {}

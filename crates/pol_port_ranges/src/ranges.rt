@@ -22,7 +22,8 @@ fn push_piece(out: &mut Vec<Range>, first: u16, last: u16, said: PortSaid) -> Re
 fn push_said(out: &mut Vec<Range>, ports: &[u16], words: &[PortSaid]) -> Result<(), Memory>
     requires first { (rest : List ℕ) × (ports.now ≡ 0 ∷ rest) }
     requires words { length words.now ≡ length ports.now }
-    ensures { OnOk result ((said : ℕ → OneSaid) → words.now ≡ map said ports.now → out.new.items ≡ out.old.items ++ walk said 0 ports.now) }
+    ensures { OnOk result ((said : ℕ → OneSaid)
+        → words.now ≡ map said ports.now → out.new.items ≡ out.old.items ++ walk said 0 ports.now) }
 {
     let mut first = 0u16;
     let mut said = words[0];
@@ -43,7 +44,8 @@ fn push_said(out: &mut Vec<Range>, ports: &[u16], words: &[PortSaid]) -> Result<
 pub fn ranges_of(alloc: Global, ports: &[u16], words: &[PortSaid]) -> Result<Vec<Range>, Memory>
     requires first { (rest : List ℕ) × (ports.now ≡ 0 ∷ rest) }
     requires words { length words.now ≡ length ports.now }
-    ensures { IfOk result (λ made. (said : ℕ → OneSaid) (rest : List ℕ) → ports.now ≡ 0 ∷ rest → words.now ≡ map said ports.now → IsSteady said 0 rest → made.items ≡ ranges said) }
+    ensures { IfOk result (λ made. (said : ℕ → OneSaid) (rest : List ℕ)
+        → ports.now ≡ 0 ∷ rest → words.now ≡ map said ports.now → IsSteady said 0 rest → made.items ≡ ranges said) }
 {
     let mut out = Vec::new(alloc);
     push_said(&mut out, ports, words)?;

@@ -23,7 +23,8 @@ pub fn split(alloc: Global, range: PortRange) -> Result<Vec<PortPrefix>, AllocEr
     // What it is for: it covers the range, and no list of prefixes does so with fewer.
     ensures exact { IfOk result (λ parts. CoversExactly range parts.items) }
     ensures few { IfOk result (λ parts. length parts.items ≤ 30) }
-    ensures least { IfOk result (λ parts. (other : List PortPrefix) → CoversExactly range other → length parts.items ≤ length other) }
+    ensures least { IfOk result (λ parts.
+        (other : List PortPrefix) → CoversExactly range other → length parts.items ≤ length other) }
 {
     let mut parts = Vec::new(alloc);
     push_split(&mut parts, range)?;

@@ -13,7 +13,8 @@ use crate::nodes::Nodes;
 fn link<B: Bits>(nodes: &mut Nodes<B>, at: usize, high: bool, key: Option<usize>)
     requires there { ContainsKey nodes.old at }
     requires small { IfSome key (λ k. k + 1 < 2 ^ 32) }
-    ensures updates { (n : PrefixNode) → get nodes.old at ≡ Some n → Updates nodes.old nodes.new at (Some (with_child n high key)) }
+    ensures updates { (n : PrefixNode) → get nodes.old at ≡ Some n
+        → Updates nodes.old nodes.new at (Some (with_child n high key)) }
     ensures len { slab_len nodes.new ≡ slab_len nodes.old }
     ensures capacity { nodes.new.capacity ≡ nodes.old.capacity }
     ensures vacant_key { nodes.new.vacant_key ≡ nodes.old.vacant_key }
@@ -53,9 +54,11 @@ pub(crate) fn attach<B: Bits>(
     ensures trie { IsTrie B.family nodes.new }
     ensures there { get nodes.new result ≡ Some node }
     ensures numbers { Numbers nodes.old nodes.new node.prefix node.number }
-    ensures parent { (n : PrefixNode) → get nodes.old parent ≡ Some n → get nodes.new parent ≡ Some (with_child n high (Some result)) }
+    ensures parent { (n : PrefixNode) → get nodes.old parent ≡ Some n
+        → get nodes.new parent ≡ Some (with_child n high (Some result)) }
     ensures was_absent { number_of nodes.old node.prefix ≡ None }
-    ensures tight { (k : ℕ) → IsTightBut (get nodes.old) k → (result ≢ k → 2 ≤ weight node) → IsTightBut (get nodes.new) k }
+    ensures tight { (k : ℕ) → IsTightBut (get nodes.old) k
+        → (result ≢ k → 2 ≤ weight node) → IsTightBut (get nodes.new) k }
     ensures kept { AllStillThere nodes.old nodes.new }
     ensures len { slab_len nodes.new ≡ slab_len nodes.old + 1 }
     ensures capacity { nodes.new.capacity ≡ nodes.old.capacity }

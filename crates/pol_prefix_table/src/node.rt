@@ -69,7 +69,8 @@ impl PrefixNode {
     ) -> PrefixNode
         requires longer { prefix.len < below.now.len }
         requires small { key + 1 < 2 ^ 32 }
-        ensures { result ≡ with_child (record { prefix = prefix; number = number; low = 0; high = 0 }) (bit_of below.now prefix.len) (Some key) }
+        ensures { result ≡ with_child (record { prefix = prefix; number = number; low = 0; high = 0 })
+            (bit_of below.now prefix.len) (Some key) }
     {
         let _ = below.len();
         PrefixNode::leaf(prefix, number).with_child(below.bit(prefix.len()), Some(key))

@@ -115,7 +115,8 @@ impl<B: Bits> Nodes<B> {
     pub(crate) fn reserve(&mut self, additional: usize) -> Result<(), Memory>
         ensures room { OnOk result (HasRoomFor self.new additional) }
         ensures rest_kept { self.new ≡ record self.old { capacity = self.new.capacity } }
-        ensures few { self.new.capacity ≤ max self.old.capacity (length self.old.slots + max additional (length self.old.slots / 16)) }
+        ensures few { self.new.capacity
+            ≤ max self.old.capacity (length self.old.slots + max additional (length self.old.slots / 16)) }
     {
         if self.slots.capacity() - self.len >= additional {
             return Ok(());

@@ -36,7 +36,12 @@ impl<B: Bits> Model for Start<B> {
 
     ghost Value = { Reached };
 
-    ghost view = { λ s. record { to = beginning B.family s.len s.place; at = s.at; number = if s.numbered then Some s.number else None; visits = s.visits } };
+    ghost view = { λ s. record {
+      to = beginning B.family s.len s.place;
+      at = s.at;
+      number = if s.numbered then Some s.number else None;
+      visits = s.visits;
+    } };
 
     ghost invariant = { λ s. (0 < s.len) × (s.len ≤ START_BITS) × (s.place < 2 ^ s.len) };
 }

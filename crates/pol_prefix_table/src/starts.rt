@@ -133,7 +133,8 @@ fn renew_one<B: Bits>(nodes: &Nodes<B>, over: &Prefix, from: &Reached, start: &m
 /// How many starts are of prefixes that begin before this address.
 fn starts_below<B: Bits>(starts: &[Start<B>], bits: B) -> usize
     requires rise { IsNonDecreasingBy (λ r. bits_of r.to.addr) starts.now }
-    ensures { IsPartitionPoint (λ r. bits_of r.to.addr < bits_of (B.seen bits)) (λ r. bits_of (B.seen bits) ≤ bits_of r.to.addr) starts.now result }
+    ensures { IsPartitionPoint (λ r. bits_of r.to.addr < bits_of (B.seen bits)) (λ r.
+        bits_of (B.seen bits) ≤ bits_of r.to.addr) starts.now result }
 {
     starts.partition_point(|start| start.is_below(bits))
 }

@@ -56,8 +56,8 @@ impl Addresses {
         endpoints: &[Endpoint],
         prefixes: Arc<PrefixTable>,
     ) -> Result<Addresses, Memory>
-        ensures numbers { IfOk result (λ addresses. (rows : List OneRow) → IsTableOf rows (arc_value prefixes) → (address : OneAddr)
-            → number_in address addresses ≡ number_at address endpoints.now rows) }
+        ensures numbers { IfOk result (λ addresses. (rows : List OneRow) → IsTableOf rows (arc_value prefixes)
+            → (address : OneAddr) → number_in address addresses ≡ number_at address endpoints.now rows) }
     {
         let endpoints = identities_of(alloc, endpoints)?;
         Ok(Addresses {

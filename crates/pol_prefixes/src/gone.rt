@@ -51,7 +51,8 @@ pub fn gone_numbers(
     prefixes: &[Prefix],
 ) -> Result<Vec<u32>, Memory>
     requires once { IsDistinct same_prefix prefixes.now }
-    ensures gone { IfOk result (λ gone. AreBeyond (prefixes_released prefixes.now identities.now) identities.now gone.items) }
+    ensures gone { IfOk result (λ gone.
+        AreBeyond (prefixes_released prefixes.now identities.now) identities.now gone.items) }
 {
     identities.fits_together();
     all_going(alloc, identities, prefixes)

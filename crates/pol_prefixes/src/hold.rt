@@ -139,7 +139,8 @@ pub fn hold_prefixes(
     ensures within { OnOk result (AllByRecursion IsPrefix prefixes.now) }
     ensures err { OnErr result (identities.new ≡ identities.old) }
     ensures same_table { OnErr result (table.new ≡ table.old) }
-    ensures exhausted { IsErrOf result IdentError.Exhausted ↔ (MOST < locals_held identities.old + locals_wanted identities.old prefixes.now) }
+    ensures exhausted { IsErrOf result IdentError.Exhausted
+        ↔ (MOST < locals_held identities.old + locals_wanted identities.old prefixes.now) }
 {
     if are_too_many(identities, prefixes) {
         return Err(IdentError::Exhausted);

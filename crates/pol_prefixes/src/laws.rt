@@ -18,14 +18,16 @@ ghost use Rattle.pol_prefixes.specs.Tables.{IsTableOf};
 pub fn a_table_of_rows_finds_the_longest()
     ensures found { (rows : List OneRow) (table : PrefixMap) (addr : OneAddr) → IsTableOf rows table
         → look_up table addr ≡ option_map (λ found. found.1) (longest_at addr rows) }
-    ensures one { (rows : List OneRow) (table other : PrefixMap) → IsTableOf rows table → IsTableOf rows other → table ≡ other }
+    ensures one { (rows : List OneRow) (table other : PrefixMap)
+        → IsTableOf rows table → IsTableOf rows other → table ≡ other }
 {}
 
 /// What label sets hold and release leaves the table that of the rows.
 pub fn label_sets_leave_the_table()
-    ensures held { (labels : List Label) (rows : List OneRow) (table : PrefixMap) → IsTableOf rows table → IsTableOf (labels_held labels rows) table }
-    ensures released { (number : ℕ) (rows : List OneRow) (table : PrefixMap) → KeepsRows rows → is_local number ≡ false → IsTableOf rows table
-        → IsTableOf (released number rows) table }
+    ensures held { (labels : List Label) (rows : List OneRow) (table : PrefixMap)
+        → IsTableOf rows table → IsTableOf (labels_held labels rows) table }
+    ensures released { (number : ℕ) (rows : List OneRow) (table : PrefixMap)
+        → KeepsRows rows → is_local number ≡ false → IsTableOf rows table → IsTableOf (released number rows) table }
 {}
 
 /// A policy names each of its prefixes once, as `gone_numbers` asks.

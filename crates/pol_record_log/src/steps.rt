@@ -40,10 +40,12 @@ pub fn append<D: Disk>(disk: &mut D, behind: &[u8]) -> Result<(), Failed>
     ensures ok { OnOk result (IsOnDisk D.seen D.may_leave disk.new (before_gate (D.seen disk.old) ++ 1 ∷ behind.now)) }
 
     // A crash at any moment leaves what was there before the gate, and then a closed gate or the whole record.
-    ensures any_moment { LeavesOnly D.moment D.left_since disk.old disk.new (IsAppended (before_gate (D.seen disk.old)) behind.now) }
+    ensures any_moment { LeavesOnly D.moment D.left_since disk.old disk.new
+        (IsAppended (before_gate (D.seen disk.old)) behind.now) }
 
     // The calls, and the counts.
-    ensures calls { Makes D.does D.fails (calls_of_append (length (D.seen disk.old)) behind.now) disk.old result disk.new }
+    ensures calls { Makes D.does D.fails
+        (calls_of_append (length (D.seen disk.old)) behind.now) disk.old result disk.new }
     ensures clock { OnOk result (D.clock disk.new ≡ calls_later 4 (D.clock disk.old)) }
     ensures failed { IsErr result → Rose (D.faults disk.old) (D.faults disk.new) }
     ensures never_falls { D.faults disk.old ≤ D.faults disk.new }

@@ -62,7 +62,8 @@ pub fn read_bytes<D: Disk>(alloc: Global, disk: &mut D) -> Result<Vec<u8>, ReadE
 
     // The calls, and the counts.
     ensures calls { OnOk result (Runs D.does D.fails disk.old (Reads 0 (length (D.seen disk.old)) ∷ []) disk.new) }
-    ensures stops { IsErrOf result ReadError.Disk → StopsIn D.does D.fails disk.old (Reads 0 (length (D.seen disk.old)) ∷ []) disk.new }
+    ensures stops { IsErrOf result ReadError.Disk
+        → StopsIn D.does D.fails disk.old (Reads 0 (length (D.seen disk.old)) ∷ []) disk.new }
     ensures untouched { IsErrOf result ReadError.Memory → disk.new ≡ disk.old }
     ensures failed { IsErrOf result ReadError.Disk → Rose (D.faults disk.old) (D.faults disk.new) }
     ensures never_falls { D.faults disk.old ≤ D.faults disk.new }
@@ -78,7 +79,8 @@ pub fn write_synced<D: Disk>(disk: &mut D, at: u64, bytes: &[u8]) -> Result<(), 
     requires some { 0 < length bytes.now }
     requires settled { Only (D.seen disk.old) (D.may_leave disk.old) }
     ensures ok { OnOk result (IsOnDisk D.seen D.may_leave disk.new (overwritten (D.seen disk.old) at bytes.now)) }
-    ensures any_moment { LeavesOnly D.moment D.left_since disk.old disk.new (Torn at (length bytes.now) (D.seen disk.old)) }
+    ensures any_moment { LeavesOnly D.moment D.left_since disk.old disk.new
+        (Torn at (length bytes.now) (D.seen disk.old)) }
 
     // The calls, and the counts.
     ensures calls { Makes D.does D.fails (Writes at bytes.now ∷ Syncs ∷ []) disk.old result disk.new }

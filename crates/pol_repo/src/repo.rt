@@ -32,8 +32,9 @@ impl Model for Repo {
 
     ghost view = { λ repo. seen_as repo.options repo.journal.items repo.store repo.prepared };
 
-    ghost invariant = { λ repo. IsSound repo.options repo.journal.items (vec_len repo.journal) (vec_capacity repo.journal) repo.store repo.prepared
-        × IsTold repo.options repo.journal.items repo.nexts.items (vec_len repo.nexts) (vec_capacity repo.nexts) repo.store repo.prepared };
+    ghost invariant = { λ repo. IsSound repo.options repo.journal.items (vec_len repo.journal)
+        (vec_capacity repo.journal) repo.store repo.prepared × IsTold repo.options repo.journal.items repo.nexts.items
+        (vec_len repo.nexts) (vec_capacity repo.nexts) repo.store repo.prepared };
 }
 
 /// A destructor of its own, so that how the parts go is proved here, and not in each crate that lets a repository go.

@@ -26,8 +26,10 @@ impl Repo {
         requires idle { self.now.prepared ≡ None }
         requires since { IfSome since (λ revision. revision ≤ (state_in self.now).revision) }
         ensures taken { IfOk result (IsTakenOf self.now.options (state_in self.now) slot) }
-        ensures map { IfOk result (λ taken. distilled (arc_value taken.filters) taken.sets ≡ policy_map self.now.options (state_in self.now) taken.endpoint) }
-        ensures moves { IfOk result (λ taken. TellsMovesSince self.now.options self.now.journal since taken.sets taken.moves) }
+        ensures map { IfOk result (λ taken. distilled (arc_value taken.filters) taken.sets
+            ≡ policy_map self.now.options (state_in self.now) taken.endpoint) }
+        ensures moves { IfOk result (λ taken.
+            TellsMovesSince self.now.options self.now.journal since taken.sets taken.moves) }
         ensures gone { IsErrOf result TakeError.Gone ↔ (endpoint_in slot (state_in self.now).endpoints ≡ None) }
     {
         let mut taken = self.store.take(alloc, slot, self.options.localhost)?;

@@ -51,7 +51,8 @@ fn make_change(store: &mut Store, change: TableChange)
 pub fn accept(store: &mut Store, prepared: Prepared)
     requires ready { CanBeDone store.old prepared }
     requires room { store.old.state.revision < 2 ^ 64 - 1 }
-    ensures done { (s : State) (request : OneRequest) → Keeps s → IsPrepared s request store.old prepared → StandsFor (after s request) store.new }
+    ensures done { (s : State) (request : OneRequest)
+        → Keeps s → IsPrepared s request store.old prepared → StandsFor (after s request) store.new }
     ensures selectors { LosesSelectors (carried prepared.plan store.old.cache) store.new.cache }
 {
     let Prepared { plan, change } = prepared;

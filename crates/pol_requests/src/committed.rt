@@ -19,8 +19,8 @@ use std::cmp::max;
 
 /// One more than the slot of the last endpoint of another name, 0 where there is none.
 fn last_slot_without(endpoints: &[Endpoint], name: &str) -> u32
-    ensures slots { Ascends (map (λ endpoint. endpoint.slot) endpoints.now) → AllByRecursion (λ endpoint. endpoint.slot < ENDPOINTS_MAX) endpoints.now
-        → result ≡ slots_of (without_endpoint name.now endpoints.now) }
+    ensures slots { Ascends (map (λ endpoint. endpoint.slot) endpoints.now) → AllByRecursion (λ endpoint.
+        endpoint.slot < ENDPOINTS_MAX) endpoints.now → result ≡ slots_of (without_endpoint name.now endpoints.now) }
 {
     for i in (0..endpoints.len()).rev() {
         if endpoints[i].name.as_str() != name {
@@ -47,7 +47,8 @@ fn identity_in(change: &TableChange) -> Option<u32>
 
 /// One more than the greatest slot once the change is done.
 fn slots_with(store: &Store, change: &TableChange) -> u32
-    ensures slots { (s : State) → Keeps s → store.now.state.endpoints ≡ s.endpoints → FitsSlots change.now → result ≡ slots_with change.now s.endpoints }
+    ensures slots { (s : State) → Keeps s
+        → store.now.state.endpoints ≡ s.endpoints → FitsSlots change.now → result ≡ slots_with change.now s.endpoints }
 {
     match change {
         TableChange::Endpoint(endpoint, _) => {

@@ -71,10 +71,12 @@ fn key_and_prefixes(alloc: Global, policy: &Policy) -> Result<KeyAndPrefixes, Me
 /// What the policy's request does to the tables.
 fn new_policy(store: &Store, policy: &Policy) -> Result<NewPolicy, Memory>
     requires room { store.now.state.revision < 2 ^ 64 - 1 }
-    ensures stamped { IfOk result (λ new. new.stamped ≡ record { policy = policy.now; stamp = store.now.state.revision + 1 }) }
+    ensures stamped { IfOk result (λ new.
+        new.stamped ≡ record { policy = policy.now; stamp = store.now.state.revision + 1 }) }
     ensures key { IfOk result (λ new. new.key ≡ policy.now.key) }
     ensures taken { IfOk result (λ new. new.taken ≡ policy_prefixes policy.now) }
-    ensures given_up { IfOk result (λ new. new.given_up ≡ prefixes_of (policy_at policy.now.key store.now.state.policies)) }
+    ensures given_up { IfOk result (λ new.
+        new.given_up ≡ prefixes_of (policy_at policy.now.key store.now.state.policies)) }
 {
     let stamped = store.stamped(policy)?;
     let given_up = store.prefixes_at(&policy.key)?;
@@ -190,7 +192,8 @@ pub(crate) fn accept_no_policy(store: &mut Store, key: PolicyKey, given_up: Pref
 /// Gives back what a prepared policy holds and refers to.
 pub(crate) fn withdraw_policy(store: &mut Store, policy: &Policy, taken: &Prefixes)
     requires referred { HasRefs (listed_peers policy.now) store.old.cache.live }
-    ensures back { (s : State) (prepared : OnePrepared) → Keeps s → IsPrepared s (Apply policy.now) store.old prepared → taken.now ≡ policy_prefixes policy.now → StandsFor s store.new }
+    ensures back { (s : State) (prepared : OnePrepared) → Keeps s → IsPrepared s (Apply policy.now) store.old prepared
+        → taken.now ≡ policy_prefixes policy.now → StandsFor s store.new }
     ensures selectors { LosesSelectors store.old.cache store.new.cache }
 {
     store.release_prefixes(taken.as_slice());

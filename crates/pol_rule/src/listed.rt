@@ -18,7 +18,8 @@ fn push_peers<'a>(out: &mut Vec<&'a Peer>, peers: &'a [Peer]) -> Result<(), Memo
 
 /// Puts the peers that are listed behind those that are there. The one error is want of memory.
 pub fn push_listed<'a>(out: &mut Vec<&'a Peer>, peers: &'a Peers) -> Result<(), Memory>
-    ensures listed { OnOk result (map (λ p. p.now) out.new.items ≡ map (λ p. p.now) out.old.items ++ peers_in peers.now) }
+    ensures listed { OnOk result (map (λ p.
+        p.now) out.new.items ≡ map (λ p. p.now) out.old.items ++ peers_in peers.now) }
 {
     match peers {
         Peers::Every => Ok(()),
@@ -27,7 +28,8 @@ pub fn push_listed<'a>(out: &mut Vec<&'a Peer>, peers: &'a Peers) -> Result<(), 
 }
 
 fn push_section<'a>(out: &mut Vec<&'a Peer>, entries: &'a [Entry]) -> Result<(), Memory>
-    ensures { OnOk result (map (λ p. p.now) out.new.items ≡ map (λ p. p.now) out.old.items ++ section_peers entries.now) }
+    ensures { OnOk result (map (λ p. p.now) out.new.items ≡ map (λ p.
+        p.now) out.old.items ++ section_peers entries.now) }
 {
     for entry in entries {
         push_listed(out, &entry.peers)?;
@@ -46,7 +48,8 @@ fn push_rule<'a>(out: &mut Vec<&'a Peer>, rule: &'a Rule) -> Result<(), Memory>
 }
 
 fn push_rules<'a>(out: &mut Vec<&'a Peer>, rules: &'a [Rule]) -> Result<(), Memory>
-    ensures { OnOk result (map (λ p. p.now) out.new.items ≡ map (λ p. p.now) out.old.items ++ flat_map rule_peers rules.now) }
+    ensures { OnOk result (map (λ p. p.now) out.new.items ≡ map (λ p.
+        p.now) out.old.items ++ flat_map rule_peers rules.now) }
 {
     for rule in rules {
         push_rule(out, rule)?;

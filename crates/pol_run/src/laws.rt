@@ -46,8 +46,10 @@ pub fn serial_answers_are_a_run()
 /// seen bounds each answer from below; rows are exact; a printed map fits the limit; phases are numbered
 /// from 1. And lines of which all that holds are a run ('profile').
 pub fn runs_in_short()
-    ensures said { (options : Options) (lines : List Line) → IsRun options (spots_of lines) → IsRunInShort options lines }
-    ensures all { (options : Options) (lines : List Line) → IsRunInShort options lines → IsRun options (spots_of lines) }
+    ensures said { (options : Options) (lines : List Line)
+        → IsRun options (spots_of lines) → IsRunInShort options lines }
+    ensures all { (options : Options) (lines : List Line)
+        → IsRunInShort options lines → IsRun options (spots_of lines) }
 {}
 
 /// What an output says: it is the texts of one answer for each line of the script, in order; the lines with
@@ -56,8 +58,8 @@ pub fn runs_in_short()
 pub fn outputs_in_short()
     ensures said { (options : Options) (script written : List ℕ) (ended : ℕ) → IsRunOf options script written ended
         → IsRunOfInShort options script written ended }
-    ensures all { (options : Options) (script written : List ℕ) (ended : ℕ) → IsRunOfInShort options script written ended
-        → IsRunOf options script written ended }
+    ensures all { (options : Options) (script written : List ℕ) (ended : ℕ)
+        → IsRunOfInShort options script written ended → IsRunOf options script written ended }
 {}
 
 /// What a line that is read asks for has names of their forms: an endpoint's name is a name of the script, and the key
@@ -78,9 +80,11 @@ pub fn answers_of_runs_tell()
 /// commit, any other answers of the same bytes that do so too have the same commits. Answers whose parts are all
 /// such as reading gives do.
 pub fn the_output_tells_the_commits()
-    ensures commits { (readings : List Reading) (a b : List Answer) → IsTrue (list_all tells_commit a) → IsTrue (list_all tells_commit b)
+    ensures commits { (readings : List Reading) (a b : List Answer)
+        → IsTrue (list_all tells_commit a) → IsTrue (list_all tells_commit b)
         → texts_of a ≡ texts_of b → commits_of (spots_of (zip readings a)) ≡ commits_of (spots_of (zip readings b)) }
-    ensures parts { (answers : List Answer) → IsTrue (list_all has_read_parts answers) → IsTrue (list_all tells_commit answers) }
+    ensures parts { (answers : List Answer)
+        → IsTrue (list_all has_read_parts answers) → IsTrue (list_all tells_commit answers) }
 {}
 
 /// The output of a script tells its history, whichever answers witness the run, and whatever the options: all runs of
@@ -88,20 +92,22 @@ pub fn the_output_tells_the_commits()
 /// the script has fewer than 2^64 lines.
 pub fn the_output_tells_the_history()
     ensures commits { (options other : Options) (script written : List ℕ) (ended other_ended : ℕ)
-        (a : IsRunOf options script written ended) (b : IsRunOf other script written other_ended) → length (lines_of script) < 2 ^ 64
-        → commits_of (spots_of (zip (readings_of script) a.answers)) ≡ commits_of (spots_of (zip (readings_of script) b.answers)) }
-    ensures history { (options : Options) (script written : List ℕ) (ended : ℕ) (run : IsRunOf options script written ended)
-        → length (lines_of script) < 2 ^ 64 → history_of (spots_of (zip (readings_of script) run.answers)) ≡ history_told script written }
+        (a : IsRunOf options script written ended) (b : IsRunOf other script written other_ended)
+        → length (lines_of script) < 2 ^ 64 → commits_of (spots_of (zip (readings_of script) a.answers))
+        ≡ commits_of (spots_of (zip (readings_of script) b.answers)) }
+    ensures history { (options : Options) (script written : List ℕ)
+        (ended : ℕ) (run : IsRunOf options script written ended) → length (lines_of script) < 2 ^ 64
+        → history_of (spots_of (zip (readings_of script) run.answers)) ≡ history_told script written }
 {}
 
 /// Which lines of an output are `ok 1`, and the history that four lines tell, written out: it is in the order of the
 /// numbers, not of the lines ('profile').
 pub fn lines_that_tell()
-    ensures first { map (is_ok_line 1) (codes "ok 1" ∷ codes "ok 1 identity 256" ∷ codes "ok 10" ∷ codes "ok 1identity" ∷ codes "ok" ∷ codes "synced 1" ∷ [])
-        ≡ true ∷ true ∷ false ∷ false ∷ false ∷ false ∷ [] }
-    ensures order { requests_told 4 ((Ok (command.Commit 1 add_web), codes "ok 2 identity 256") ∷ (Ok (command.Sync 2), codes "synced 2")
-        ∷ (Ok (command.Commit 2 add_db), codes "ok 1 identity 257") ∷ (Ok (command.Commit 2 add_db), codes "refused 30 duplicate-endpoint at 2") ∷ [])
-        ≡ add_db ∷ add_web ∷ [] }
+    ensures first { map (is_ok_line 1) (codes "ok 1" ∷ codes "ok 1 identity 256" ∷ codes "ok 10" ∷ codes "ok 1identity"
+        ∷ codes "ok" ∷ codes "synced 1" ∷ []) ≡ true ∷ true ∷ false ∷ false ∷ false ∷ false ∷ [] }
+    ensures order { requests_told 4 ((Ok (command.Commit 1 add_web), codes "ok 2 identity 256")
+        ∷ (Ok (command.Sync 2), codes "synced 2") ∷ (Ok (command.Commit 2 add_db), codes "ok 1 identity 257")
+        ∷ (Ok (command.Commit 2 add_db), codes "refused 30 duplicate-endpoint at 2") ∷ []) ≡ add_db ∷ add_web ∷ [] }
 {}
 
 /// The cap of a line is the greatest revision whose commits hold none that stands behind the line in

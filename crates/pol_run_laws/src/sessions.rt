@@ -13,7 +13,8 @@ ghost use Rattle.pol_run_laws.specs.Session.{PlaysOn};
 /// One line more: where its call allows the answer from what was seen so far, the session plays on. And what was seen
 /// at first is a beginning of what was seen in the end ('profile').
 pub fn sessions_play_on()
-    ensures more { (options : Options) (pass : ℕ) (old then new : List HistoryEvent) (played : List (Command × Answer)) (command : Command) (told : Answer)
+    ensures more { (options : Options) (pass : ℕ) (old then new : List HistoryEvent) (played : List (Command
+        × Answer)) (command : Command) (told : Answer)
         → PlaysOn options pass old then played → IsPrefix then new → Allows options pass then new (Ok command) told
         → PlaysOn options pass old new (played ++ (command, told) ∷ []) }
     ensures grows { (options : Options) (pass : ℕ) (old new : List HistoryEvent) (played : List (Command × Answer))

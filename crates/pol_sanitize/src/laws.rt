@@ -20,8 +20,8 @@ ghost use Rattle.pol_sanitize.specs.Whole.{IsWellFormedRule, IsWhole};
 pub fn subjects()
     ensures own_namespace { (key : PolicyKey) (selector : RawSelector) (labels : List Label)
         → (key.cluster_wide || has_key is_on_init selector) ≡ false
-        → matches (subject_selector key selector) labels
-        ≡ (matches (requirements_of (without_namespace selector)) labels && carries labels (namespace_label key.namespace)) }
+        → matches (subject_selector key selector) labels ≡ (matches
+        (requirements_of (without_namespace selector)) labels && carries labels (namespace_label key.namespace)) }
     ensures as_written { (key : PolicyKey) (selector : RawSelector)
         → (key.cluster_wide || has_key is_on_init selector) ≡ true
         → subject_selector key selector ≡ requirements_of selector }
@@ -47,13 +47,15 @@ pub fn peers()
 /// deny. Its selectors are well formed.
 pub fn accepted()
     ensures whole { (raw : RawPolicy) (policy : Policy) → sanitized_of raw ≡ Ok policy → IsWhole raw policy }
-    ensures well_formed { (raw : RawPolicy) (policy : Policy) → sanitized_of raw ≡ Ok policy → All IsWellFormedRule policy.rules }
+    ensures well_formed { (raw : RawPolicy) (policy : Policy)
+        → sanitized_of raw ≡ Ok policy → All IsWellFormedRule policy.rules }
 {}
 
 /// A policy is refused exactly where it has a fault. What it is refused for is one: its location leads to a
 /// part of the policy at which its cause holds. And no fault of the policy comes before it.
 pub fn faults()
-    ensures is_one { (raw : RawPolicy) (fault : RuleFault) → sanitized_of raw ≡ Err fault → IsTrue (is_fault_of raw fault) }
+    ensures is_one { (raw : RawPolicy) (fault : RuleFault)
+        → sanitized_of raw ≡ Err fault → IsTrue (is_fault_of raw fault) }
     ensures first { (raw : RawPolicy) (fault other : RuleFault) → sanitized_of raw ≡ Err fault
         → IsTrue (is_fault_of raw other) → comes_before other fault ≡ false }
     ensures none { (raw : RawPolicy) (policy : Policy) (fault : RuleFault) → sanitized_of raw ≡ Ok policy

@@ -210,7 +210,8 @@ fn bound_subject(
     selector: &RawSelector,
 ) -> Result<Vec<Requirement>, SanitizeError>
     ensures fault { Finds (located location (found rule.BadSelector (has_bad_member selector.now))) result }
-    ensures requirements { IfOk result (λ requirements. requirements.items ≡ bound_subject key.now.namespace selector.now) }
+    ensures requirements { IfOk result (λ requirements.
+        requirements.items ≡ bound_subject key.now.namespace selector.now) }
 {
     let mut requirements = Vec::new(alloc);
     let labels = selector.labels.as_slice();
@@ -262,7 +263,8 @@ fn selector_from(
     location: Location,
     requirements: Vec<Requirement>,
 ) -> Result<Selector, SanitizeError>
-    ensures fault { Finds (located location (found rule.BadSelector (not (all_well_formed requirements.items)))) result }
+    ensures fault { Finds
+        (located location (found rule.BadSelector (not (all_well_formed requirements.items)))) result }
     ensures selector { IfOk result (λ selector. selector ≡ requirements.items) }
 {
     match Selector::from_requirements(alloc, requirements) {

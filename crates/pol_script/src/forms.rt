@@ -159,7 +159,8 @@ fn are_texts(items: &[Value]) -> bool
 /// The items of a list of texts.
 #[tactic(auto, using(crate::proofs::Turns::each_text, pol_json::proofs::Views::items_list_view))]
 pub(crate) fn as_texts(value: &Value) -> Option<&[Value]>
-    ensures { option_map (λ items. map (λ item. text_of (view item)) items.now) result ≡ read_as texts (view value.now) }
+    ensures { option_map (λ items.
+        map (λ item. text_of (view item)) items.now) result ≡ read_as texts (view value.now) }
 {
     let items = value.as_array()?.as_slice();
     if are_texts(items) { Some(items) } else { None }

@@ -21,7 +21,8 @@ fn read_label(alloc: Global, value: &Value) -> Result<Label, LineError>
 }
 
 fn read_labels(alloc: Global, values: &[Value]) -> Result<Vec<Label>, LineError>
-    ensures { Reads (λ labels. labels.items) result (ok_or (each read_label (map (λ value. text_of (view value)) values.now)) Bad) }
+    ensures { Reads (λ labels.
+        labels.items) result (ok_or (each read_label (map (λ value. text_of (view value)) values.now)) Bad) }
 {
     let mut labels = Vec::with_capacity(alloc, values.len())?;
     for value in values {

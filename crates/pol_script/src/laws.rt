@@ -25,8 +25,10 @@ ghost use Rattle.pol_script.specs.declared.op.Op.{Op};
 /// without a newline is read as if it had one, no line holds a newline, and the lines of a script that
 /// ends with a newline are the script again.
 pub fn script_lines()
-    ensures again { (lines : List (List ℕ)) → IsTrue (list_all is_one_line lines) → lines_of (flat_map ended lines) ≡ lines }
-    ensures open_end { (bytes : List ℕ) (byte : ℕ) → byte ≢ newline → lines_of (bytes ++ byte ∷ []) ≡ lines_of (ended (bytes ++ byte ∷ [])) }
+    ensures again { (lines : List (List ℕ))
+        → IsTrue (list_all is_one_line lines) → lines_of (flat_map ended lines) ≡ lines }
+    ensures open_end { (bytes : List ℕ) (byte : ℕ)
+        → byte ≢ newline → lines_of (bytes ++ byte ∷ []) ≡ lines_of (ended (bytes ++ byte ∷ [])) }
     ensures empty { lines_of [] ≡ [] }
     ensures apart { (bytes : List ℕ) → IsTrue (list_all is_one_line (lines_of bytes)) }
     ensures whole { (bytes : List ℕ) → flat_map ended (lines_of (ended bytes)) ≡ ended bytes }
@@ -44,8 +46,8 @@ pub fn the_least_unknown_member_is_told()
     ensures none { (line : List ℕ) (d : Data) (op : Op) (command : Result Command LineFault)
         → object_of line ≡ Ok d → op_of d ≡ Ok op → given (rows op) (make op) d ≡ Ok command
         → ((name : List ℕ) → is_unknown op d name ≡ false) → reading_of line ≡ command }
-    ensures some { (line : List ℕ) (d : Data) (op : Op) (other : List ℕ) → object_of line ≡ Ok d → IsTrue (is_unknown op d other)
-        → (name : List ℕ) × IsLeastUnknown op d name }
+    ensures some { (line : List ℕ) (d : Data) (op : Op) (other : List ℕ)
+        → object_of line ≡ Ok d → IsTrue (is_unknown op d other) → (name : List ℕ) × IsLeastUnknown op d name }
 {}
 
 /// The names that a line asks for have their forms: an endpoint's name is a name of the script, and the key of a policy
@@ -54,12 +56,15 @@ pub fn the_least_unknown_member_is_told()
 pub fn names_have_their_forms()
     ensures endpoint { (line : List ℕ) (session : ℕ) (name : List ℕ) (labels : List Label) (address : Addr)
         → reading_of line ≡ Ok (Commit session (AddEndpoint name labels address)) → IsTrue (is_name name) }
-    ensures policy { (line : List ℕ) (session : ℕ) (policy : Policy) → reading_of line ≡ Ok (Commit session (Apply policy))
-        → IsTrue (is_applied_name policy.key.name) }
-    ensures namespace { (line : List ℕ) (session : ℕ) (policy : Policy) → reading_of line ≡ Ok (Commit session (Apply policy))
+    ensures policy { (line : List ℕ) (session : ℕ) (policy : Policy)
+        → reading_of line ≡ Ok (Commit session (Apply policy)) → IsTrue (is_applied_name policy.key.name) }
+    ensures namespace { (line : List ℕ) (session : ℕ) (policy : Policy)
+        → reading_of line ≡ Ok (Commit session (Apply policy))
         → policy.key.cluster_wide ≡ false → IsTrue (is_dns_name policy.key.namespace) }
-    ensures cluster_wide { (line : List ℕ) (session : ℕ) (policy : Policy) → reading_of line ≡ Ok (Commit session (Apply policy))
+    ensures cluster_wide { (line : List ℕ) (session : ℕ) (policy : Policy)
+        → reading_of line ≡ Ok (Commit session (Apply policy))
         → policy.key.cluster_wide ≡ true → policy.key.namespace ≡ [] }
-    ensures of_cilium { (line : List ℕ) (session : ℕ) (policy : Policy) → reading_of line ≡ Ok (Commit session (Apply policy))
+    ensures of_cilium { (line : List ℕ) (session : ℕ) (policy : Policy)
+        → reading_of line ≡ Ok (Commit session (Apply policy))
         → policy.key.cluster_wide ≡ true → IsTrue (is_dns_name policy.key.name) }
 {}

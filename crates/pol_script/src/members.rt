@@ -72,7 +72,8 @@ pub(crate) fn needed_texts<'v>(
     value: &'v Value,
     member: &str,
 ) -> Result<&'v [Value], LineError>
-    ensures { Reads (λ items. map (λ item. text_of (view item)) items.now) result (value_of needed texts member.now (view value.now)) }
+    ensures { Reads (λ items.
+        map (λ item. text_of (view item)) items.now) result (value_of needed texts member.now (view value.now)) }
 {
     or_bad(alloc, member, present(value, member).and_then(as_texts))
 }
@@ -175,7 +176,8 @@ pub(crate) fn optional_session(alloc: Global, value: &Value) -> Result<Option<u8
 
 /// The identity number that is named; exactly one of it and the address has to be there.
 pub(crate) fn identity_or_address(alloc: Global, value: &Value) -> Result<Option<u32>, LineError>
-    ensures { Reads (λ read. read) result (value_of (or_else (codes "address")) (whole 0 4294967295) (codes "identity") (view value.now)) }
+    ensures { Reads (λ read.
+        read) result (value_of (or_else (codes "address")) (whole 0 4294967295) (codes "identity") (view value.now)) }
 {
     let Some(found) = present(value, "identity") else {
         return match present(value, "address") {
@@ -213,7 +215,8 @@ fn check_members(
     names: &[&str],
     members: &Map<String, Value>,
 ) -> Result<(), LineError>
-    ensures { Reads (λ done. done) result (known_members (map (λ n. n.now) names.now) (members_view members.now.entries)) }
+    ensures { Reads (λ done.
+        done) result (known_members (map (λ n. n.now) names.now) (members_view members.now.entries)) }
 {
     for (name, member) in members {
         check_member(alloc, names, name.as_str(), member)?;

@@ -82,7 +82,8 @@ fn commit_line(repo: &mut Repo, reading: Reading) -> Result<Option<Answer>, Memo
 fn commit(repo: &mut Repo, request: Request) -> Result<Option<Answer>, Memory>
     requires { repo.old.prepared ≡ None }
     ensures state { OnOk result (state_in repo.new ≡ state_committed (state_in repo.old) request) }
-    ensures refused { IfOk result (λ found. found ≡ refused_by (state_in repo.old) (fault_of (state_in repo.old) request)) }
+    ensures refused { IfOk result (λ found.
+        found ≡ refused_by (state_in repo.old) (fault_of (state_in repo.old) request)) }
     ensures options { OnOk result (repo.new.options ≡ repo.old.options) }
     ensures idle { OnOk result (repo.new.prepared ≡ None) }
 {

@@ -11,5 +11,6 @@ ghost use Rattle.pol_script_commits.specs.Refused.{refused_in};
 pub fn refusals_are_answers()
     ensures answer { (options : AllOptions) (s : State) (phase : ℕ) (reading : OneReading) (found : OneAnswer)
         → refused_in s reading ≡ Some found → answer_in options s phase reading ≡ found }
-    ensures stays { (s : State) (reading : OneReading) (found : OneAnswer) → refused_in s reading ≡ Some found → state_then s reading ≡ s }
+    ensures stays { (s : State) (reading : OneReading) (found : OneAnswer)
+        → refused_in s reading ≡ Some found → state_then s reading ≡ s }
 {}

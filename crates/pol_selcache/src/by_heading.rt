@@ -27,7 +27,8 @@ pub(crate) struct ByHeading<'a> {
 
 /// Files the number under each of the headings.
 fn file_under(filing: &mut Filing, headings: &[Heading], number: u32) -> Result<(), Memory>
-    ensures filed { OnOk result ((heading : OneHeading) (n : ℕ) → is_filed filing.new heading n ≡ (is_filed filing.old heading n || (is_among headings.now heading && (number == n)))) }
+    ensures filed { OnOk result ((heading : OneHeading) (n : ℕ) → is_filed filing.new heading n
+        ≡ (is_filed filing.old heading n || (is_among headings.now heading && (number == n)))) }
     ensures small { number < 2 ^ 32 }
 {
     for heading in headings {
@@ -117,7 +118,8 @@ impl<'a> ByHeading<'a> {
     /// is one number at most.
     pub(crate) fn tried_for(&self, alloc: Global, peer: &Peer) -> Result<IdSet, Memory>
         requires small { AreSmall self.now.filing }
-        ensures few { IfOk result (λ few. (rows : List OneRow) → IsByHeading rows self.now → AreThoseFor rows peer.now self.now.numbers.now few) }
+        ensures few { IfOk result (λ few.
+            (rows : List OneRow) → IsByHeading rows self.now → AreThoseFor rows peer.now self.now.numbers.now few) }
     {
         if self.numbers.len() <= 1 {
             let same = self.numbers.copy(alloc)?;

@@ -71,7 +71,8 @@ impl SelectorCache {
     /// The set of a live selector: the numbers that its peer selects. `Memory` is want of memory.
     pub fn set_at_now(&self, selector: u64) -> Result<Arc<IdSet>, Memory>
         requires live { is_live selector self.now.live ≡ true }
-        ensures set { IfOk result (λ set. option_map (λ s. s.set) (selector_of selector self.now.live) ≡ Some (arc_value set)) }
+        ensures set { IfOk result (λ set.
+            option_map (λ s. s.set) (selector_of selector self.now.live) ≡ Some (arc_value set)) }
         ensures sound { IsSound self.now }
     {
         let (row, _) = self.table.row_near(selector, usize::MAX);

@@ -16,27 +16,31 @@ ghost use Rattle.pol_selcache.specs.Told.{StartsTold, StaysTold, TellsDifference
 /// Sets that are exact stay so where identities come, over the rows without them, and where the ones that go have gone.
 /// A reference more or less leaves them exact.
 pub fn sets_stay_exact()
-    ensures come { (rows all : List OneRow) (come : List ℕ) (live : List Live) → Ascends (map (λ row. row.number) all) → IsPartOf rows all
-        → ((number : ℕ) → has_row number all ≡ true → has number come ≡ not (has_row number rows))
+    ensures come { (rows all : List OneRow) (come : List ℕ) (live : List Live) → Ascends (map (λ row. row.number) all)
+        → IsPartOf rows all → ((number : ℕ) → has_row number all ≡ true → has number come ≡ not (has_row number rows))
         → AreExact rows live → AreExact (rows_without come all) live }
-    ensures gone { (all rows : List OneRow) (gone : List ℕ) (live : List Live) → Ascends (map (λ row. row.number) all) → IsPartOf rows all
-        → ((number : ℕ) → has_row number all ≡ true → has number gone ≡ not (has_row number rows))
+    ensures gone { (all rows : List OneRow) (gone : List ℕ) (live : List Live) → Ascends (map (λ row. row.number) all)
+        → IsPartOf rows all → ((number : ℕ) → has_row number all ≡ true → has number gone ≡ not (has_row number rows))
         → AreExact (rows_without gone all) live → AreExact rows live }
-    ensures referred { (rows : List OneRow) (number : ℕ) (live : List Live) → AreExact rows live → AreExact rows (with_reference number live) }
-    ensures dropped { (rows : List OneRow) (number : ℕ) (live : List Live) → AreExact rows live → AreExact rows (without_reference number live) }
+    ensures referred { (rows : List OneRow) (number : ℕ) (live : List Live)
+        → AreExact rows live → AreExact rows (with_reference number live) }
+    ensures dropped { (rows : List OneRow) (number : ℕ) (live : List Live)
+        → AreExact rows live → AreExact rows (without_reference number live) }
 {}
 
 /// A label set that takes a new number may come: what a plan asks holds of that number, over the rows with it.
 pub fn a_label_set_may_come()
-    ensures { (labels : List Label) (rows : List OneRow) (number revision : ℕ) (cache : Cache) → Ascends (map (λ row. row.number) rows)
-        → number ≡ number_for labels rows → has_row number rows ≡ false → newest cache.log < revision → AreExact rows cache.live
-        → MayPlan revision (number ∷ []) [] (labels_held labels rows) cache }
+    ensures { (labels : List Label) (rows : List OneRow) (number revision : ℕ) (cache : Cache)
+        → Ascends (map (λ row. row.number) rows)
+        → number ≡ number_for labels rows → has_row number rows ≡ false → newest cache.log < revision
+        → AreExact rows cache.live → MayPlan revision (number ∷ []) [] (labels_held labels rows) cache }
 {}
 
 /// What `add` gives is live, and `drop_ref` of it takes back what `add` did: the selectors are as they were, each with
 /// its references and its set.
 pub fn a_reference_taken_back_leaves_the_selectors()
-    ensures lives { (peer : Peer) (rows : List OneRow) (cache : Cache) → is_live (number_added peer cache) (added peer rows cache).live ≡ true }
+    ensures lives { (peer : Peer) (rows : List OneRow) (cache : Cache)
+        → is_live (number_added peer cache) (added peer rows cache).live ≡ true }
     ensures back { (peer : Peer) (rows : List OneRow) (cache : Cache) → IsSound cache
         → (dropped (number_added peer cache) (added peer rows cache)).live ≡ cache.live }
 {}

@@ -26,7 +26,8 @@ impl Model for Made {
     ghost use Rattle.std.specs.Arc.{arc_value};
     ghost use Rattle.pol_selcache.specs.Made.{IsMadeOf};
 
-    ghost view = { λ made. record { was = arc_value made.was; gained = made.gained; lost = made.lost; set = arc_value made.set } };
+    ghost view = { λ made.
+        record { was = arc_value made.was; gained = made.gained; lost = made.lost; set = arc_value made.set } };
 
     ghost invariant = { λ made. IsMadeOf (arc_value made.was) made.gained made.lost (arc_value made.set) };
 }
@@ -74,7 +75,8 @@ impl Made {
         gained: &IdSet,
         lost: &IdSet,
     ) -> Result<Option<Arc<IdSet>>, Memory>
-        ensures made { IfOk result (λ found. IfSome found (λ set. IsMadeOf was.now gained.now lost.now (arc_value set))) }
+        ensures made { IfOk result (λ found.
+            IfSome found (λ set. IsMadeOf was.now gained.now lost.now (arc_value set))) }
     {
         if !self.is_of(was, gained, lost) {
             return Ok(None);

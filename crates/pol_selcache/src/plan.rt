@@ -67,7 +67,8 @@ fn is_still(gained: &IdSet, lost: &IdSet) -> bool
 
 /// Puts one change more behind the others, where there is one.
 fn push_some(changes: &mut Vec<Planned>, change: Option<Planned>) -> Result<(), Memory>
-    ensures pushed { OnOk result (planned_in changes.new.items ≡ planned_in changes.old.items ++ cons_option (option_map planned_of change) []) }
+    ensures pushed { OnOk result (planned_in changes.new.items
+        ≡ planned_in changes.old.items ++ cons_option (option_map planned_of change) []) }
 {
     if let Some(change) = change {
         changes.push(change)?;
@@ -88,7 +89,8 @@ fn plan_one<L: Ledger>(
     steps: &mut Steps<L>,
 ) -> Result<Option<Planned>, Memory>
     requires moving { Moving identities.now come.now gone.now row.now.peer (arc_value row.now.set) }
-    ensures change { IfOk result (λ change. option_map planned_of change ≡ change_to (set_at (rows_without gone.now identities.now) row.now.peer) (live_of number row.now)) }
+    ensures change { IfOk result (λ change. option_map planned_of change
+        ≡ change_to (set_at (rows_without gone.now identities.now) row.now.peer) (live_of number row.now)) }
     ensures cost { steps.new ≤ steps.old + steps_of row.now.peer * length come.now }
 {
     let gained = selected_of(alloc, &row.peer, come, identities, steps)?;
@@ -119,8 +121,10 @@ fn plan_next<L: Ledger>(
 ) -> Result<Option<Planned>, Memory>
     requires come { IsByHeading identities.now come.now }
     requires gone { IsByHeading identities.now gone.now }
-    requires moving { Moving identities.now come.now.numbers.now gone.now.numbers.now row.now.peer (arc_value row.now.set) }
-    ensures change { IfOk result (λ change. option_map planned_of change ≡ change_to (set_at (rows_without gone.now.numbers.now identities.now) row.now.peer) (live_of number row.now)) }
+    requires moving { Moving identities.now come.now.numbers.now gone.now.numbers.now row.now.peer
+        (arc_value row.now.set) }
+    ensures change { IfOk result (λ change. option_map planned_of change
+        ≡ change_to (set_at (rows_without gone.now.numbers.now identities.now) row.now.peer) (live_of number row.now)) }
     ensures cost { steps.new ≤ steps.old + steps_of row.now.peer * length come.now.numbers.now }
 {
     let come = come.tried_for(alloc, &row.peer)?;
@@ -141,10 +145,12 @@ fn plan_each<L: Ledger>(
 ) -> Result<Vec<Planned>, Memory>
     requires come { IsByHeading identities.now come.now }
     requires gone { IsByHeading identities.now gone.now }
-    requires moving { AllByRecursion (λ s. Moving identities.now come.now.numbers.now gone.now.numbers.now s.peer s.set) table.now }
+    requires moving { AllByRecursion (λ s.
+        Moving identities.now come.now.numbers.now gone.now.numbers.now s.peer s.set) table.now }
     requires live { AllByRecursion (λ n. is_live n table.now ≡ true) tried.now }
     requires ascend { Ascends tried.now }
-    ensures changes { IfOk result (λ changes. planned_in changes.items ≡ changes_for (rows_without gone.now.numbers.now identities.now) (of_numbers tried.now table.now)) }
+    ensures changes { IfOk result (λ changes. planned_in changes.items
+        ≡ changes_for (rows_without gone.now.numbers.now identities.now) (of_numbers tried.now table.now)) }
     ensures cost { steps.new ≤ steps.old + label_selectors table.now * length come.now.numbers.now }
 {
     let mut changes = Vec::with_capacity(alloc, tried.len())?;
@@ -172,7 +178,8 @@ fn plan_all<L: Ledger>(
     steps: &mut Steps<L>,
 ) -> Result<Vec<Planned>, Memory>
     requires moving { AllByRecursion (λ s. Moving identities.now come.now gone.now s.peer s.set) table.now }
-    ensures changes { IfOk result (λ changes. planned_in changes.items ≡ changes_for (rows_without gone.now identities.now) table.now) }
+    ensures changes { IfOk result (λ changes.
+        planned_in changes.items ≡ changes_for (rows_without gone.now identities.now) table.now) }
     ensures cost { steps.new ≤ steps.old + label_selectors table.now * length come.now }
 {
     let headings = headings_of(alloc, come, gone, identities)?;
@@ -197,8 +204,10 @@ impl SelectorCache {
         steps: &mut Steps<L>,
     ) -> Result<Plan, Memory>
         requires may { MayPlan revision come.now gone.now identities.now self.old }
-        ensures plan { IfOk result (λ plan. plan ≡ plan_for revision (rows_without gone.now identities.now) self.old.live) }
-        ensures exact { IfOk result (λ plan. AreExact (rows_without gone.now identities.now) (changed plan.changes self.old.live)) }
+        ensures plan { IfOk result (λ plan.
+            plan ≡ plan_for revision (rows_without gone.now identities.now) self.old.live) }
+        ensures exact { IfOk result (λ plan.
+            AreExact (rows_without gone.now identities.now) (changed plan.changes self.old.live)) }
         ensures fits { IfOk result (λ plan. IsPlanFor plan self.new) }
         ensures same { self.new ≡ with_room self.new.log.spare self.old }
         ensures reserved { IfOk result (λ plan. self.new.log.spare ≡ max self.old.log.spare (length plan.changes)) }
@@ -228,7 +237,8 @@ impl SelectorCache {
     /// Makes one change after another.
     fn carry_all(&mut self, revision: u64, changes: Vec<Planned>)
         requires fits { IsPlanFor (record { revision = revision; changes = planned_in changes.items }) self.old }
-        ensures carried { self.new ≡ carried (record { revision = revision; changes = planned_in changes.items }) self.old }
+        ensures carried { self.new
+            ≡ carried (record { revision = revision; changes = planned_in changes.items }) self.old }
         ensures sound { IsSound self.new }
     {
         let _ = &self.next;
@@ -272,7 +282,8 @@ impl SelectorCache {
         steps: &mut Steps<L>,
     ) -> Result<(), Memory>
         requires may { MayPlan revision come.now gone.now identities.now self.old }
-        ensures changed { OnOk result ((spare : ℕ) × (self.new ≡ carried (plan_for revision (rows_without gone.now identities.now) self.old.live) (with_room spare self.old))) }
+        ensures changed { OnOk result ((spare : ℕ) × (self.new ≡ carried
+            (plan_for revision (rows_without gone.now identities.now) self.old.live) (with_room spare self.old))) }
         ensures exact { OnOk result (AreExact (rows_without gone.now identities.now) self.new.live) }
         ensures err { OnErr result (self.new ≡ self.old) }
         ensures sound { IsSound self.new }

@@ -82,7 +82,8 @@ pub(crate) fn tried(
     headings: &Headings,
 ) -> Result<Vec<u64>, Memory>
     ensures live { IfOk result (λ numbers. AllByRecursion (λ n. is_live n table.now ≡ true) numbers.items) }
-    ensures all { IfOk result (λ numbers. AllByRecursion (λ s. is_among headings.now (heading_of s.peer) ≡ true → has s.number numbers.items ≡ true) table.now) }
+    ensures all { IfOk result (λ numbers. AllByRecursion (λ s.
+        is_among headings.now (heading_of s.peer) ≡ true → has s.number numbers.items ≡ true) table.now) }
     ensures ascend { IfOk result (λ numbers. Ascends numbers.items) }
 {
     let filed = table.filed_under(alloc, headings)?;

@@ -23,7 +23,8 @@ use std::sync::Arc;
 /// Puts the number of a peer, for which there is room.
 fn put_known(known: &mut IndexMap<Peer, u64>, peer: Peer, number: u64)
     requires room { 0 < spare known.old }
-    ensures { (p : OnePeer) → get peers.ghosts.eq known.new p ≡ (if peers.ghosts.eq peer p then Some number else get peers.ghosts.eq known.old p) }
+    ensures { (p : OnePeer) → get peers.ghosts.eq known.new p
+        ≡ (if peers.ghosts.eq peer p then Some number else get peers.ghosts.eq known.old p) }
 {
     match known.insert(peer, number) {
         Ok(_) => (),
@@ -33,7 +34,8 @@ fn put_known(known: &mut IndexMap<Peer, u64>, peer: Peer, number: u64)
 
 /// A row with one reference.
 pub(crate) fn new_row(alloc: Global, peer: &Peer, set: Arc<IdSet>) -> Result<Row, Memory>
-    ensures live { IfOk result (λ row. (number : ℕ) → live_of number row ≡ record { number = number; peer = peer.now; references = 1; set = arc_value set }) }
+    ensures live { IfOk result (λ row. (number : ℕ)
+        → live_of number row ≡ record { number = number; peer = peer.now; references = 1; set = arc_value set }) }
 {
     Ok(Row {
         peer: peer.copy(alloc)?,
@@ -85,7 +87,8 @@ pub(crate) fn add_row(
 
 /// Takes a selector's peer from among those that have numbers, and its number from under its heading.
 fn forget(known: &mut IndexMap<Peer, u64>, filing: &mut Filing, row: &Row, number: u64)
-    ensures known { (p : OnePeer) → get peers.ghosts.eq known.new p ≡ (if peers.ghosts.eq row.now.peer p then None else get peers.ghosts.eq known.old p) }
+    ensures known { (p : OnePeer) → get peers.ghosts.eq known.new p
+        ≡ (if peers.ghosts.eq row.now.peer p then None else get peers.ghosts.eq known.old p) }
     ensures unfiled { IsUnfiled (heading_of row.now.peer) number filing.old filing.new }
 {
     known.swap_remove(&row.peer);

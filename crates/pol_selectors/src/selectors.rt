@@ -146,7 +146,8 @@ impl Selectors {
     ) -> Result<(), Memory>
         requires new { number_of peer.now self.old ≡ None }
         requires above { AllByRecursion (λ s. s.number < number) self.old }
-        ensures pushed { OnOk result (self.new ≡ self.old ++ record { number = number; peer = peer.now; references = 1; set = arc_value set } ∷ []) }
+        ensures pushed { OnOk result (self.new
+            ≡ self.old ++ record { number = number; peer = peer.now; references = 1; set = arc_value set } ∷ []) }
         ensures err { OnErr result (self.new ≡ self.old) }
         ensures sound { AreLive self.new }
     {

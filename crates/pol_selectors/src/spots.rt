@@ -78,7 +78,8 @@ pub(crate) fn row_at(spots: &[Spot], place: usize, number: u64) -> &Row
 /// Another count of references.
 pub(crate) fn put_references(spots: &mut Vec<Spot>, place: usize, number: u64, references: u64)
     requires place { IsLiveAt number spots.old.items place }
-    ensures { (spot : OneSpot) → slice_get spots.old.items place ≡ Some spot → IsPutAt place (option_map (with_count references) (live_at spot)) spots.old.items spots.new.items }
+    ensures { (spot : OneSpot) → slice_get spots.old.items place ≡ Some spot
+        → IsPutAt place (option_map (with_count references) (live_at spot)) spots.old.items spots.new.items }
 {
     if let Some(row) = &mut spots[place].row {
         row.references = references;
@@ -88,7 +89,8 @@ pub(crate) fn put_references(spots: &mut Vec<Spot>, place: usize, number: u64, r
 /// Another set.
 pub(crate) fn put_set(spots: &mut Vec<Spot>, place: usize, number: u64, set: Arc<IdSet>)
     requires place { IsLiveAt number spots.old.items place }
-    ensures { (spot : OneSpot) → slice_get spots.old.items place ≡ Some spot → IsPutAt place (option_map (with_numbers (arc_value set)) (live_at spot)) spots.old.items spots.new.items }
+    ensures { (spot : OneSpot) → slice_get spots.old.items place ≡ Some spot
+        → IsPutAt place (option_map (with_numbers (arc_value set)) (live_at spot)) spots.old.items spots.new.items }
 {
     if let Some(row) = &mut spots[place].row {
         row.set = set;

@@ -57,8 +57,10 @@ fn ask<L: Ledger>(
 ) -> Result<Answer, Memory>
     requires short { IsShortAsked asked }
     ensures options { options_in machine.new ≡ options_in machine.old }
-    ensures stands { (m : OneMachine) → Stands machine.old m → OnOk result (Stands machine.new (machine_asked (options_in machine.old) m asked)) }
-    ensures told { (m : OneMachine) → Stands machine.old m → IfOk result (IsToldAs (IsSaid (options_in machine.old) m asked)) }
+    ensures stands { (m : OneMachine) → Stands machine.old m
+        → OnOk result (Stands machine.new (machine_asked (options_in machine.old) m asked)) }
+    ensures told { (m : OneMachine) → Stands machine.old m
+        → IfOk result (IsToldAs (IsSaid (options_in machine.old) m asked)) }
 {
     match answer(alloc, machine, asked, steps) {
         Ok(said) => match told_of(said) {
@@ -84,8 +86,10 @@ pub fn answer_command<L: Ledger>(
     ensures options { options_in machine.new ≡ options_in machine.old }
 
     // The machine is the one after the line, and its answer that of the definition.
-    ensures stands { (m : OneMachine) → Stands machine.old m → OnOk result (Stands machine.new (machine_then (options_in machine.old) m (Ok command))) }
-    ensures told { (m : OneMachine) → Stands machine.old m → IfOk result (IsLineAnswer (options_in machine.old) m phase (Ok command)) }
+    ensures stands { (m : OneMachine) → Stands machine.old m
+        → OnOk result (Stands machine.new (machine_then (options_in machine.old) m (Ok command))) }
+    ensures told { (m : OneMachine) → Stands machine.old m
+        → IfOk result (IsLineAnswer (options_in machine.old) m phase (Ok command)) }
 {
     match command {
         Command::Commit { .. } => unreachable!(),

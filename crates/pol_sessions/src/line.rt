@@ -64,7 +64,8 @@ fn commit<N: NodeName, W: Wait, R: Wait + Drop, L: Ledger>(
 ) -> Result<Answer, Memory>
     requires handed_out { has N.passes pass.old.number ≡ true }
     requires hints { hint_pass.old.queue ≡ hints.now.name }
-    ensures answered { IfOk result (λ answer. (session : ℕ) → GoesOn N.options pass.old (command.Commit session request) answer pass.new) }
+    ensures answered { IfOk result (λ answer.
+        (session : ℕ) → GoesOn N.options pass.old (command.Commit session request) answer pass.new) }
     ensures nothing { OnErr result (PassGrows N.options pass.old pass.new []) }
     ensures hints { hint_pass.new.queue ≡ hints.now.name }
 {
@@ -120,7 +121,8 @@ fn trace<N: NodeName, W: Wait, R: Wait + Drop>(
     pass: &mut Pass<N>,
     query: &Query,
 ) -> Result<Answer, Memory>
-    ensures answered { IfOk result (λ answer. (session : ℕ) → GoesOn N.options pass.old (command.Trace session query.now) answer pass.new) }
+    ensures answered { IfOk result (λ answer.
+        (session : ℕ) → GoesOn N.options pass.old (command.Trace session query.now) answer pass.new) }
     ensures nothing { OnErr result (PassGrows N.options pass.old pass.new []) }
 {
     match node.trace(rt, alloc, pass, query) {
@@ -139,7 +141,8 @@ fn sync<N: NodeName, W: Wait, R: Wait + Drop>(
     node: &Node<N, R>,
     pass: &mut Pass<N>,
 ) -> Result<Answer, Memory>
-    ensures answered { IfOk result (λ answer. (session : ℕ) → GoesOn N.options pass.old (command.Sync session) answer pass.new) }
+    ensures answered { IfOk result (λ answer.
+        (session : ℕ) → GoesOn N.options pass.old (command.Sync session) answer pass.new) }
     ensures nothing { OnErr result (PassGrows N.options pass.old pass.new []) }
 {
     match node.sync(rt, alloc, pass) {

@@ -83,7 +83,8 @@ fn play_sessions<
     requires one_each { length lines.items ≡ length passes.items }
     requires few { length passes.items ≤ 40 }
     requires hints { hint_pass.queue ≡ hints.now.name }
-    ensures { IfOk result (λ played. HaveGoneOn N.options passes.items lines.items played.told.items played.passes.items) }
+    ensures { IfOk result (λ played.
+        HaveGoneOn N.options passes.items lines.items played.told.items played.passes.items) }
 {
     let mut passes = passes;
     let mut lines = lines;
@@ -131,7 +132,8 @@ fn play_in_turn<
     requires few { length passes.items ≤ 39 }
     requires last { has N.passes pass.number ≡ true }
     requires hints { hint_pass.queue ≡ hints.now.name }
-    ensures { IfOk result (λ played. HaveGoneOn N.options (passes.items ++ pass ∷ []) (lines.items ++ own ∷ []) played.told.items played.passes.items) }
+    ensures { IfOk result (λ played. HaveGoneOn N.options
+        (passes.items ++ pass ∷ []) (lines.items ++ own ∷ []) played.told.items played.passes.items) }
 {
     let mut hint_pass = hint_pass;
     let session = passes.len() as u32 + 1;
@@ -165,7 +167,8 @@ fn play_at_once<
     requires few { length passes.items ≤ 39 }
     requires last { has N.passes pass.number ≡ true }
     requires hints { hint_pass.queue ≡ hints.now.name }
-    ensures { IfOk result (λ played. HaveGoneOn N.options (passes.items ++ pass ∷ []) (lines.items ++ own ∷ []) played.told.items played.passes.items) }
+    ensures { IfOk result (λ played. HaveGoneOn N.options
+        (passes.items ++ pass ∷ []) (lines.items ++ own ∷ []) played.told.items played.passes.items) }
 {
     let mut hint_pass = hint_pass;
     let session = passes.len() as u32 + 1;
@@ -177,7 +180,8 @@ fn play_at_once<
             requires one_each { length lines.items ≡ length passes.items }
             requires few { length passes.items ≤ 39 }
             requires hints { hint_pass.queue ≡ hints.now.name }
-            ensures { IfOk result (λ played. HaveGoneOn N.options passes.items lines.items played.told.items played.passes.items) }
+            ensures { IfOk result (λ played.
+                HaveGoneOn N.options passes.items lines.items played.told.items played.passes.items) }
         { play_sessions(rt, alloc, node, hints, gate, hint_pass, passes, lines) },
         || -> Result<Done<N>, Memory>
             requires handed_out { has N.passes pass.number ≡ true }
@@ -196,8 +200,9 @@ fn is_alone(own: &Commands, others: &[Commands]) -> bool {
 // One session more, whatever it and the others went on from.
 fn more<N: NodeName>(front: PlayedPhase<N>, back: Done<N>) -> Result<PlayedPhase<N>, Memory>
     ensures { (olds : List PassState) (lines : List (List Command)) (old : PassState) (own : List Command)
-        → HaveGoneOn N.options olds lines front.told.items front.passes.items → HasGoneOn N.options old own back.answers back.pass
-        → IfOk result (λ played. HaveGoneOn N.options (olds ++ old ∷ []) (lines ++ own ∷ []) played.told.items played.passes.items) }
+        → HaveGoneOn N.options olds lines front.told.items front.passes.items
+        → HasGoneOn N.options old own back.answers back.pass → IfOk result (λ played.
+        HaveGoneOn N.options (olds ++ old ∷ []) (lines ++ own ∷ []) played.told.items played.passes.items) }
 {
     let PlayedPhase {
         mut passes,
@@ -229,7 +234,8 @@ pub fn play_phase<
     requires one_each { length lines.items ≡ length passes.items }
     requires few { length passes.items ≤ 40 }
     requires hints { hint_pass.queue ≡ hints.now.name }
-    ensures { IfOk result (λ played. IsPhase N.options N.passes passes.items lines.items played.told.items played.passes.items) }
+    ensures { IfOk result (λ played.
+        IsPhase N.options N.passes passes.items lines.items played.told.items played.passes.items) }
 {
     let mut played = play_sessions(rt, alloc, node, hints, gate, hint_pass, passes, lines)?;
     node.meet(rt, &mut played.passes);
@@ -256,7 +262,8 @@ pub fn play_phases<
     requires one_each { AllByRecursion (λ lines. length lines ≡ length passes.items) phases.items }
     requires few { length passes.items ≤ 40 }
     requires hints { hint_pass.queue ≡ hints.now.name }
-    ensures phases { IfOk result (λ played. ArePhases N.options N.passes passes.items phases.items played.told.items played.passes.items) }
+    ensures phases { IfOk result (λ played.
+        ArePhases N.options N.passes passes.items phases.items played.told.items played.passes.items) }
     ensures as_many { IfOk result (λ played. length played.passes.items ≡ length passes.items) }
 {
     let mut hint_pass = hint_pass;

@@ -50,8 +50,9 @@ pub fn play_script<W: Threads + Wait + Sync, G: Gate + Sync>(
     requires limit { config.map_max ≤ 65536 }
     requires sessions { (0 < config.passes) × (config.passes ≤ 40) }
     requires one_each { AllByRecursion (λ lines. length lines ≡ config.passes) phases.items }
-    ensures { IfOk result (λ played. IsScriptPlayed (record { mode = config.mode; localhost = config.localhost; map_max = Some config.map_max }) config.passes
-        phases.items played.told.items played.last) }
+    ensures { IfOk result (λ played.
+        IsScriptPlayed (record { mode = config.mode; localhost = config.localhost; map_max = Some config.map_max })
+        config.passes phases.items played.told.items played.last) }
 {
     let mut left = phases;
     for _ in rt.forever() {
@@ -76,8 +77,9 @@ fn play_once<W: Threads + Wait + Sync, G: Gate + Sync>(
     requires limit { config.map_max ≤ 65536 }
     requires sessions { (0 < config.passes) × (config.passes ≤ 40) }
     requires one_each { AllByRecursion (λ lines. length lines ≡ config.passes) phases.items }
-    ensures played { IfOk result (λ played. IsScriptPlayed (record { mode = config.mode; localhost = config.localhost; map_max = Some config.map_max }) config.passes
-        phases.items played.told.items played.last) }
+    ensures played { IfOk result (λ played.
+        IsScriptPlayed (record { mode = config.mode; localhost = config.localhost; map_max = Some config.map_max })
+        config.passes phases.items played.told.items played.last) }
     ensures again { IfErr result (IsAgain phases.items) }
 {
     play_named::<Brand, W, G>(rt, alloc, NewBook::new(), config, workers, gate, phases)
@@ -94,12 +96,14 @@ fn play_named<N: NodeName + Send + Sync, W: Threads + Wait + Sync, G: Gate + Syn
     phases: Vec<Items<Commands>>,
 ) -> Result<PlayedScript, Stopped>
     requires book { book ≡ N.book }
-    requires options { N.options ≡ record { mode = config.mode; localhost = config.localhost; map_max = Some config.map_max } }
+    requires options { N.options
+        ≡ record { mode = config.mode; localhost = config.localhost; map_max = Some config.map_max } }
     requires passes { N.passes ≡ map (λ pass. pass.number) (drop 257 (new_passes (257 + config.passes))) }
     requires limit { config.map_max ≤ 65536 }
     requires sessions { (0 < config.passes) × (config.passes ≤ 40) }
     requires one_each { AllByRecursion (λ lines. length lines ≡ config.passes) phases.items }
-    ensures played { IfOk result (λ played. IsScriptPlayed N.options config.passes phases.items played.told.items played.last) }
+    ensures played { IfOk result (λ played.
+        IsScriptPlayed N.options config.passes phases.items played.told.items played.last) }
     ensures again { IfErr result (IsAgain phases.items) }
 {
     let places = 257 + config.passes;

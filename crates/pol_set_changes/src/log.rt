@@ -57,7 +57,8 @@ fn net_on_chain(
     selector: u64,
     revision: u64,
 ) -> Result<Move, Memory>
-    ensures { IfOk result (λ m. m ≡ net selector (found_in selector revision (on_chain (selector % 65536) nodes.now.ages))) }
+    ensures { IfOk result (λ m.
+        m ≡ net selector (found_in selector revision (on_chain (selector % 65536) nodes.now.ages))) }
 {
     let mut came = Vec::new(alloc);
     let mut went = Vec::new(alloc);

@@ -37,7 +37,8 @@ fn is_more_often(ids: &[u32], others: &[u32], id: u32) -> bool
 fn more_often(alloc: Global, ids: &[u32], others: &[u32]) -> Result<Vec<u32>, Memory>
     requires ids_sorted { IsSorted nat_cmp ids.now }
     requires others_sorted { IsSorted nat_cmp others.now }
-    ensures { IfOk result (λ more. more.items ≡ filter (λ id. nat_lt (times id others.now) (times id ids.now)) ids.now) }
+    ensures { IfOk result (λ more.
+        more.items ≡ filter (λ id. nat_lt (times id others.now) (times id ids.now)) ids.now) }
 {
     Ok(
         ids.iter()
@@ -65,7 +66,12 @@ pub(crate) fn net_of(
     mut came: Vec<u32>,
     mut went: Vec<u32>,
 ) -> Result<Move, Memory>
-    ensures { IfOk result (λ net. net ≡ record { selector = selector; gained = surplus came.items went.items; lost = surplus went.items came.items }) }
+    ensures { IfOk result (λ net. net
+        ≡ record {
+          selector = selector;
+          gained = surplus came.items went.items;
+          lost = surplus went.items came.items;
+        }) }
 {
     came.sort()?;
     went.sort()?;

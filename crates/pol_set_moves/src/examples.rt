@@ -12,9 +12,11 @@ ghost use Rattle.pol_set_moves.specs.Moves.{TellsMovesSince};
 pub fn changes_are_counted()
     ensures revisions { revisions_until ordinary listings 5 ≡ 5 ∷ 3 ∷ 2 ∷ [] }
     ensures none { changes_between (state_at ordinary listings 3) (state_at ordinary listings 4) ≡ 0 }
-    ensures sets { (set_in (state_at ordinary listings 2) of_x ≡ []) × (set_in (state_at ordinary listings 3) of_x ≡ 257 ∷ []) }
+    ensures sets { (set_in (state_at ordinary listings 2) of_x ≡ [])
+        × (set_in (state_at ordinary listings 3) of_x ≡ 257 ∷ []) }
     ensures horizon { horizon_of ordinary listings ≡ 0 }
-    ensures before { (revision_before 0 (5 ∷ 3 ∷ 2 ∷ []) ≡ 5) × (revision_before 2 (5 ∷ 3 ∷ 2 ∷ []) ≡ 2) × (revision_before 3 (5 ∷ 3 ∷ 2 ∷ []) ≡ 0) }
+    ensures before { (revision_before 0 (5 ∷ 3 ∷ 2 ∷ []) ≡ 5)
+        × (revision_before 2 (5 ∷ 3 ∷ 2 ∷ []) ≡ 2) × (revision_before 3 (5 ∷ 3 ∷ 2 ∷ []) ≡ 0) }
 {}
 
 /// A peer is listed in a state by whatever policy, and ever since a revision where no state from it on lacks it.
@@ -32,11 +34,14 @@ pub fn listings_are_told()
 /// What is told of the moves of a row is one thing: since a revision from which on its peer is listed its one move, since
 /// an earlier one none, and nothing where no revision is known.
 pub fn moves_are_told()
-    ensures since { (row : OneRow) (moves : Option (List OneMove)) → row.peer ≡ of_x → TellsMovesSince ordinary listings (Some 2) (row ∷ []) moves
+    ensures since { (row : OneRow) (moves : Option (List OneMove))
+        → row.peer ≡ of_x → TellsMovesSince ordinary listings (Some 2) (row ∷ []) moves
         → moves ≡ Some (record { selector = row.selector; gained = 257 ∷ []; lost = [] } ∷ []) }
-    ensures still { (row : OneRow) (moves : Option (List OneMove)) → row.peer ≡ of_x → TellsMovesSince ordinary listings (Some 3) (row ∷ []) moves
+    ensures still { (row : OneRow) (moves : Option (List OneMove))
+        → row.peer ≡ of_x → TellsMovesSince ordinary listings (Some 3) (row ∷ []) moves
         → moves ≡ Some (record { selector = row.selector; gained = []; lost = [] } ∷ []) }
-    ensures earlier { (row : OneRow) (moves : Option (List OneMove)) → row.peer ≡ of_x → TellsMovesSince ordinary listings (Some 1) (row ∷ []) moves
-        → moves ≡ Some [] }
-    ensures unknown { (rows : List OneRow) (moves : Option (List OneMove)) → TellsMovesSince ordinary listings None rows moves → moves ≡ None }
+    ensures earlier { (row : OneRow) (moves : Option (List OneMove))
+        → row.peer ≡ of_x → TellsMovesSince ordinary listings (Some 1) (row ∷ []) moves → moves ≡ Some [] }
+    ensures unknown { (rows : List OneRow) (moves : Option (List OneMove))
+        → TellsMovesSince ordinary listings None rows moves → moves ≡ None }
 {}

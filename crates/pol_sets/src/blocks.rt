@@ -73,7 +73,8 @@ fn push_moved(
     requires block_ascends { IsStrictlySortedBy nat_cmp block.now }
     requires gained_ascend { IsStrictlySortedBy nat_cmp gained.now }
     requires lost_ascend { IsStrictlySortedBy nat_cmp lost.now }
-    ensures pushed { OnOk result (numbers_in blocks.new.items ≡ numbers_in blocks.old.items ++ union (without block.now lost.now) gained.now) }
+    ensures pushed { OnOk result (numbers_in blocks.new.items
+        ≡ numbers_in blocks.old.items ++ union (without block.now lost.now) gained.now) }
 {
     if gained.is_empty() && lost.is_empty() {
         return push_block(alloc, blocks, block.share()?);
@@ -103,7 +104,8 @@ pub(crate) fn moved_blocks(
     requires blocks_ascend { IsStrictlySortedBy nat_cmp (numbers_in blocks.now) }
     requires gained_ascend { IsStrictlySortedBy nat_cmp gained.now }
     requires lost_ascend { IsStrictlySortedBy nat_cmp lost.now }
-    ensures { IfOk result (λ moved. numbers_in moved.items ≡ union (without (numbers_in blocks.now) lost.now) gained.now) }
+    ensures { IfOk result (λ moved.
+        numbers_in moved.items ≡ union (without (numbers_in blocks.now) lost.now) gained.now) }
 {
     let mut moved = Vec::with_capacity(alloc, blocks.len().saturating_add(1))?;
     let mut left_gained = gained;

@@ -50,7 +50,8 @@ fn words_changed(
     received: &[Difference],
     ports: &[u16],
 ) -> Result<Vec<PortSaid>, Memory>
-    ensures { IfOk result (λ words. words.items ≡ map (changed_at halves sent_before.now received_before.now sent.now received.now) ports.now) }
+    ensures { IfOk result (λ words.
+        words.items ≡ map (changed_at halves sent_before.now received_before.now sent.now received.now) ports.now) }
 {
     let mut words = Vec::new(alloc);
     for port in ports {
@@ -92,7 +93,8 @@ pub fn changed_ranges(
     sent: &[Difference],
     received: &[Difference],
 ) -> Result<Vec<Range>, Memory>
-    ensures { IfOk result (λ made. made.items ≡ ranges (changed_at halves sent_before.now received_before.now sent.now received.now)) }
+    ensures { IfOk result (λ made.
+        made.items ≡ ranges (changed_at halves sent_before.now received_before.now sent.now received.now)) }
 {
     let mut cuts = port_0(alloc)?;
     push_cuts(&mut cuts, sent_before)?;

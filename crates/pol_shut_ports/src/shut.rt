@@ -35,7 +35,8 @@ impl Model for Shut {
 
     ghost view = { λ shut. shut.entries };
 
-    ghost invariant = { λ shut. All (λ e. e.0.id < 2 ^ 32) shut.entries × IsDifference all_allowed shut.entries shut.list };
+    ghost invariant = { λ shut.
+        All (λ e. e.0.id < 2 ^ 32) shut.entries × IsDifference all_allowed shut.entries shut.list };
 }
 
 /// The key of a direction for every number, protocol and port.
@@ -126,7 +127,8 @@ fn count_below(ranges: &[Difference], bound: u64) -> usize
 fn bounds(ranges: &[Difference], place: u64) -> (usize, usize)
     requires up { IsNonDecreasingBy place_of ranges.now }
     requires small { place < 2 ^ 36 }
-    ensures part { take (result.1 - result.0) (drop result.0 ranges.now) ≡ filter (λ d. place_of d == place) ranges.now }
+    ensures part { take (result.1 - result.0) (drop result.0 ranges.now) ≡ filter (λ d.
+        place_of d == place) ranges.now }
     ensures ordered { result.0 ≤ result.1 }
     ensures within { result.1 ≤ length ranges.now }
 {

@@ -65,7 +65,8 @@ fn count_below(entries: &[(MapKey, Kind)], bound: u64) -> usize
 fn bounds(entries: &[(MapKey, Kind)], place: u64) -> (usize, usize)
     requires up { IsNonDecreasingBy entry_place entries.now }
     requires small { place < 2 ^ 33 }
-    ensures part { take (result.1 - result.0) (drop result.0 entries.now) ≡ filter (λ e. entry_place e == place) entries.now }
+    ensures part { take (result.1 - result.0) (drop result.0 entries.now) ≡ filter (λ e.
+        entry_place e == place) entries.now }
     ensures ordered { result.0 ≤ result.1 }
     ensures within { result.1 ≤ length entries.now }
 {

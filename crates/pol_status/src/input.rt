@@ -26,9 +26,11 @@ pub fn read_script_bytes<S: Source>(alloc: Global, source: &mut S) -> Result<Vec
     ensures at_end { OnOk result (IsAtEnd (S.left source.new)) }
 
     // On failure.
-    ensures causes { IfErr result (λ status. (status ≡ Status.Read) ⊎ ((status ≡ Status.TooLong) ⊎ (status ≡ Status.Memory))) }
+    ensures causes { IfErr result (λ status.
+        (status ≡ Status.Read) ⊎ ((status ≡ Status.TooLong) ⊎ (status ≡ Status.Memory))) }
     ensures read { IsErrOf result Status.Read → Rose (S.faults source.old) (S.faults source.new) }
-    ensures too_long { IsErrOf result Status.TooLong → IfSome (S.left source.old) (λ script. IsTrue (is_too_long script)) }
+    ensures too_long { IsErrOf result Status.TooLong
+        → IfSome (S.left source.old) (λ script. IsTrue (is_too_long script)) }
 
     // Always.
     ensures taken { ConsumesSome (S.left source.old) (S.left source.new) }

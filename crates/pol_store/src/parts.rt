@@ -74,10 +74,12 @@ impl Store {
         requires allowed { (has_reserved labels.now && not (is_init labels.now)) ≡ false }
         requires settled { IsSettled (self.old.state.revision + 1) (numbers_of self.old) }
         requires room { self.old.state.revision < 2 ^ 64 - 1 }
-        ensures held { IfOk result (λ held. HoldsLabels (self.old.state.revision + 1) labels.now (numbers_of self.old) (numbers_of self.new) held.number held.plan) }
+        ensures held { IfOk result (λ held. HoldsLabels (self.old.state.revision + 1) labels.now
+            (numbers_of self.old) (numbers_of self.new) held.number held.plan) }
         ensures same { self.new ≡ with_numbers (numbers_of self.new) self.old }
         ensures err { OnErr result (self.new ≡ self.old) }
-        ensures exhausted { IsErrOf result IdentError.Exhausted ↔ (is_exhausted labels.now self.old.state.identities ≡ true) }
+        ensures exhausted { IsErrOf result IdentError.Exhausted
+            ↔ (is_exhausted labels.now self.old.state.identities ≡ true) }
         ensures ordered { IsLabelSet labels.now }
         ensures cost { steps.new ≤ steps.old + label_selectors self.old.cache.live }
     {
@@ -95,7 +97,8 @@ impl Store {
         requires held { has_row number self.old.state.identities ≡ true }
         requires settled { IsSettled (self.old.state.revision + 1) (numbers_of self.old) }
         requires room { self.old.state.revision < 2 ^ 64 - 1 }
-        ensures plan { IfOk result (λ plan. Prepares (self.old.state.revision + 1) (released number self.old.state.identities) self.new.cache plan) }
+        ensures plan { IfOk result (λ plan.
+            Prepares (self.old.state.revision + 1) (released number self.old.state.identities) self.new.cache plan) }
         ensures same { self.new ≡ with_numbers (with_log_room self.new.cache.log.spare (numbers_of self.old)) self.old }
         ensures err { OnErr result (self.new ≡ self.old) }
         ensures cost { steps.new ≤ steps.old }
@@ -107,7 +110,8 @@ impl Store {
     pub fn plan_nothing<L: Ledger>(&mut self, steps: &mut Steps<L>) -> Result<Plan, Memory>
         requires settled { IsSettled (self.old.state.revision + 1) (numbers_of self.old) }
         requires room { self.old.state.revision < 2 ^ 64 - 1 }
-        ensures plan { IfOk result (λ plan. Prepares (self.old.state.revision + 1) self.old.state.identities self.new.cache plan) }
+        ensures plan { IfOk result (λ plan.
+            Prepares (self.old.state.revision + 1) self.old.state.identities self.new.cache plan) }
         ensures same { self.new ≡ with_numbers (with_log_room self.new.cache.log.spare (numbers_of self.old)) self.old }
         ensures err { OnErr result (self.new ≡ self.old) }
         ensures cost { steps.new ≤ steps.old }
@@ -131,7 +135,8 @@ impl Store {
     pub fn release(&mut self, number: u32)
         requires held { has_row number self.old.state.identities ≡ true }
         requires not_local { is_local number ≡ false }
-        ensures released { self.new ≡ with_numbers (record (numbers_of self.old) { rows = released number self.old.state.identities }) self.old }
+        ensures released { self.new ≡ with_numbers
+            (record (numbers_of self.old) { rows = released number self.old.state.identities }) self.old }
     {
         self.numbers.fits_together();
         self.numbers.release(number);
@@ -145,7 +150,12 @@ impl Store {
         requires new_address { endpoint_at endpoint.address self.old.state.endpoints ≡ None }
         requires slot { endpoint.slot ≡ free_slot self.old.state.endpoints }
         requires within { endpoint.slot < ENDPOINTS_MAX }
-        ensures placed { self.new ≡ record self.old { state = record self.old.state { endpoints = placed_by (λ endpoint. endpoint.slot) endpoint self.old.state.endpoints }; rooms = self.new.rooms } }
+        ensures placed { self.new ≡ record self.old {
+          state = record self.old.state {
+            endpoints = placed_by (λ endpoint. endpoint.slot) endpoint self.old.state.endpoints;
+          };
+          rooms = self.new.rooms;
+        } }
     {
         self.endpoints.place(endpoint, name);
         self.addresses = None;
@@ -153,7 +163,10 @@ impl Store {
 
     /// The row of the endpoint of that name goes.
     pub fn drop_endpoint(&mut self, name: &str)
-        ensures gone { self.new ≡ record self.old { state = record self.old.state { endpoints = without_endpoint name.now self.old.state.endpoints }; rooms = self.new.rooms } }
+        ensures gone { self.new ≡ record self.old {
+          state = record self.old.state { endpoints = without_endpoint name.now self.old.state.endpoints };
+          rooms = self.new.rooms;
+        } }
     {
         self.endpoints.remove(name);
         self.addresses = None;
@@ -163,14 +176,24 @@ impl Store {
     pub fn put_name(&mut self, name: Text, number: u32)
         requires room { 0 < self.old.rooms.named }
         requires new { number_named name self.old.state.named ≡ None }
-        ensures placed { self.new ≡ record self.old { state = record self.old.state { named = self.old.state.named ++ record { name = name; number = number } ∷ [] }; rooms = self.new.rooms } }
+        ensures placed { self.new
+            ≡ record self.old {
+              state = record self.old.state {
+                named = self.old.state.named ++ record {
+                  name = name;
+                  number = number;
+                } ∷ [];
+              };
+              rooms = self.new.rooms;
+            } }
     {
         self.named.place(name, number);
     }
 
     /// The row of the named identity of that name goes.
     pub fn drop_name(&mut self, name: &str)
-        ensures gone { self.new ≡ record self.old { state = record self.old.state { named = self.new.state.named }; rooms = self.new.rooms } }
+        ensures gone { self.new ≡ record self.old
+            { state = record self.old.state { named = self.new.state.named }; rooms = self.new.rooms } }
         ensures numbers { SameNumbers self.new.state.named (without_named name.now self.old.state.named) }
     {
         self.named.remove(name);

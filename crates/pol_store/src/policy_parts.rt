@@ -41,7 +41,8 @@ impl Store {
     pub fn refer<L: Ledger>(&mut self, policy: &Policy, steps: &mut Steps<L>) -> Result<(), Memory>
         requires exact { AreExact self.old.state.identities self.old.cache.live }
         ensures same { self.new ≡ with_cache self.new.cache self.old }
-        ensures ok { OnOk result (RefersTo (listed_peers policy.now) self.old.state.identities self.old.cache self.new.cache) }
+        ensures ok { OnOk result
+            (RefersTo (listed_peers policy.now) self.old.state.identities self.old.cache self.new.cache) }
         ensures err { OnErr result (RefersTo [] self.old.state.identities self.old.cache self.new.cache) }
         ensures kept { KeepsNumbers self.old.cache.live self.new.cache.live }
         ensures fresh { TakesFreshNumbers self.old.cache self.new.cache }
@@ -91,12 +92,15 @@ impl Store {
         requires settled { IsSettled (self.old.state.revision + 1) (numbers_of self.old) }
         requires once { IsDistinct same_prefix given_up.now }
         requires apart { AreApart taken.now given_up.now self.old.state.identities }
-        ensures rows { OnOk result (self.new ≡ with_rows (prefixes_held taken.now self.old.state.identities) (with_cache self.new.cache self.old)) }
-        ensures plan { IfOk result (λ plan. Prepares (self.old.state.revision + 1) (prefixes_released given_up.now (prefixes_held taken.now self.old.state.identities)) self.new.cache plan) }
+        ensures rows { OnOk result (self.new
+            ≡ with_rows (prefixes_held taken.now self.old.state.identities) (with_cache self.new.cache self.old)) }
+        ensures plan { IfOk result (λ plan. Prepares (self.old.state.revision + 1)
+            (prefixes_released given_up.now (prefixes_held taken.now self.old.state.identities)) self.new.cache plan) }
         ensures sets { self.new.cache ≡ with_room self.new.cache.log.spare self.old.cache }
         ensures within { OnOk result (AllByRecursion IsPrefix taken.now) }
         ensures err { OnErr result (self.new ≡ self.old) }
-        ensures exhausted { IsErrOf result IdentError.Exhausted ↔ (MOST < locals_held self.old.state.identities + locals_wanted self.old.state.identities taken.now) }
+        ensures exhausted { IsErrOf result IdentError.Exhausted
+            ↔ (MOST < locals_held self.old.state.identities + locals_wanted self.old.state.identities taken.now) }
     {
         self.addresses = None;
         self.numbers
@@ -113,7 +117,8 @@ impl Store {
         requires room { self.old.state.revision < 2 ^ 64 - 1 }
         requires settled { IsSettled (self.old.state.revision + 1) (numbers_of self.old) }
         requires once { IsDistinct same_prefix given_up.now }
-        ensures plan { IfOk result (λ plan. Prepares (self.old.state.revision + 1) (prefixes_released given_up.now self.old.state.identities) self.new.cache plan) }
+        ensures plan { IfOk result (λ plan. Prepares (self.old.state.revision + 1)
+            (prefixes_released given_up.now self.old.state.identities) self.new.cache plan) }
         ensures same { self.new ≡ with_cache (with_room self.new.cache.log.spare self.old.cache) self.old }
     {
         self.addresses = None;
@@ -134,7 +139,8 @@ impl Store {
         requires room { 0 < self.old.rooms.policies }
         requires key { key ≡ new.policy.key }
         requires short { IsShortPolicy new.policy }
-        ensures same { self.new ≡ with_rooms self.new.rooms (with_policies (applied new self.old.state.policies) self.old) }
+        ensures same { self.new
+            ≡ with_rooms self.new.rooms (with_policies (applied new self.old.state.policies) self.old) }
         ensures replaced { result ≡ policy_at new.policy.key self.old.state.policies }
     {
         self.kept.forget_selected(&new.policy);
@@ -145,7 +151,8 @@ impl Store {
 
     /// Takes out the policy of that key, and gives it back.
     pub fn take_out(&mut self, key: &PolicyKey) -> Option<Stamped>
-        ensures same { self.new ≡ with_rooms self.new.rooms (with_policies (removed key.now self.old.state.policies) self.old) }
+        ensures same { self.new
+            ≡ with_rooms self.new.rooms (with_policies (removed key.now self.old.state.policies) self.old) }
         ensures removed { result ≡ policy_at key.now self.old.state.policies }
     {
         let old = self.policies.remove(key);

@@ -45,7 +45,8 @@ impl Store {
     /// The policy with the stamp of the next request. The one error is want of memory.
     pub fn stamped(&self, policy: &Policy) -> Result<Stamped, Memory>
         requires room { self.now.state.revision < 2 ^ 64 - 1 }
-        ensures stamped { IfOk result (λ stamped. stamped ≡ record { policy = policy.now; stamp = self.now.state.revision + 1 }) }
+        ensures stamped { IfOk result (λ stamped.
+            stamped ≡ record { policy = policy.now; stamp = self.now.state.revision + 1 }) }
     {
         Ok(Stamped {
             policy: policy.copy(self.alloc)?,
@@ -55,7 +56,8 @@ impl Store {
 
     /// The prefixes of the policy of that key, none where there is no such policy. The one error is want of memory.
     pub fn prefixes_at(&self, key: &PolicyKey) -> Result<Prefixes, Memory>
-        ensures prefixes { IfOk result (λ prefixes. prefixes ≡ prefixes_of (policy_at key.now self.now.state.policies)) }
+        ensures prefixes { IfOk result (λ prefixes.
+            prefixes ≡ prefixes_of (policy_at key.now self.now.state.policies)) }
     {
         match self.policies.find(key) {
             Some(stamped) => stamped.policy.prefixes(self.alloc),

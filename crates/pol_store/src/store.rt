@@ -72,7 +72,8 @@ impl Model for Store {
 impl Store {
     /// The state before the first request, in this mode. The one error is want of memory.
     pub fn new(alloc: Global, mode: Mode) -> Result<Store, Memory>
-        ensures start { IfOk result (λ store. (options : AllOptions) → options.mode ≡ mode → StandsFor (start options) store) }
+        ensures start { IfOk result (λ store.
+            (options : AllOptions) → options.mode ≡ mode → StandsFor (start options) store) }
         ensures nothing { IfOk result (λ store. store.cache ≡ nothing_held.cache) }
     {
         Ok(Store {

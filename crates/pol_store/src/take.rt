@@ -46,7 +46,8 @@ fn parts_with(alloc: Global, cache: &SelectorCache, filters: Arc<Filters>) -> Re
 /// numbers that are kept, and looked for by their peers where a selector came since these were read.
 fn parts_of(alloc: Global, cache: &SelectorCache, kept: &Kept) -> Result<Parts, Memory>
     requires listed { IsListedIn cache.now kept.now }
-    requires live { AllByRecursion (λ p. IsSome (number_of p cache.now.live)) (filter_peers (arc_value kept.now.filters)) }
+    requires live { AllByRecursion (λ p.
+        IsSome (number_of p cache.now.live)) (filter_peers (arc_value kept.now.filters)) }
     ensures filters { IfOk result (λ parts. arc_value parts.filters ≡ arc_value kept.now.filters) }
     ensures sets { IfOk result (λ parts. AreSetsFor cache.now.live (arc_value kept.now.filters) parts.sets) }
 {
@@ -95,7 +96,8 @@ impl Store {
 
     /// What each address is, made anew.
     pub(crate) fn made_addresses(&self, alloc: Global) -> Result<Arc<Addresses>, Memory>
-        ensures tells { IfOk result (λ addresses. TellsAddresses self.now.state.endpoints self.now.state.identities (arc_value addresses)) }
+        ensures tells { IfOk result (λ addresses.
+            TellsAddresses self.now.state.endpoints self.now.state.identities (arc_value addresses)) }
     {
         let prefixes = self.numbers.prefix_table()?;
         let addresses = Addresses::new(alloc, self.endpoints.as_slice(), prefixes)?;
@@ -104,7 +106,8 @@ impl Store {
 
     /// What each address is, as it is kept.
     fn kept_addresses(&self) -> Result<Option<Arc<Addresses>>, Memory>
-        ensures tells { IfOk result (λ kept. IfSome kept (λ addresses. TellsAddresses self.now.state.endpoints self.now.state.identities (arc_value addresses))) }
+        ensures tells { IfOk result (λ kept. IfSome kept (λ addresses.
+            TellsAddresses self.now.state.endpoints self.now.state.identities (arc_value addresses))) }
     {
         match &self.addresses {
             Some(addresses) => {
@@ -117,7 +120,8 @@ impl Store {
 
     /// What each address is: as it is kept, or made now.
     fn addresses(&self, alloc: Global) -> Result<Arc<Addresses>, Memory>
-        ensures tells { IfOk result (λ addresses. TellsAddresses self.now.state.endpoints self.now.state.identities (arc_value addresses)) }
+        ensures tells { IfOk result (λ addresses.
+            TellsAddresses self.now.state.endpoints self.now.state.identities (arc_value addresses)) }
     {
         let found = self.kept_addresses()?;
         match found {
@@ -140,9 +144,11 @@ impl Store {
     /// What is taken for a live endpoint.
     fn taken_for(&self, alloc: Global, endpoint: Endpoint, localhost: bool) -> Result<Taken, Memory>
         requires refs { RefsOf (peers_of self.now.state.policies) self.now.cache.live }
-        ensures taken { IfOk result (λ taken. (options : AllOptions) (s : State) (slot : ℕ) → options.localhost ≡ localhost → StandsFor s self.now
-            → endpoint_in slot s.endpoints ≡ Some endpoint → IsTakenOf options s slot taken) }
-        ensures selectors { IfOk result (λ taken. AllByRecursion (λ row. number_of row.peer self.now.cache.live ≡ Some row.selector) taken.sets) }
+        ensures taken { IfOk result (λ taken.
+            (options : AllOptions) (s : State) (slot : ℕ) → options.localhost ≡ localhost
+            → StandsFor s self.now → endpoint_in slot s.endpoints ≡ Some endpoint → IsTakenOf options s slot taken) }
+        ensures selectors { IfOk result (λ taken.
+            AllByRecursion (λ row. number_of row.peer self.now.cache.live ≡ Some row.selector) taken.sets) }
     {
         let parts = self.parts(alloc, endpoint.slot, &endpoint.labels, localhost)?;
         let addresses = self.addresses(alloc)?;
@@ -162,8 +168,10 @@ impl Store {
     /// memory.
     pub fn take(&self, alloc: Global, slot: u32, localhost: bool) -> Result<Taken, TakeError>
         requires refs { RefsOf (peers_of self.now.state.policies) self.now.cache.live }
-        ensures taken { IfOk result (λ taken. (options : AllOptions) (s : State) → options.localhost ≡ localhost → StandsFor s self.now → IsTakenOf options s slot taken) }
-        ensures selectors { IfOk result (λ taken. AllByRecursion (λ row. number_of row.peer self.now.cache.live ≡ Some row.selector) taken.sets) }
+        ensures taken { IfOk result (λ taken. (options : AllOptions) (s : State)
+            → options.localhost ≡ localhost → StandsFor s self.now → IsTakenOf options s slot taken) }
+        ensures selectors { IfOk result (λ taken.
+            AllByRecursion (λ row. number_of row.peer self.now.cache.live ≡ Some row.selector) taken.sets) }
         ensures gone { IsErrOf result TakeError.Gone ↔ (endpoint_in slot self.now.state.endpoints ≡ None) }
     {
         let endpoint = self.endpoint_copied(alloc, slot)?;

@@ -74,7 +74,8 @@ fn push_count(
     kind: AnswerKind,
     answers: &[Answer],
 ) -> Result<(), Memory>
-    ensures { OnOk result (string_bytes out.new ≡ string_bytes out.old ++ text.now ++ decimal (count_of kind answers.now)) }
+    ensures { OnOk result (string_bytes out.new
+        ≡ string_bytes out.old ++ text.now ++ decimal (count_of kind answers.now)) }
 {
     out.push_str(text)?;
     let count = count_of(kind, answers);

@@ -34,7 +34,8 @@ impl Model for Policies {
     ghost use Rattle.indexmap.specs.IndexMap.{spare};
     ghost use Rattle.pol_tables.specs.Tied.{ArePolicies, policy_room};
 
-    ghost view = { λ p. record { list = p.rows.list; room = policy_room p.rows.room p.arrivals.room (spare p.by_key) p.next } };
+    ghost view = { λ p.
+        record { list = p.rows.list; room = policy_room p.rows.room p.arrivals.room (spare p.by_key) p.next } };
 
     ghost invariant = { λ p. ArePolicies p.rows.list p.arrivals.list p.next p.by_key.entries };
 }

@@ -106,7 +106,8 @@ impl KnownPeers {
     pub fn sets_of(&self, alloc: Global, cache: &SelectorCache) -> Result<Option<Sets>, Memory>
         requires known { IsKnownIn cache.now self.now }
         requires live { AllByRecursion (λ row. IsSome (number_of row.peer cache.now.live)) self.now.rows }
-        ensures sets { IfOk result (λ found. IfSome found (λ sets. (filters : AnyFilters) → IsListingOf (filter_peers filters) self.now.rows → AreSetsFor cache.now.live filters sets)) }
+        ensures sets { IfOk result (λ found. IfSome found (λ sets. (filters : AnyFilters)
+            → IsListingOf (filter_peers filters) self.now.rows → AreSetsFor cache.now.live filters sets)) }
         ensures none { IfOk result (λ found. IsNone found ↔ ((self.now.next == cache.now.next) ≡ false)) }
     {
         if !self.is_current(cache) {

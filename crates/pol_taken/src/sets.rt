@@ -43,7 +43,8 @@ fn add_peer(
     rows: &mut Rows,
 ) -> Result<(), Memory>
     requires live { IsSome (number_of peer.now cache.now.live) }
-    ensures added { OnOk result ((listed : List OnePeer) → AreRowsFor cache.now.live listed rows.old → AreRowsFor cache.now.live (listed ++ peer.now ∷ []) rows.new) }
+    ensures added { OnOk result ((listed : List OnePeer)
+        → AreRowsFor cache.now.live listed rows.old → AreRowsFor cache.now.live (listed ++ peer.now ∷ []) rows.new) }
 {
     let selector = match cache.selector_of(peer) {
         Some(selector) => selector,

@@ -59,7 +59,8 @@ fn explained(
     endpoint: &Endpoint,
 ) -> Result<Trace, Memory>
     requires idle { repo.now.prepared ≡ None }
-    ensures trace { IfOk result (λ trace. trace ≡ explain_for repo.now.options (state_in repo.now) query.now endpoint.now) }
+    ensures trace { IfOk result (λ trace.
+        trace ≡ explain_for repo.now.options (state_in repo.now) query.now endpoint.now) }
 {
     explain_at(
         alloc,
@@ -77,7 +78,8 @@ fn explained(
 /// no memory.
 pub fn verdict(repo: &Repo, query: &Query) -> Option<Word>
     requires idle { repo.now.prepared ≡ None }
-    ensures word { result ≡ option_map (verdict_for repo.now.options (state_in repo.now) query.now) (endpoint_of query.now.endpoint (state_in repo.now).endpoints) }
+    ensures word { result ≡ option_map (verdict_for repo.now.options (state_in repo.now) query.now)
+        (endpoint_of query.now.endpoint (state_in repo.now).endpoints) }
 {
     match repo.endpoint(query.endpoint.as_str()) {
         Some(endpoint) => Some(judged(repo, query, endpoint)),
@@ -92,7 +94,8 @@ pub fn verdict(repo: &Repo, query: &Query) -> Option<Word>
 pub fn explain(alloc: Global, repo: &Repo, query: &Query) -> Result<Trace, ExplainError>
     requires idle { repo.now.prepared ≡ None }
     ensures trace { IfOk result (λ trace. explain_of repo.now.options (state_in repo.now) query.now ≡ Some trace) }
-    ensures no_endpoint { IsErrOf result ExplainError.NoEndpoint ↔ (endpoint_of query.now.endpoint (state_in repo.now).endpoints ≡ None) }
+    ensures no_endpoint { IsErrOf result ExplainError.NoEndpoint
+        ↔ (endpoint_of query.now.endpoint (state_in repo.now).endpoints ≡ None) }
 {
     match repo.endpoint(query.endpoint.as_str()) {
         Some(endpoint) => match explained(alloc, repo, query, endpoint) {

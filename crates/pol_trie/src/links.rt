@@ -14,7 +14,8 @@ use pol_mapkey::Kind;
 pub(crate) fn link(nodes: &mut Pool<PortNode>, at: u32, high: bool, to: Option<u32>)
     requires in_use { IsInUse nodes.old at }
     requires fits { FitsLink to }
-    ensures updates { (n : TheNode) → node_at nodes.old at ≡ Some n → Updates nodes.old nodes.new at (Some (with_child n high to)) }
+    ensures updates { (n : TheNode) → node_at nodes.old at ≡ Some n
+        → Updates nodes.old nodes.new at (Some (with_child n high to)) }
     ensures count { nodes_in_use nodes.new ≡ nodes_in_use nodes.old }
 {
     nodes.get_mut(at).set_child(high, to);
@@ -23,7 +24,8 @@ pub(crate) fn link(nodes: &mut Pool<PortNode>, at: u32, high: bool, to: Option<u
 /// Gives a node this kind, or none.
 pub(crate) fn set_kind(nodes: &mut Pool<PortNode>, at: u32, kind: Option<Kind>)
     requires in_use { IsInUse nodes.old at }
-    ensures updates { (n : TheNode) → node_at nodes.old at ≡ Some n → Updates nodes.old nodes.new at (Some (record n { kind = kind })) }
+    ensures updates { (n : TheNode) → node_at nodes.old at ≡ Some n
+        → Updates nodes.old nodes.new at (Some (record n { kind = kind })) }
     ensures count { nodes_in_use nodes.new ≡ nodes_in_use nodes.old }
 {
     nodes.get_mut(at).set_kind(kind);

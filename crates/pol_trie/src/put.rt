@@ -96,8 +96,9 @@ fn put_over(
     kind: Kind,
 ) -> u32
     requires below { IsBelow nodes.old at below.now port }
-    ensures { (t : Tree) (lo hi len : ℕ) → Holds nodes.old (Some at) t lo hi len → Takes lo hi len port
-        → Becomes nodes.old nodes.new (Some result) (λ q. if same_prefix port q then Some kind else kind_in t q) (node_count t) lo hi len }
+    ensures { (t : Tree) (lo hi len : ℕ)
+        → Holds nodes.old (Some at) t lo hi len → Takes lo hi len port → Becomes nodes.old nodes.new (Some result) (λ q.
+        if same_prefix port q then Some kind else kind_in t q) (node_count t) lo hi len }
 {
     fits(nodes, at);
     if port.contains(below) {
@@ -119,8 +120,9 @@ pub(crate) fn put(
     kind: Kind,
 ) -> (u32, Option<Kind>)
     requires { HasRoom nodes.old at port }
-    ensures put { (t : Tree) (lo hi len : ℕ) → Holds nodes.old at t lo hi len → Takes lo hi len port
-        → Becomes nodes.old nodes.new (Some result.0) (λ q. if same_prefix port q then Some kind else kind_in t q) (node_count t) lo hi len }
+    ensures put { (t : Tree) (lo hi len : ℕ)
+        → Holds nodes.old at t lo hi len → Takes lo hi len port → Becomes nodes.old nodes.new (Some result.0) (λ q.
+        if same_prefix port q then Some kind else kind_in t q) (node_count t) lo hi len }
     ensures had { (t : Tree) (lo hi len : ℕ) → Holds nodes.old at t lo hi len → result.1 ≡ kind_in t port }
 {
     let Some(i) = at else {

@@ -177,7 +177,8 @@ pub(crate) fn is_roomy(roots: &IndexMap<Root, KeySet>, hints: &RootHints, key: &
 pub(crate) fn give_back_row(roots: &mut IndexMap<Root, KeySet>, key: &MapKey) -> Result<(), Memory>
     requires { IsUnique ⟦<Root as PartialEq>⟧.eq roots.old }
     ensures unique { IsUnique ⟦<Root as PartialEq>⟧.eq roots.new }
-    ensures same { (root : TheRoot) → lookup (⟦<Root as PartialEq>⟧.eq root) roots.new.entries ≡ lookup (⟦<Root as PartialEq>⟧.eq root) roots.old.entries }
+    ensures same { (root : TheRoot) → lookup (⟦<Root as PartialEq>⟧.eq root) roots.new.entries
+        ≡ lookup (⟦<Root as PartialEq>⟧.eq root) roots.old.entries }
 {
     match roots.get_mut(&root_of(key)) {
         Some(keys) => keys.give_back(key.proto),
@@ -196,7 +197,8 @@ pub(crate) fn longest<L: Ledger>(
     steps: &mut Steps<L>,
 ) -> Option<Kind>
     requires { IsUnique ⟦<Root as PartialEq>⟧.eq roots.now }
-    ensures kind { result ≡ option_map (λ e. e.1) (longest (map.entries (policy_of roots.now.entries)) root.dir root.id proto port) }
+    ensures kind { result ≡ option_map (λ e.
+        e.1) (longest (map.entries (policy_of roots.now.entries)) root.dir root.id proto port) }
     ensures forward { steps.old ≤ steps.new }
     ensures cost { steps.new ≤ steps.old + 18 }
 {
@@ -218,7 +220,8 @@ pub(crate) fn longest_of_zero<L: Ledger>(
 ) -> Option<Kind>
     requires unique { IsUnique ⟦<Root as PartialEq>⟧.eq roots.now }
     requires zeros { TellsZero ⟦<Root as PartialEq>⟧.eq zeros roots.now.entries }
-    ensures kind { result ≡ option_map (λ e. e.1) (longest (map.entries (policy_of roots.now.entries)) dir 0 proto port) }
+    ensures kind { result ≡ option_map (λ e.
+        e.1) (longest (map.entries (policy_of roots.now.entries)) dir 0 proto port) }
     ensures forward { steps.old ≤ steps.new }
     ensures cost { steps.new ≤ steps.old + 18 }
 {

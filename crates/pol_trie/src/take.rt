@@ -26,8 +26,8 @@ fn settle(nodes: &mut Pool<PortNode>, at: u32) -> Option<u32>
 /// Takes the prefix out, below a link. Gives the node that stands there then.
 pub(crate) fn take(nodes: &mut Pool<PortNode>, at: Option<u32>, port: &PortPrefix) -> Option<u32>
     requires { IsWell nodes.old at }
-    ensures { (t : Tree) (lo hi len : ℕ) → Holds nodes.old at t lo hi len
-        → Becomes nodes.old nodes.new result (λ q. if same_prefix port.now q then None else kind_in t q) (node_count t) lo hi len }
+    ensures { (t : Tree) (lo hi len : ℕ) → Holds nodes.old at t lo hi len → Becomes nodes.old nodes.new result (λ q.
+        if same_prefix port.now q then None else kind_in t q) (node_count t) lo hi len }
 {
     let i = at?;
     let node = *nodes.get(i);

@@ -42,7 +42,8 @@ impl Model for PolicyTrie {
 
     ghost view = { λ t. policy_of t.roots.entries };
 
-    ghost invariant = { λ t. IsUnique ⟦<Root as PartialEq>⟧.eq t.roots × (t.count ≡ map.len (policy_of t.roots.entries)) × TellsZero ⟦<Root as PartialEq>⟧.eq t.zeros t.roots.entries };
+    ghost invariant = { λ t. IsUnique ⟦<Root as PartialEq>⟧.eq t.roots × (t.count ≡ map.len (policy_of t.roots.entries))
+        × TellsZero ⟦<Root as PartialEq>⟧.eq t.zeros t.roots.entries };
 }
 
 impl PolicyTrie {

@@ -35,7 +35,8 @@ pub(crate) fn longest<L: Ledger>(
 ) -> Option<Kind>
     requires { IsWell nodes.now root }
     ensures kind { (t : Tree) (lo hi len : ℕ) → Holds nodes.now root t lo hi len → result ≡ walk t port None }
-    ensures cost { (t : Tree) (lo hi len : ℕ) → Holds nodes.now root t lo hi len → steps.new ≡ steps.old + visits t port }
+    ensures cost { (t : Tree) (lo hi len : ℕ)
+        → Holds nodes.now root t lo hi len → steps.new ≡ steps.old + visits t port }
 {
     let mut at = root;
     let mut best = None;

@@ -33,8 +33,10 @@ pub fn play_generated<R: Threads + Wait + Sync, K: Sink, G: Gate + Sync>(
     requires room { HasRoom most_entries options }
     requires rounds { (1 ≤ n) × (n ≤ 10000) }
     ensures end { (result.status ≡ Status.Clean) ⊎ (result.status ≡ Status.Write) ⊎ (result.status ≡ Status.Memory) }
-    ensures summary { result.status ≡ Status.Clean → Appends (K.written sink.old) (K.written sink.new) (summary options n) }
-    ensures part { result.status ≡ Status.Write → AppendsPart (K.written sink.old) (K.written sink.new) (summary options n) }
+    ensures summary { result.status ≡ Status.Clean
+        → Appends (K.written sink.old) (K.written sink.new) (summary options n) }
+    ensures part { result.status ≡ Status.Write
+        → AppendsPart (K.written sink.old) (K.written sink.new) (summary options n) }
     ensures write { result.status ≡ Status.Write → Rose (K.faults sink.old) (K.faults sink.new) }
     ensures silent { result.status ≡ Status.Memory → Keeps (K.written sink.old) (K.written sink.new) }
     ensures last { IsTrue (is_answered result.status) → LeavesRounds options n result.last }

@@ -15,7 +15,8 @@ ghost use Rattle.policyd.specs.Headline.{HoldsText, LeavesHistory, LeavesRounds,
 /// added first ('profile').
 pub(crate) fn runs_that_leave_nothing()
     ensures is { (options : AllOptions) → LeavesHistory options (Some []) (Some []) [] (Some []) }
-    ensures nothing_seen { (options : AllOptions) (old new : Option (List ℕ)) (script : List ℕ) → LeavesHistory options old new script None → ⊥ }
+    ensures nothing_seen { (options : AllOptions) (old new : Option (List ℕ)) (script : List ℕ)
+        → LeavesHistory options old new script None → ⊥ }
     ensures not_written { (options : AllOptions) → LeavesHistory options (Some []) (Some (10 ∷ [])) [] (Some []) → ⊥ }
     ensures another_text { (options : AllOptions) → HoldsText options [] (10 ∷ []) [] → ⊥ }
     ensures answer_to_no_line { (options : AllOptions) → HoldsText options [] (texts_of (answer.Phase 1 ∷ [])) [] → ⊥ }
@@ -23,19 +24,20 @@ pub(crate) fn runs_that_leave_nothing()
     ensures not_legal { (options : AllOptions) → HoldsText options [] [] (publish 1 1 open_map ∷ []) → ⊥ }
     ensures no_rounds_seen { (options : AllOptions) (rounds : ℕ) → LeavesRounds options rounds None → ⊥ }
     ensures rounds_not_asked { (options : AllOptions) → LeavesRounds options 0 (Some []) → ⊥ }
-    ensures rounds_not_legal { (options : AllOptions) → LeavesRounds options 0 (Some (publish 1 1 open_map ∷ map (commit 0 0) (requests_asked 0))) → ⊥ }
+    ensures rounds_not_legal { (options : AllOptions)
+        → LeavesRounds options 0 (Some (publish 1 1 open_map ∷ map (commit 0 0) (requests_asked 0))) → ⊥ }
 {}
 
 /// With `--map` the status is 0 where an endpoint of the name is live in the end, and 1 where none is. With `--audit` it is 1 where
 /// there is no divider. Where the disk fails before it is open, no line is answered, and nothing is found ('profile').
 pub(crate) fn statuses_are_told()
-    ensures live { (options : AllOptions) (name : List ℕ) (old new : Option (List ℕ)) (script : List ℕ) (status : ℕ) → is_live options name script ≡ true
-        → WritesMap options name old new script status → status ≡ 0 }
-    ensures nobody { (options : AllOptions) (name : List ℕ) (old new : Option (List ℕ)) (script : List ℕ) (status : ℕ) → is_live options name script ≡ false
-        → WritesMap options name old new script status → status ≡ 1 }
+    ensures live { (options : AllOptions) (name : List ℕ) (old new : Option (List ℕ)) (script : List ℕ) (status : ℕ)
+        → is_live options name script ≡ true → WritesMap options name old new script status → status ≡ 0 }
+    ensures nobody { (options : AllOptions) (name : List ℕ) (old new : Option (List ℕ)) (script : List ℕ) (status : ℕ)
+        → is_live options name script ≡ false → WritesMap options name old new script status → status ≡ 1 }
     ensures no_divider { (old new : Option (List ℕ)) (status : ℕ) → WritesFinding old new [] status → status ≡ 1 }
-    ensures not_opened { (options : AllOptions) (old new : Option (List ℕ)) (script : List ℕ) (status : ℕ) → WritesDrill options 3 old new script status
-        → (status ≡ 0) × Appends old new (codes "restart 0\n") }
-    ensures part_not_opened { (options : AllOptions) (old new : Option (List ℕ)) (script : List ℕ) → WritesPartOfDrill options 3 old new script
-        → AppendsPart old new (codes "restart 0\n") }
+    ensures not_opened { (options : AllOptions) (old new : Option (List ℕ)) (script : List ℕ) (status : ℕ)
+        → WritesDrill options 3 old new script status → (status ≡ 0) × Appends old new (codes "restart 0\n") }
+    ensures part_not_opened { (options : AllOptions) (old new : Option (List ℕ)) (script : List ℕ)
+        → WritesPartOfDrill options 3 old new script → AppendsPart old new (codes "restart 0\n") }
 {}

@@ -46,7 +46,8 @@ pub fn play<R: Threads + Wait + Sync, S: Source, K: Sink>(
     sink: &mut K,
 ) -> Played
     ensures usage { result.status ≡ Status.Usage → words_given (map string_bytes words.now) ≡ None }
-    ensures misfit { words_given (map string_bytes words.now) ≡ None → (result.status ≡ Status.Usage) ⊎ (result.status ≡ Status.Memory) }
+    ensures misfit { words_given (map string_bytes words.now) ≡ None
+        → (result.status ≡ Status.Usage) ⊎ (result.status ≡ Status.Memory) }
     ensures unread { result.status ≡ Status.Usage → source.new ≡ source.old }
     ensures not_read { IsTrue (is_some (generates (map string_bytes words.now))) → source.new ≡ source.old }
     ensures read { result.status ≡ Status.Read → Rose (S.faults source.old) (S.faults source.new) }
@@ -68,8 +69,8 @@ pub fn play<R: Threads + Wait + Sync, S: Source, K: Sink>(
     ensures last { IsTrue (is_answered result.status) → IfSome (reads_with (map string_bytes words.now)) (λ options.
         IfSome (S.left source.old) (λ script.
         LeavesHistory options (K.written sink.old) (K.written sink.new) script result.last)) }
-    ensures last_generated { IsTrue (is_answered result.status) → IfSome (generates (map string_bytes words.now)) (λ task.
-        LeavesRounds task.options task.rounds result.last) }
+    ensures last_generated { IsTrue (is_answered result.status)
+        → IfSome (generates (map string_bytes words.now)) (λ task. LeavesRounds task.options task.rounds result.last) }
     ensures no_last { is_answered result.status ≡ false → result.last ≡ None }
     ensures summary { IsTrue (is_answered result.status) → IfSome (generates (map string_bytes words.now)) (λ task.
         (result.status ≡ Status.Clean)
@@ -77,8 +78,8 @@ pub fn play<R: Threads + Wait + Sync, S: Source, K: Sink>(
     ensures summary_part { result.status ≡ Status.Write → IfSome (generates (map string_bytes words.now)) (λ task.
         AppendsPart (K.written sink.old) (K.written sink.new) (summary task.options task.rounds)) }
     ensures map { IsTrue (is_answered result.status) → IfSome (maps (map string_bytes words.now)) (λ task.
-        IfSome (S.left source.old) (λ script.
-        WritesMap task.options task.name (K.written sink.old) (K.written sink.new) script (status_number result.status))) }
+        IfSome (S.left source.old) (λ script. WritesMap task.options task.name
+        (K.written sink.old) (K.written sink.new) script (status_number result.status))) }
     ensures map_part { result.status ≡ Status.Write → IfSome (maps (map string_bytes words.now)) (λ task.
         IfSome (S.left source.old) (λ script.
         AppendsPart (K.written sink.old) (K.written sink.new) (map_text task.options task.name script))) }
@@ -89,8 +90,8 @@ pub fn play<R: Threads + Wait + Sync, S: Source, K: Sink>(
         → IfSome (S.left source.old) (λ text.
         WritesPartOfFinding (K.written sink.old) (K.written sink.new) text) }
     ensures drill { IsTrue (is_answered result.status) → IfSome (drills (map string_bytes words.now)) (λ task.
-        IfSome (S.left source.old) (λ script.
-        WritesDrill task.options task.call (K.written sink.old) (K.written sink.new) script (status_number result.status))) }
+        IfSome (S.left source.old) (λ script. WritesDrill task.options task.call
+        (K.written sink.old) (K.written sink.new) script (status_number result.status))) }
     ensures drill_part { result.status ≡ Status.Write → IfSome (drills (map string_bytes words.now)) (λ task.
         IfSome (S.left source.old) (λ script.
         WritesPartOfDrill task.options task.call (K.written sink.old) (K.written sink.new) script)) }
@@ -120,7 +121,8 @@ pub fn play_gated<R: Threads + Wait + Sync, S: Source, K: Sink, G: Gate + Sync>(
     gate: &G,
 ) -> Played
     ensures usage { result.status ≡ Status.Usage → words_given (map string_bytes words.now) ≡ None }
-    ensures misfit { words_given (map string_bytes words.now) ≡ None → (result.status ≡ Status.Usage) ⊎ (result.status ≡ Status.Memory) }
+    ensures misfit { words_given (map string_bytes words.now) ≡ None
+        → (result.status ≡ Status.Usage) ⊎ (result.status ≡ Status.Memory) }
     ensures unread { result.status ≡ Status.Usage → source.new ≡ source.old }
     ensures not_read { IsTrue (is_some (generates (map string_bytes words.now))) → source.new ≡ source.old }
     ensures read { result.status ≡ Status.Read → Rose (S.faults source.old) (S.faults source.new) }
@@ -142,8 +144,8 @@ pub fn play_gated<R: Threads + Wait + Sync, S: Source, K: Sink, G: Gate + Sync>(
     ensures last { IsTrue (is_answered result.status) → IfSome (reads_with (map string_bytes words.now)) (λ options.
         IfSome (S.left source.old) (λ script.
         LeavesHistory options (K.written sink.old) (K.written sink.new) script result.last)) }
-    ensures last_generated { IsTrue (is_answered result.status) → IfSome (generates (map string_bytes words.now)) (λ task.
-        LeavesRounds task.options task.rounds result.last) }
+    ensures last_generated { IsTrue (is_answered result.status)
+        → IfSome (generates (map string_bytes words.now)) (λ task. LeavesRounds task.options task.rounds result.last) }
     ensures no_last { is_answered result.status ≡ false → result.last ≡ None }
     ensures summary { IsTrue (is_answered result.status) → IfSome (generates (map string_bytes words.now)) (λ task.
         (result.status ≡ Status.Clean)
@@ -151,8 +153,8 @@ pub fn play_gated<R: Threads + Wait + Sync, S: Source, K: Sink, G: Gate + Sync>(
     ensures summary_part { result.status ≡ Status.Write → IfSome (generates (map string_bytes words.now)) (λ task.
         AppendsPart (K.written sink.old) (K.written sink.new) (summary task.options task.rounds)) }
     ensures map { IsTrue (is_answered result.status) → IfSome (maps (map string_bytes words.now)) (λ task.
-        IfSome (S.left source.old) (λ script.
-        WritesMap task.options task.name (K.written sink.old) (K.written sink.new) script (status_number result.status))) }
+        IfSome (S.left source.old) (λ script. WritesMap task.options task.name
+        (K.written sink.old) (K.written sink.new) script (status_number result.status))) }
     ensures map_part { result.status ≡ Status.Write → IfSome (maps (map string_bytes words.now)) (λ task.
         IfSome (S.left source.old) (λ script.
         AppendsPart (K.written sink.old) (K.written sink.new) (map_text task.options task.name script))) }
@@ -163,8 +165,8 @@ pub fn play_gated<R: Threads + Wait + Sync, S: Source, K: Sink, G: Gate + Sync>(
         → IfSome (S.left source.old) (λ text.
         WritesPartOfFinding (K.written sink.old) (K.written sink.new) text) }
     ensures drill { IsTrue (is_answered result.status) → IfSome (drills (map string_bytes words.now)) (λ task.
-        IfSome (S.left source.old) (λ script.
-        WritesDrill task.options task.call (K.written sink.old) (K.written sink.new) script (status_number result.status))) }
+        IfSome (S.left source.old) (λ script. WritesDrill task.options task.call
+        (K.written sink.old) (K.written sink.new) script (status_number result.status))) }
     ensures drill_part { result.status ≡ Status.Write → IfSome (drills (map string_bytes words.now)) (λ task.
         IfSome (S.left source.old) (λ script.
         WritesPartOfDrill task.options task.call (K.written sink.old) (K.written sink.new) script)) }

@@ -146,7 +146,8 @@ fn answers_to<R: Threads + Wait + Sync, G: Gate + Sync>(
     script: &[u8],
 ) -> Result<Printed, Memory>
     requires { IsSomeAnd options.map_max (λ limit. limit ≤ 65536) }
-    ensures run { IfOk result (λ printed. IsRunOf options script.now printed.text.items (if printed.marked then 1 else 0)) }
+    ensures run { IfOk result (λ printed.
+        IsRunOf options script.now printed.text.items (if printed.marked then 1 else 0)) }
     ensures history { IfOk result (λ printed. HoldsText options script.now printed.text.items printed.last) }
 {
     let played = play_lines(rt, alloc, options, workers, gate, script)?;

@@ -63,7 +63,8 @@ pub fn copied_or_none(
     numbers: &[u32],
     limit: u32,
 ) -> Result<Option<Vec<u32>>, Memory>
-    ensures { IfOk result (λ found. IsFoundIn (first_fault limit numbers.now) numbers.now (option_map (λ copy. copy.items) found)) }
+    ensures { IfOk result (λ found.
+        IsFoundIn (first_fault limit numbers.now) numbers.now (option_map (λ copy. copy.items) found)) }
 {
     match copied(alloc, numbers, limit) {
         Ok(copy) => Ok(Some(copy)),

@@ -38,7 +38,8 @@ pub fn push_below(out: &mut Vec<u32>, numbers: &[u32], limit: u32) -> Result<(),
 /// A binary search: the answer cites the closure's own contract.
 pub fn point_of(numbers: &[u32], bound: u32) -> usize
     requires { IsNonDecreasing numbers.now }
-    ensures { IsPartitionPoint (λ number. is_below bound number ≡ true) (λ number. is_below bound number ≡ false) numbers.now result }
+    ensures { IsPartitionPoint (λ number.
+        is_below bound number ≡ true) (λ number. is_below bound number ≡ false) numbers.now result }
 {
     numbers.partition_point(|number| *number < bound)
 }

@@ -36,19 +36,24 @@ pub fn syncs_tell_revisions()
 /// A commit and a look-up are told the machine's reply. Why a packet is allowed is told at the present revision, and so is that no
 /// endpoint of the query's name is live ('profile').
 pub fn questions_are_answered()
-    ensures commit { IsSaid (at_most 2) machine_start (Commit add_web) (Replied (reply.Committed (record { revision = 1; identity = Some 256; slots = 1 }))) }
-    ensures another_revision { IsSaid (at_most 2) machine_start (Commit add_web) (Replied (reply.Committed (record { revision = 2; identity = Some 256; slots = 1 }))) → ⊥ }
+    ensures commit { IsSaid (at_most 2) machine_start
+        (Commit add_web) (Replied (reply.Committed (record { revision = 1; identity = Some 256; slots = 1 }))) }
+    ensures another_revision { IsSaid (at_most 2) machine_start
+        (Commit add_web) (Replied (reply.Committed (record { revision = 2; identity = Some 256; slots = 1 }))) → ⊥ }
     ensures look { IsSaid (at_most 2) (machine_at added) (Look (packet_to web)) (Replied (reply.NotYet 1)) }
-    ensures looks_for_nobody { IsSaid (at_most 2) (machine_at added) (Look (packet_to web)) (Replied (reply.NoEndpoint 1)) → ⊥ }
+    ensures looks_for_nobody { IsSaid (at_most 2)
+        (machine_at added) (Look (packet_to web)) (Replied (reply.NoEndpoint 1)) → ⊥ }
     ensures why { IsSaid (at_most 2) (machine_at added) (Explain (packet_to web)) (Traced 1 allowed_trace) }
     ensures why_before { IsSaid (at_most 2) (machine_at added) (Explain (packet_to web)) (Traced 0 allowed_trace) → ⊥ }
     ensures nobody { IsSaid (at_most 2) (machine_at added) (Explain (packet_to db)) (Replied (reply.NoEndpoint 1)) }
-    ensures nobody_before { IsSaid (at_most 2) (machine_at added) (Explain (packet_to db)) (Replied (reply.NoEndpoint 0)) → ⊥ }
+    ensures nobody_before { IsSaid (at_most 2)
+        (machine_at added) (Explain (packet_to db)) (Replied (reply.NoEndpoint 0)) → ⊥ }
 {}
 
 /// What is left after want of memory is a machine after a beginning of the events, not after others ('profile').
 pub fn beginnings_are_left()
-    ensures not_begun { (new : Stored) → StandsWithin (at_most 2) machine_start [] new → Stands new (machine_after (at_most 2) (step.Commit add_web ∷ [])) → ⊥ }
+    ensures not_begun { (new : Stored) → StandsWithin (at_most 2) machine_start [] new
+        → Stands new (machine_after (at_most 2) (step.Commit add_web ∷ [])) → ⊥ }
 {}
 
 /// A look-up costs 36 steps at most, a take and a finish none, and a commit where no policy has label peers none ('profile').

@@ -18,9 +18,11 @@ pub fn lines_are_answered()
     ensures commit { IsLineAnswer unlimited machine_start 1 line.adds (answer.Committed 1 first_number) }
     ensures commit_without_number { IsLineAnswer unlimited machine_start 1 line.adds (answer.Committed 1 None) → ⊥ }
     ensures look { IsLineAnswer unlimited (machine_at changed) 1 line.looks (answer.Verdict 1 Allowed) }
-    ensures look_at_the_rules { IsLineAnswer unlimited (machine_at changed) 1 line.looks (answer.Verdict 2 DeniedByDefault) → ⊥ }
+    ensures look_at_the_rules { IsLineAnswer unlimited
+        (machine_at changed) 1 line.looks (answer.Verdict 2 DeniedByDefault) → ⊥ }
     ensures why { IsLineAnswer unlimited (machine_at changed) 1 line.asks_why (answer.Traced 2 denied_trace) }
-    ensures why_by_the_map { IsLineAnswer unlimited (machine_at changed) 1 line.asks_why (answer.Traced 1 allowed_trace) → ⊥ }
+    ensures why_by_the_map { IsLineAnswer unlimited (machine_at changed) 1 line.asks_why (answer.Traced 1 allowed_trace)
+        → ⊥ }
     ensures sync { IsLineAnswer (at_most 1) (machine_at added) 1 line.syncs (answer.Synced 1 (row ∷ [])) }
     ensures sync_before { IsLineAnswer (at_most 1) (machine_at added) 1 line.syncs (answer.Synced 0 (row ∷ [])) → ⊥ }
     ensures sync_without_row { IsLineAnswer (at_most 1) (machine_at added) 1 line.syncs (answer.Synced 1 []) → ⊥ }
@@ -32,14 +34,18 @@ pub fn lines_are_answered()
 /// There is one answer for each line, by the machine and in the phase that the lines before have left: commits and syncs change the
 /// machine, and other lines don't ('profile').
 pub fn runs_go_on()
-    ensures is { IsSerial unlimited [] (line.adds ∷ line.looks ∷ line.syncs ∷ line.looks ∷ line.ends ∷ line.ends ∷ [])
-        (answer.Committed 1 first_number ∷ answer.NotYet 1 ∷ answer.Synced 1 [] ∷ answer.Verdict 1 Allowed ∷ answer.Phase 1 ∷ answer.Phase 2 ∷ []) }
-    ensures nothing_else_changes { IsSerial unlimited (add_web ∷ []) (line.looks ∷ line.asks_why ∷ line.ends ∷ line.faulty ∷ line.looks ∷ [])
-        (answer.NotYet 1 ∷ answer.Traced 1 allowed_trace ∷ answer.Phase 1 ∷ answer.BadLine Json ∷ answer.NotYet 1 ∷ []) }
+    ensures is { IsSerial unlimited [] (line.adds
+        ∷ line.looks ∷ line.syncs ∷ line.looks ∷ line.ends ∷ line.ends ∷ []) (answer.Committed 1 first_number
+        ∷ answer.NotYet 1 ∷ answer.Synced 1 [] ∷ answer.Verdict 1 Allowed ∷ answer.Phase 1 ∷ answer.Phase 2 ∷ []) }
+    ensures nothing_else_changes { IsSerial unlimited
+        (add_web ∷ []) (line.looks ∷ line.asks_why ∷ line.ends ∷ line.faulty ∷ line.looks ∷ []) (answer.NotYet 1
+        ∷ answer.Traced 1 allowed_trace ∷ answer.Phase 1 ∷ answer.BadLine Json ∷ answer.NotYet 1 ∷ []) }
     ensures too_few { IsSerial unlimited [] (line.ends ∷ []) [] → ⊥ }
     ensures too_many { IsSerial unlimited [] [] (answer.Phase 1 ∷ []) → ⊥ }
     ensures one_phase { IsSerial unlimited [] (line.ends ∷ line.ends ∷ []) (answer.Phase 1 ∷ answer.Phase 1 ∷ []) → ⊥ }
-    ensures not_committed { IsSerial unlimited [] (line.adds ∷ line.looks ∷ []) (answer.Committed 1 first_number ∷ answer.NoEndpoint 0 ∷ []) → ⊥ }
+    ensures not_committed { IsSerial unlimited
+        [] (line.adds ∷ line.looks ∷ []) (answer.Committed 1 first_number ∷ answer.NoEndpoint 0 ∷ []) → ⊥ }
     ensures not_begun { IsSerial unlimited (add_web ∷ []) (line.looks ∷ []) (answer.NoEndpoint 0 ∷ []) → ⊥ }
-    ensures not_published { IsSerial unlimited (add_web ∷ []) (line.syncs ∷ line.looks ∷ []) (answer.Synced 1 [] ∷ answer.NotYet 1 ∷ []) → ⊥ }
+    ensures not_published { IsSerial unlimited
+        (add_web ∷ []) (line.syncs ∷ line.looks ∷ []) (answer.Synced 1 [] ∷ answer.NotYet 1 ∷ []) → ⊥ }
 {}

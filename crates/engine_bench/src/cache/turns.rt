@@ -131,7 +131,8 @@ fn goes<L: Ledger>(
 /// Gives the number back, and says whether it went with its one holder.
 fn is_given_back(identities: &mut Identities, number: u32) -> bool
     requires held { has_row number identities.old ≡ true }
-    ensures exact { IsTrue result → (live : List Live) → AreExact (rows_without (number ∷ []) identities.old) live → AreExact identities.new live }
+    ensures exact { IsTrue result → (live : List Live)
+        → AreExact (rows_without (number ∷ []) identities.old) live → AreExact identities.new live }
 {
     // No identity has the number 0. The call tells that the rows fit together.
     identities.fits_together();
