@@ -1,8 +1,9 @@
 """Checks what the documents claim, where that is cheap.
 
 Blocks of the language `console` show commands, each behind `$ `, with what they print: `commands` gives those that run
-the program as cases. Such a command ends in `./play WORDS`, which may stand behind a pipe, or asks the front door. A
-block `text stderr` has what the command before it writes to standard error.
+the program as cases. Such a command ends in `./play WORDS`, which may stand behind a pipe, or asks the front door. Those that
+run policyd_kept, or touch its journal, are played by kept_checks. A block `text stderr` has what the command before it
+writes to standard error.
 """
 import re
 import subprocess
@@ -15,6 +16,7 @@ import layers
 import names
 import program
 import rooms
+import widths
 
 TOP = compare.TOP
 PLAY, ASKING = "./play ", ("recipes/what-if ", "./wenirako ")
@@ -47,6 +49,8 @@ class Command:
         self.before, self.is_play = before, last.startswith(PLAY)
         self.last = last.split()[1:] if self.is_play else []
         self.runs = self.is_play or text.startswith(ASKING)
+        # (which kept_checks plays)
+        self.is_over_file = "policyd_kept" in text or ".journal" in text
 
     def given(self):
         """The script that ./play is given."""
@@ -256,6 +260,7 @@ def checks():
     yield from definitions.checks()
     yield from kinds.checks()
     yield from names.checks()
+    yield from widths.checks()
     yield from families.checks()
     for name in program.crates():
         yield f"readme crates/{name}", lambda name=name: introduced(name)
@@ -265,5 +270,5 @@ def checks():
         yield f"links {name_of(page)}", lambda page=page: lost_links(page) + lost_paths(page)
     for page in pages():
         for it in shown(page):
-            if not it.runs:
+            if not it.runs and not it.is_over_file:
                 yield it.name, lambda it=it: it.play(None)

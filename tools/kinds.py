@@ -12,11 +12,14 @@ A file of `src` or `specs` is listed under a type where it tells two kinds of it
 
 The room of tests and benchmarks isn't searched: nothing stands on it, and its examples only make values.
 """
+import pathlib
 import re
 import sys
 
-import program
-import rooms
+# (rooms needs a module of the tests)
+sys.path.append(str(pathlib.Path(__file__).resolve().parent.parent / "tests"))
+import program  # noqa: E402
+import rooms  # noqa: E402
 
 PAGE = program.TOP / "docs" / "ARCHITECTURE.md"
 BLOCK = re.compile(r"(?ms)^```kinds\n(.*?)^```$")

@@ -4,7 +4,7 @@
 The proved build of policyd is crates/policyd/out/policyd. The note beside it, policyd.note, has two checksums: of the
 sources that were proved, and of the program that was built from them; and behind them, where the gate kept it, how many
 edits it saw refused. A build without such a note, or whose sources or program have changed since, is never used. The same
-goes for connections.
+goes for connections and policyd_kept.
 
 Whether a build is that of the sources is asked by each question of the front door. So the checksum of sources is kept in
 policyd.sources, with the place, size and times of each file that it was taken of, and where these are the same it isn't
@@ -177,14 +177,14 @@ class Build:
         return None
 
 
-POLICYD, CONNECTIONS = Build("policyd"), Build("connections")
+POLICYD, CONNECTIONS, OVER_FILE = Build("policyd"), Build("connections"), Build("policyd_kept")
 NAME, CRATE, PROGRAM, NOTE = POLICYD.name, POLICYD.crate, POLICYD.program, POLICYD.note
 parts, sources, is_proved, edits_refused, prove = POLICYD.parts, POLICYD.sources, POLICYD.is_proved, POLICYD.edits_refused, POLICYD.prove
 
 
 def listed():
     """The programs that crates.txt lists."""
-    return [it for it in (POLICYD, CONNECTIONS) if it.name in crates()]
+    return [it for it in (POLICYD, CONNECTIONS, OVER_FILE) if it.name in crates()]
 
 
 def main(words):

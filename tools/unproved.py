@@ -5,11 +5,11 @@ it runs, so what is kept is the very program that `rt try` ran: not optimised, w
 index and bad access, and checked by no proof. It is crates/policyd/out/policyd.unproved. The note beside it has two
 checksums, of the sources that it was built from and of the program, and it is used only where both are as they were.
 It is kept only where, run once more by itself, it gives the answers that it gave under `rt try`. The same goes for
-connections.
+connections and policyd_kept.
 
 Where a kit lays its work out otherwise there is no program to keep, and `rt try` builds it for each run.
 
-    tools/unproved.py build [connections]      builds and keeps policyd, or connections; standard error says what went wrong
+    tools/unproved.py build [PROGRAM]      builds and keeps policyd, or connections or policyd_kept; standard error says what went wrong
 """
 import os
 import pathlib
@@ -26,7 +26,7 @@ import program
 # What `rt try` calls the program that it runs.
 RUN = "program"
 SECONDS = 600
-PODS = 40
+PODS, SYNCS = 40, 20_000
 ENDED = re.compile(r"^run=ended status=(\d+) .*$", re.M)
 # What `rt try` says of a run that ended, which tells a reader of answers nothing.
 NOISE = re.compile(r"^(interpreter|checked|run|races)[:=].*\n", re.M)
@@ -119,11 +119,13 @@ def pods():
 # policyd makes a script of so many rounds itself.
 POLICYD = Unproved(program.POLICYD, ["--generate", "100"])
 CONNECTIONS = Unproved(program.CONNECTIONS, [], pods)
+# Lines that leave the journal as it was, so that the second run answers as the first.
+OVER_FILE = Unproved(program.OVER_FILE, [str(program.OVER_FILE.crate / "out" / "tried.journal")], lambda: b'{"op":"sync"}\n' * SYNCS)
 KEPT, is_kept, build = POLICYD.kept, POLICYD.is_kept, POLICYD.build
 
 
 def main(words):
-    builds = {"": POLICYD, "connections": CONNECTIONS}
+    builds = {"": POLICYD, "connections": CONNECTIONS, "policyd_kept": OVER_FILE}
     if words[:1] != ["build"] or len(words) > 2 or "".join(words[1:]) not in builds:
         print(__doc__.split("\n\n")[-1], file=sys.stderr)
         return 2

@@ -6,6 +6,7 @@
 
 mod call;
 mod disk;
+pub mod laws;
 mod mem_disk;
 mod parts;
 

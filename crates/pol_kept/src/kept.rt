@@ -65,9 +65,9 @@ impl<D: Disk> Kept<D> {
     /// The machine of the journal on the disk. It syncs. Where there is at most one byte, it writes a closed gate and syncs;
     /// otherwise it reads, cuts behind the closed gate that ends the journal, and syncs.
     ///
-    /// `Damaged` comes exactly where the bytes aren't a journal, if no call of the disk failed before that was known; nothing is
-    /// written then. `Disk` comes only at a fault of the disk. `Memory` is want of memory, and comes also where a request's list is
-    /// longer than a place has numbers for.
+    /// `Damaged` comes exactly where the bytes aren't a journal, want of memory aside, if no call of the disk failed before that was
+    /// known; nothing is written then. `Disk` comes only at a fault of the disk. `Memory` is want of memory, and comes also where a
+    /// request's list is longer than a place has numbers for.
     pub fn open(alloc: Global, mut disk: D, config: KeptConfig) -> Result<Kept<D>, Closed<D>>
         requires limit { config.map_max ≤ 65536 }
 
@@ -79,18 +79,21 @@ impl<D: Disk> Kept<D> {
 
         // On failure. The disk holds what it held, unless one of its calls failed.
         ensures damaged { IfErr result (λ closed. TellsDamage (options_of config) (D.seen disk) closed.why) }
-        ensures failed { IfErr result (λ closed. closed.why ≡ OpenError.Disk → Rose (D.faults disk) (D.faults closed.disk)) }
+        ensures failed { IfErr result (λ closed.
+            closed.why ≡ OpenError.Disk → Rose (D.faults disk) (D.faults closed.disk)) }
         ensures stays { IfErr result
             (λ closed. HoldsUnlessFailed D.seen D.may_leave D.moment D.left_since disk closed.why closed.disk) }
 
         // A crash at any moment leaves what it might have left before, or a journal of the same requests.
-        ensures any_moment { LeavesOnly D.moment D.left_since disk (disk_after result) (KeepsJournal (options_of config) (D.seen disk) (D.may_leave disk)) }
+        ensures any_moment { LeavesOnly D.moment D.left_since disk
+            (disk_after result) (KeepsJournal (options_of config) (D.seen disk) (D.may_leave disk)) }
 
         // The calls, and the counts.
         ensures calls { IfOk result
             (λ kept. Runs D.does D.fails disk (calls_of_open (D.seen disk) (length (D.seen kept.disk))) kept.disk) }
         ensures stops { IfErr result (λ closed. StopsOpening D.does D.fails (D.seen disk) disk closed.why closed.disk) }
-        ensures clock { length (D.seen disk) ≤ 1 → IfOk result (λ kept. D.clock kept.disk ≡ calls_later 3 (D.clock disk)) }
+        ensures clock { length (D.seen disk) ≤ 1
+            → IfOk result (λ kept. D.clock kept.disk ≡ calls_later 3 (D.clock disk)) }
         ensures never_falls { D.faults disk ≤ D.faults (disk_after result) }
     {
         match open_over(alloc, &mut disk, config) {
@@ -128,7 +131,8 @@ impl<D: Disk> Kept<D> {
 
         // The machine.
         ensures options { options_in self.new.machine ≡ options_in self.old.machine }
-        ensures machine { (m : OneMachine) → Stands self.old.machine m → Commits (options_in self.old.machine) m request self.new.machine result }
+        ensures machine { (m : OneMachine)
+            → Stands self.old.machine m → Commits (options_in self.old.machine) m request self.new.machine result }
         ensures accepted { OnOk result (requests_in self.new.machine ≡ requests_in self.old.machine ++ request ∷ []) }
         ensures too_long { 2 ^ 32 ≤ length line.now → IsErrOf result KeptError.Memory }
         ensures cost { Costs (state_in self.old.machine.repo) (step.Commit request) steps.old steps.new }
@@ -170,7 +174,8 @@ impl<D: Disk> Kept<D> {
         requires other { is_other event ≡ true }
         requires not_lost { self.old.lost ≡ false }
         ensures options { options_in self.new.machine ≡ options_in self.old.machine }
-        ensures step { (m : OneMachine) → Stands self.old.machine m → StepsTo (options_in self.old.machine) m event self.new.machine result }
+        ensures step { (m : OneMachine) → Stands self.old.machine m
+            → StepsTo (options_in self.old.machine) m event self.new.machine result }
         ensures requests { requests_in self.new.machine ≡ requests_in self.old.machine }
         ensures disk { (self.new.disk ≡ self.old.disk) × (self.new.lost ≡ false) }
         ensures cost { Costs (state_in self.old.machine.repo) event steps.old steps.new }
@@ -189,9 +194,10 @@ impl<D: Disk> Kept<D> {
         requires other { asks_other asked ≡ true }
         requires not_lost { self.old.lost ≡ false }
         ensures options { options_in self.new.machine ≡ options_in self.old.machine }
-        ensures led { (m : OneMachine) → Stands self.old.machine m
-            → LedTo (options_in self.old.machine) m (events_of (options_in self.old.machine) m asked) self.new.machine result }
-        ensures said { (m : OneMachine) → Stands self.old.machine m → SaidTo (options_in self.old.machine) m asked result }
+        ensures led { (m : OneMachine) → Stands self.old.machine m → LedTo
+            (options_in self.old.machine) m (events_of (options_in self.old.machine) m asked) self.new.machine result }
+        ensures said { (m : OneMachine) → Stands self.old.machine m
+            → SaidTo (options_in self.old.machine) m asked result }
         ensures requests { requests_in self.new.machine ≡ requests_in self.old.machine }
         ensures disk { (self.new.disk ≡ self.old.disk) × (self.new.lost ≡ false) }
     {
@@ -229,8 +235,10 @@ impl<D: Disk> Kept<D> {
     /// Why the query's packet is allowed or denied in the present state. `NoEndpoint` comes exactly where no endpoint of that name
     /// is live. `Memory` is want of memory.
     pub fn trace(&self, alloc: Global, query: &Query) -> Result<Trace, ExplainError>
-        ensures trace { IfOk result (λ trace. explain_of (options_in self.now.machine) (state_in self.now.machine.repo) query.now ≡ Some trace) }
-        ensures no_endpoint { IsErrOf result ExplainError.NoEndpoint ↔ (endpoint_of query.now.endpoint (state_in self.now.machine.repo).endpoints ≡ None) }
+        ensures trace { IfOk result (λ trace.
+            explain_of (options_in self.now.machine) (state_in self.now.machine.repo) query.now ≡ Some trace) }
+        ensures no_endpoint { IsErrOf result ExplainError.NoEndpoint
+            ↔ (endpoint_of query.now.endpoint (state_in self.now.machine.repo).endpoints ≡ None) }
     {
         explain(alloc, self.machine.repo(), query)
     }

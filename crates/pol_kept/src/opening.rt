@@ -28,7 +28,8 @@ fn open_short<D: Disk>(disk: &mut D, machine: &Machine) -> Result<(), OpenError>
     ensures kept { OnOk result (IsKept D.seen D.may_leave disk.new machine.now) }
     ensures disk { OnErr result (result ≡ Err OpenError.Disk) }
     ensures failed { IsErr result → Rose (D.faults disk.old) (D.faults disk.new) }
-    ensures any_moment { LeavesOnly D.moment D.left_since disk.old disk.new (SameJournal (options_in machine.now) (D.seen disk.old)) }
+    ensures any_moment { LeavesOnly D.moment D.left_since disk.old disk.new
+        (SameJournal (options_in machine.now) (D.seen disk.old)) }
     ensures calls { Makes D.does D.fails calls_of_start disk.old result disk.new }
     ensures clock { OnOk result (D.clock disk.new ≡ calls_later 2 (D.clock disk.old)) }
     ensures never_falls { D.faults disk.old ≤ D.faults disk.new }
@@ -57,10 +58,13 @@ fn open_bytes<D: Disk>(
     ensures kept { OnOk result (IsKept D.seen D.may_leave disk.new machine.new) }
     ensures damaged { IfErr result (TellsDamage (options_in machine.old) (D.seen disk.old)) }
     ensures failed { IsErrOf result OpenError.Disk → Rose (D.faults disk.old) (D.faults disk.new) }
-    ensures any_moment { LeavesOnly D.moment D.left_since disk.old disk.new (SameJournal (options_in machine.old) (D.seen disk.old)) }
+    ensures any_moment { LeavesOnly D.moment D.left_since disk.old disk.new
+        (SameJournal (options_in machine.old) (D.seen disk.old)) }
     ensures calls { OnOk result (Runs D.does D.fails disk.old (Cuts (length (D.seen disk.new)) ∷ Syncs ∷ []) disk.new) }
-    ensures stops { IfErr result (λ why. FailsToOpen D.does D.fails [] (λ end. Cuts end ∷ Syncs ∷ []) disk.old why disk.new) }
-    ensures stays { IfErr result (λ why. HoldsUnlessFailed D.seen D.may_leave D.moment D.left_since disk.old why disk.new) }
+    ensures stops { IfErr result (λ why.
+        FailsToOpen D.does D.fails [] (λ end. Cuts end ∷ Syncs ∷ []) disk.old why disk.new) }
+    ensures stays { IfErr result (λ why.
+        HoldsUnlessFailed D.seen D.may_leave D.moment D.left_since disk.old why disk.new) }
     ensures never_falls { D.faults disk.old ≤ D.faults disk.new }
 {
     match replay(alloc, machine, bytes) {
@@ -82,12 +86,14 @@ fn open_long<D: Disk>(alloc: Global, disk: &mut D, machine: &mut Machine) -> Res
     ensures kept { OnOk result (IsKept D.seen D.may_leave disk.new machine.new) }
     ensures damaged { IfErr result (TellsDamage (options_in machine.old) (D.seen disk.old)) }
     ensures failed { IsErrOf result OpenError.Disk → Rose (D.faults disk.old) (D.faults disk.new) }
-    ensures any_moment { LeavesOnly D.moment D.left_since disk.old disk.new (SameJournal (options_in machine.old) (D.seen disk.old)) }
+    ensures any_moment { LeavesOnly D.moment D.left_since disk.old disk.new
+        (SameJournal (options_in machine.old) (D.seen disk.old)) }
     ensures calls { OnOk result (Runs D.does D.fails disk.old
         (Reads 0 (length (D.seen disk.old)) ∷ Cuts (length (D.seen disk.new)) ∷ Syncs ∷ []) disk.new) }
     ensures stops { IfErr result (λ why. FailsToOpen D.does D.fails (Reads 0 (length (D.seen disk.old)) ∷ [])
         (λ end. Reads 0 (length (D.seen disk.old)) ∷ Cuts end ∷ Syncs ∷ []) disk.old why disk.new) }
-    ensures stays { IfErr result (λ why. HoldsUnlessFailed D.seen D.may_leave D.moment D.left_since disk.old why disk.new) }
+    ensures stays { IfErr result (λ why.
+        HoldsUnlessFailed D.seen D.may_leave D.moment D.left_since disk.old why disk.new) }
     ensures never_falls { D.faults disk.old ≤ D.faults disk.new }
 {
     match read_bytes(alloc, disk) {
@@ -106,12 +112,14 @@ fn open_synced<D: Disk>(alloc: Global, disk: &mut D, machine: &mut Machine) -> R
     ensures kept { OnOk result (IsKept D.seen D.may_leave disk.new machine.new) }
     ensures damaged { IfErr result (TellsDamage (options_in machine.old) (D.seen disk.old)) }
     ensures failed { IsErrOf result OpenError.Disk → Rose (D.faults disk.old) (D.faults disk.new) }
-    ensures any_moment { LeavesOnly D.moment D.left_since disk.old disk.new (SameJournal (options_in machine.old) (D.seen disk.old)) }
+    ensures any_moment { LeavesOnly D.moment D.left_since disk.old disk.new
+        (SameJournal (options_in machine.old) (D.seen disk.old)) }
     ensures calls { OnOk result
         (Runs D.does D.fails disk.old (calls_of_synced (D.seen disk.old) (length (D.seen disk.new))) disk.new) }
     ensures stops { IfErr result (λ why. FailsToOpen D.does D.fails (Reads 0 (length (D.seen disk.old)) ∷ [])
         (calls_of_synced (D.seen disk.old)) disk.old why disk.new) }
-    ensures stays { IfErr result (λ why. HoldsUnlessFailed D.seen D.may_leave D.moment D.left_since disk.old why disk.new) }
+    ensures stays { IfErr result (λ why.
+        HoldsUnlessFailed D.seen D.may_leave D.moment D.left_since disk.old why disk.new) }
     ensures clock { length (D.seen disk.old) ≤ 1 → OnOk result (D.clock disk.new ≡ calls_later 2 (D.clock disk.old)) }
     ensures never_falls { D.faults disk.old ≤ D.faults disk.new }
 {
@@ -134,11 +142,13 @@ fn open_with<D: Disk>(
     ensures kept { IfOk result (λ new. IsKept D.seen D.may_leave disk.new new) }
     ensures damaged { IfErr result (TellsDamage (options_in machine) (D.seen disk.old)) }
     ensures failed { IsErrOf result OpenError.Disk → Rose (D.faults disk.old) (D.faults disk.new) }
-    ensures any_moment { LeavesOnly D.moment D.left_since disk.old disk.new (KeepsJournal (options_in machine) (D.seen disk.old) (D.may_leave disk.old)) }
+    ensures any_moment { LeavesOnly D.moment D.left_since disk.old disk.new
+        (KeepsJournal (options_in machine) (D.seen disk.old) (D.may_leave disk.old)) }
     ensures calls { OnOk result
         (Runs D.does D.fails disk.old (calls_of_open (D.seen disk.old) (length (D.seen disk.new))) disk.new) }
     ensures stops { IfErr result (λ why. StopsOpening D.does D.fails (D.seen disk.old) disk.old why disk.new) }
-    ensures stays { IfErr result (λ why. HoldsUnlessFailed D.seen D.may_leave D.moment D.left_since disk.old why disk.new) }
+    ensures stays { IfErr result (λ why.
+        HoldsUnlessFailed D.seen D.may_leave D.moment D.left_since disk.old why disk.new) }
     ensures clock { length (D.seen disk.old) ≤ 1 → OnOk result (D.clock disk.new ≡ calls_later 3 (D.clock disk.old)) }
     ensures never_falls { D.faults disk.old ≤ D.faults disk.new }
 {
@@ -154,9 +164,9 @@ fn open_with<D: Disk>(
 /// The machine of the journal on a disk that is lent for the call. It syncs. Where there is at most one byte, it writes a closed
 /// gate and syncs; otherwise it reads, cuts behind the closed gate that ends the journal, and syncs.
 ///
-/// `Damaged` comes exactly where the bytes aren't a journal, if no call of the disk failed before that was known; nothing is written
-/// then. `Disk` comes only at a fault of the disk. `Memory` is want of memory, and comes also where a request's list is longer
-/// than a place has numbers for.
+/// `Damaged` comes exactly where the bytes aren't a journal, want of memory aside, if no call of the disk failed before that was known;
+/// nothing is written then. `Disk` comes only at a fault of the disk. `Memory` is want of memory, and comes also where a request's list
+/// is longer than a place has numbers for.
 pub fn open_over<D: Disk>(
     alloc: Global,
     disk: &mut D,
@@ -172,10 +182,12 @@ pub fn open_over<D: Disk>(
     // On failure. The disk holds what it held, unless one of its calls failed.
     ensures damaged { IfErr result (TellsDamage (options_of config) (D.seen disk.old)) }
     ensures failed { IsErrOf result OpenError.Disk → Rose (D.faults disk.old) (D.faults disk.new) }
-    ensures stays { IfErr result (λ why. HoldsUnlessFailed D.seen D.may_leave D.moment D.left_since disk.old why disk.new) }
+    ensures stays { IfErr result (λ why.
+        HoldsUnlessFailed D.seen D.may_leave D.moment D.left_since disk.old why disk.new) }
 
     // A crash at any moment leaves what it might have left before, or a journal of the same requests.
-    ensures any_moment { LeavesOnly D.moment D.left_since disk.old disk.new (KeepsJournal (options_of config) (D.seen disk.old) (D.may_leave disk.old)) }
+    ensures any_moment { LeavesOnly D.moment D.left_since disk.old disk.new
+        (KeepsJournal (options_of config) (D.seen disk.old) (D.may_leave disk.old)) }
 
     // The calls, and the counts.
     ensures calls { OnOk result

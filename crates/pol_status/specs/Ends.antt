@@ -1,5 +1,5 @@
 -- How a run ends ('profile').
-use Rattle.std.specs.Prelude.{ℕ, Bool, true, false, List, codes, Option, None, Some}
+use Rattle.std.specs.Prelude.{ℕ, Bool, true, false, List, [], ◌∷◌, codes, Option, None, Some}
 use Rattle.pol_status.specs.declared.status.Status.{Status}
 use Rattle.pol_status.specs.declared.status.Status.TheVariants.{Clean, Marked, Usage, Read, Write, Memory, TooLong, Disk, Damaged}
 
@@ -74,3 +74,7 @@ has_opened Memory = false
 has_opened TooLong = false
 has_opened Disk = false
 has_opened Damaged = false
+
+-- all statuses, by their numbers
+abbrev pub statuses : List Status
+statuses = Clean ∷ Marked ∷ Usage ∷ Read ∷ Write ∷ Memory ∷ TooLong ∷ Disk ∷ Damaged ∷ []

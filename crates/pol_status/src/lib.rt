@@ -5,6 +5,7 @@
 #![tactic(auto)]
 
 mod input;
+pub mod laws;
 mod status;
 
 pub use input::read_script_bytes;

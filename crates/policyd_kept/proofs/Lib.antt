@@ -1,0 +1,7 @@
+mod Newlines
+mod Streams
+mod Serving
+mod Ending
+mod Reading
+mod Opening
+mod Acknowledged

@@ -1,0 +1,5 @@
+pub mod Ends
+pub mod Served
+pub mod Serving
+pub mod Words
+pub mod Acknowledged
