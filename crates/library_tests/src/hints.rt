@@ -83,6 +83,10 @@ impl Digits {
 }
 
 impl Job for Digits {
+    ghost use Rattle.std.specs.Prelude.{⊤};
+
+    ghost has_run = { λ job slot. ⊤ };
+
     fn run<R: Wait>(&self, _rt: &R, _alloc: Global, slot: u32) -> Result<(), Memory> {
         self.write(slot);
         if slot == 9 { Err(Memory) } else { Ok(()) }
@@ -144,6 +148,10 @@ struct Counts {
 }
 
 impl Job for Counts {
+    ghost use Rattle.std.specs.Prelude.{⊤};
+
+    ghost has_run = { λ job slot. ⊤ };
+
     fn run<R: Wait>(&self, _rt: &R, _alloc: Global, slot: u32) -> Result<(), Memory> {
         if let Some(count) = self.counts.as_slice().get(slot as usize) {
             count.fetch_add(1, Ordering::SeqCst);

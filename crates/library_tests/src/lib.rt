@@ -11,6 +11,8 @@ mod arena;
 #[cfg(test)]
 mod audits;
 #[cfg(test)]
+mod bell;
+#[cfg(test)]
 mod data;
 #[cfg(test)]
 mod held_prefixes;

@@ -3,5 +3,6 @@ pub mod Histories
 pub mod Shares
 pub mod Views
 pub mod Steps
-pub mod Taken
+pub mod Laying
 pub mod Below
+pub mod Serving

@@ -1,5 +1,5 @@
 -- The views of all passes, as one of them changes.
-use Rattle.std.proofs.Common.{◌≡◌, ◌≢◌, ℕ, zero, suc, ◌≤◌, length, List, [], ◌∷◌, ◌++◌, ◌+◌, ◌*◌, set, refl, sym, ap, ◌∙◌, subst, inl, inr, ⊎_elim, append-nil, arith}
+use Rattle.std.proofs.Common.{◌≡◌, ◌≢◌, ℕ, zero, suc, ◌≤◌, length, List, [], ◌∷◌, ◌++◌, ◌+◌, ◌*◌, true, set, refl, sym, ap, ◌∙◌, subst, inl, inr, ⊎_elim, append-nil, arith, true≢false}
 use Rattle.std.proofs.Math.Decide.{ℕ_discrete}
 use mathlib.Core.List.{IsPrefix}
 use mathlib.Core.Logic.{dite}
@@ -9,8 +9,8 @@ use Rattle.crossbeam_queue.proofs.Lists.{at_longer, at_set, at_snoc, set_else}
 use Rattle.pol_hints.specs.declared.standing.Standing.{Standing}
 use Rattle.pol_hints.specs.declared.turn.Turn.{Turn}
 use Rattle.pol_hints.specs.History.{longer}
-use Rattle.pol_hints.specs.Queue.{AreOf, HasSeen, IsKnown, all_own, newly_made, of_both, other_half, spent, with_half}
-use Rattle.pol_hints.specs.Shares.{AreShares, IsAll, IsPart}
+use Rattle.pol_hints.specs.Queue.{AreOf, HasSeen, IsKnown, all_having, all_own, newly_made, of_both, one_if, other_half, spent, with_half}
+use Rattle.pol_hints.specs.Shares.{AreShares, IsAll, IsPart, no_share}
 use Rattle.pol_hints.proofs.Beginnings.{begins_further, longer_begins, longer_knows, shorter_begins}
 use Rattle.pol_hints.proofs.Shares.{all_units, both_part, both_units, doubled, finer, half_part, half_units, no_more, none_units, one_measure, one_more, one_of, some_units}
 
@@ -23,6 +23,12 @@ pub each_set : (F : Standing → Type 0) (views : List Standing) (port : ℕ) (w
 each_set F views port w mine others j u at =
     ⊎_elim (λ (x : (j ≡ port) × (w ≡ u)). subst F x.1 mine)
     (λ (x : (j ≢ port) × (get_elem? views j ≡ some u)). others j u x.1) (at_set views port j w u at)
+
+-- what holds of the others holds of them still
+pub each_else : (F : Standing → Type 0) (views : List Standing) (port : ℕ) (w : Standing) → F w → ((j : ℕ) (u : Standing) → j ≢ port → get_elem? views j ≡ some u → F u) → Each F (set views port w)
+each_else F views port w mine others j u at =
+    ⊎_elim (λ (x : (j ≡ port) × (w ≡ u)). subst F x.1 mine)
+    (λ (x : (j ≢ port) × (get_elem? views j ≡ some u)). others j u x.0 x.1) (at_set views port j w u at)
 
 pub each_more : (F : Standing → Type 0) (views : List Standing) (w : Standing) → F w → Each F views → Each F (views ++ w ∷ [])
 each_more F views w mine others j u at = ⊎_elim (λ x. others j u x) (λ (is : w ≡ u). subst F is mine) (at_snoc views w u j at)
@@ -46,10 +52,38 @@ own_more : (views : List Standing) (w : Standing) → all_own (views ++ w ∷ []
 own_more [] w = omega arith
 own_more (x ∷ views) w = let rest = own_more views w in omega (arith, rest)
 
+-- ---- who has the hints in their hands
+
+pub having_set : (views : List Standing) (port : ℕ) (v w : Standing) → get_elem? views port ≡ some v → all_having (set views port w) + one_if v.has ≡ all_having views + one_if w.has
+having_set [] port v w at = absurd (some-ne-none v (sym at))
+having_set (x ∷ views) zero v w at = let same = ap (λ (y : Standing). one_if y.has) (some-injective x v at) in omega (arith, same)
+having_set (x ∷ views) (suc port) v w at = let rest = having_set views port v w at in omega (arith, rest)
+
+pub having_more : (views : List Standing) (w : Standing) → all_having (views ++ w ∷ []) ≡ all_having views + one_if w.has
+having_more [] w = omega arith
+having_more (x ∷ views) w = let rest = having_more views w in omega (arith, rest)
+
+having_at : (views : List Standing) (port : ℕ) (v : Standing) → get_elem? views port ≡ some v → one_if v.has ≤ all_having views
+having_at [] port v at = absurd (some-ne-none v (sym at))
+having_at (x ∷ views) zero v at = let same = ap (λ (y : Standing). one_if y.has) (some-injective x v at) in omega (arith, same)
+having_at (x ∷ views) (suc port) v at = let rest = having_at views port v at in omega (arith, rest)
+
+-- where one has them, no other has
+pub no_other_has : (views : List Standing) (port j : ℕ) (v u : Standing) → all_having views ≤ 1 → get_elem? views port ≡ some v → v.has ≡ true → j ≢ port → get_elem? views j ≡ some u → u.has ≡ true → ⊥
+no_other_has views port j v u few at has other there also =
+    let without = having_set views port v spent at in
+    let still = having_at (set views port spent) j u (set_else views port j spent other ∙ there) in
+    let mine = ap one_if has in
+    let theirs = ap one_if also in
+    omega (arith, few, without, still, mine, theirs)
+
+none_part : IsPart no_share → ⊥
+none_part it = let part = it.part in omega (arith, part)
+
 -- ---- a pass with the whole share
 
 -- no other pass has a share
-no_other : (views : List Standing) (port j : ℕ) (v u : Standing) → AreShares views → get_elem? views port ≡ some v → get_elem? views j ≡ some u → j ≢ port → IsAll v.share → IsPart u.share → ⊥
+pub no_other : (views : List Standing) (port j : ℕ) (v u : Standing) → AreShares views → get_elem? views port ≡ some v → get_elem? views j ≡ some u → j ≢ port → IsAll v.share → IsPart u.share → ⊥
 no_other views port j v u it at there other all part =
     let mine = one_of it.whole it.units port views v at it.come in
     let without = mine.put spent 0 (none_units it.whole) in
@@ -61,7 +95,7 @@ no_other views port j v u it at there other all part =
     let few = it.few in
     omega (arith, whole, more, first, second, few)
 
-module _ (history : List Turn) (views : List Standing) (it : AreOf history views) (port : ℕ) (v : Standing) (at : get_elem? views port ≡ some v) where
+module _ (history : List Turn) (room : ℕ) (views : List Standing) (it : AreOf history room views) (port : ℕ) (v : Standing) (at : get_elem? views port ≡ some v) where
   -- it has seen all
   pub knows_all : IsAll v.share → v.seen ≡ history
   knows_all all =
@@ -88,13 +122,16 @@ module _ (history : List Turn) (views : List Standing) (it : AreOf history views
       let few = shares.few in
       record { whole = shares.whole; units = mine.mine + mine.rest; least = shares.least; few = omega (arith, sum, few); come = mine.put w mine.mine (rw (sym same) mine.is) }
 
-  -- the pass has then seen all of the history, which has gone on to `now`, and each turn more is its own
-  pub steps : (now : List Turn) (w : Standing) → IsPart v.share → IsPrefix history now → w.seen ≡ now → w.met ≡ [] → v.share ≡ w.share → w.own + length history ≡ v.own + length now → AreOf now (set views port w)
-  steps now w part later seen unmet share own = record {
+  -- The pass has then seen all of the history, which has gone on to `now`, and each turn more is its own. No other has then the
+  -- hints in its hands that hasn't seen that, and each other that has a share knows the room
+  pub steps : (now : List Turn) (room' : ℕ) (w : Standing) → IsPart v.share → IsPrefix history now → w.seen ≡ now → w.met ≡ [] → v.share ≡ w.share → w.own + length history ≡ v.own + length now → w.room ≡ room'
+      → ((j : ℕ) (u : Standing) → j ≢ port → get_elem? views j ≡ some u → u.has ≡ true → u.seen ≡ now) → ((j : ℕ) (u : Standing) → j ≢ port → get_elem? views j ≡ some u → IsPart u.share → u.room ≡ room')
+      → AreOf now room' (set views port w)
+  steps now room' w part later seen unmet share own known others rooms = record {
     each =
-        each_set (HasSeen now) views port w
-        (record { past = ([], append-nil w.seen ∙ seen); met = (w.seen, ap (λ (l : List Turn). l ++ w.seen) unmet) })
-        (λ j u there. let old = it.each j u there in record { past = begins_further u.seen history now old.past later; met = old.met });
+        each_else (HasSeen now room') views port w
+        (record { past = ([], append-nil w.seen ∙ seen); met = (w.seen, ap (λ (l : List Turn). l ++ w.seen) unmet); all = λ has. seen; within = λ has. known })
+        (λ j u apart there. let old = it.each j u there in record { past = begins_further u.seen history now old.past later; met = old.met; all = others j u apart there; within = rooms j u apart there });
     known = record { port = port; by = w; at = at_here views port v w at; part = rw (sym share) part; knows = seen };
     own = (let sum = own_set views port v w at in let before = it.own in omega (arith, sum, before, own));
     shares = same_shares w share;
@@ -121,15 +158,15 @@ module _ (history : List Turn) (views : List Standing) (it : AreOf history views
         come = one_more (2 * shares.whole) (old.mine + mine.rest) old.mine (set views port (with_half v)) (other_half v) (mine.put (with_half v) old.mine is) is;
       }
 
-  pub splits : IsPart v.share → AreOf history (set views port (with_half v) ++ other_half v ∷ [])
+  pub splits : IsPart v.share → AreOf history room (set views port (with_half v) ++ other_half v ∷ [])
   splits part =
       let left = with_half v in
       let known = it.known in
       let mine = it.each port v at in
-      let seen : HasSeen history left = record { past = mine.past; met = (v.seen, refl) } in
-      let seen' : HasSeen history (other_half v) = record { past = mine.past; met = (v.seen, refl) } in
+      let seen : HasSeen history room left = record { past = mine.past; met = (v.seen, refl); all = λ has. absurd (true≢false (sym has)); within = λ half. mine.within part } in
+      let seen' : HasSeen history room (other_half v) = record { past = mine.past; met = (v.seen, refl); all = λ has. absurd (true≢false (sym has)); within = λ half. mine.within part } in
       record {
-        each = each_more (HasSeen history) (set views port left) (other_half v) seen' (each_set (HasSeen history) views port left seen it.each);
+        each = each_more (HasSeen history room) (set views port left) (other_half v) seen' (each_set (HasSeen history room) views port left seen it.each);
         known =
             dite (ℕ_discrete port known.port)
             (λ same. let by = one_there views port known.port v known.by same at known.at in record {
@@ -194,14 +231,14 @@ module _ (history : List Turn) (views : List Standing) (it : AreOf history views
           knows = known.knows;
         }))
 
-    pub joins : IsPart v.share → IsPart w.share → AreOf history (set (set views port (of_both v w)) other spent)
+    pub joins : IsPart v.share → IsPart w.share → AreOf history room (set (set views port (of_both v w)) other spent)
     joins part part' =
         let mine = (it.each port v at).past in
         let theirs = (it.each other w there).past in
-        let both : HasSeen history (of_both v w) = record { past = longer_begins v.seen w.seen history mine theirs; met = shorter_begins v.seen w.seen history mine theirs } in
-        let nothing : HasSeen history spent = record { past = (history, refl); met = ([], refl) } in
+        let both : HasSeen history room (of_both v w) = record { past = longer_begins v.seen w.seen history mine theirs; met = shorter_begins v.seen w.seen history mine theirs; all = λ has. absurd (true≢false (sym has)); within = λ both. (it.each port v at).within part } in
+        let nothing : HasSeen history room spent = record { past = (history, refl); met = ([], refl); all = λ has. absurd (true≢false (sym has)); within = λ none. absurd (none_part none) } in
         record {
-          each = each_set (HasSeen history) (set views port (of_both v w)) other spent nothing (each_set (HasSeen history) views port (of_both v w) both it.each);
+          each = each_set (HasSeen history room) (set views port (of_both v w)) other spent nothing (each_set (HasSeen history room) views port (of_both v w) both it.each);
           known = both_known part part';
           own =
               (let sum = own_set views port v (of_both v w) at in
@@ -210,9 +247,9 @@ module _ (history : List Turn) (views : List Standing) (it : AreOf history views
           shares = both_shares;
         }
 
-pub begins : AreOf [] (newly_made ∷ [])
+pub begins : AreOf [] 0 (newly_made ∷ [])
 begins = record {
-  each = each_more (HasSeen []) [] newly_made (record { past = ([], refl); met = ([], refl) }) (λ j u at. absurd (some-ne-none u (sym at)));
+  each = each_more (HasSeen [] 0) [] newly_made (record { past = ([], refl); met = ([], refl); all = λ has. refl; within = λ part. refl }) (λ j u at. absurd (some-ne-none u (sym at)));
   known = record { port = 0; by = newly_made; at = refl; part = record { part = omega arith; of = omega arith }; knows = refl };
   own = refl;
   shares = record { whole = 1; units = 1; least = omega arith; few = omega arith; come = (1, 0, record { of = omega arith; is = refl }, refl, refl) };

@@ -40,6 +40,15 @@ hints_taken [] = []
 hints_taken (Put slot ∷ turns) = hints_taken turns
 hints_taken (Taken slot ∷ turns) = slot ∷ hints_taken turns
 
+-- the turns by which these hints are put, one behind the other; those by which they are taken
+abbrev pub puts : List ℕ → List Turn
+puts [] = []
+puts (slot ∷ slots) = Put slot ∷ puts slots
+
+abbrev pub takes : List ℕ → List Turn
+takes [] = []
+takes (slot ∷ slots) = Taken slot ∷ takes slots
+
 -- what either of two passes has seen
 abbrev pub longer : List Turn → List Turn → List Turn
 longer a b = if nat_le (length a) (length b) then b else a

@@ -3,3 +3,4 @@ pub mod Shares
 pub mod Queue
 pub mod Passes
 pub mod Inside
+pub mod Serving

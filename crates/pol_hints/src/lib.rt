@@ -5,11 +5,13 @@
 //! between the two calls of a gate.
 #![tactic(auto)]
 
+mod bell;
 mod calls;
 mod hints;
 mod job;
 pub mod laws;
 mod pass;
+mod place;
 mod round;
 mod rule;
 mod standing;

@@ -20,4 +20,8 @@ pub(crate) struct Standing {
     pub own: u32,
     /// The passes of a queue have no more than the whole together, so one that has it all is the only one.
     pub share: Share,
+    /// Whether it has the hints in its hands: it took them up, and hasn't laid them down since.
+    pub has: bool,
+    /// For how many hints the queue has room. It is 0 of a pass without a share.
+    pub room: u32,
 }

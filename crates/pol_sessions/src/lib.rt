@@ -6,6 +6,7 @@
 #![tactic(auto)]
 
 mod line;
+mod pace;
 mod phase;
 mod script;
 mod session;

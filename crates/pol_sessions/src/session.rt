@@ -5,6 +5,7 @@ ghost use Rattle.pol_run_laws.specs.Seats.{HasGoneOn};
 ghost use Rattle.pol_sessions.specs.Sessions.{HasStopped};
 
 use crate::line::play_line;
+use crate::pace::Pace;
 use pol_data::{Memory, Steps};
 use pol_hints::{HintPass, HintRound, Hints};
 use pol_node::{Node, NodeName, Pass};
@@ -70,12 +71,15 @@ fn play_counted<N: NodeName, W: Wait, R: Wait + Drop, L: Ledger>(
     let mut left = lines;
     let mut answers = Answers::new(alloc);
     let mut round = HintRound::new();
+    let mut pace = Pace::new();
     pass.fits_together();
     while let Some(line) = left.next() {
         let answer = play_line(
             rt, alloc, node, pass, hints, hint_pass, &mut round, line, &mut steps,
         )?;
+        pace.go_on(hints, &answer);
         answers.push(answer)?;
     }
+    pace.end(hints);
     Ok(answers)
 }

@@ -9,68 +9,65 @@ use left_right::Absorb;
 use pol_board_view::{Face, FaceOp};
 use pol_data::{Items, Memory};
 use pol_hints::{Calls, Gate, HintPass, Hints, Job, Over, work};
-use pol_node::{Node, NodeName, Pass, Regen};
+use pol_node::{Node, NodeName, Pass};
 use pol_phases::Commands;
 use std::alloc::Global;
 use std::sync::Wait;
 use std::sync::atomic::{AtomicU64, Ordering};
-use std::thread;
 use std::thread::{Threads, join};
 
-/// How many times a worker that rests yields the processor, until the end is told.
-const YIELDS: u32 = 1024;
+/// How many slots there are.
+const SLOTS: u32 = 256;
 
-/// What a worker does with a hint: it regenerates the slot, and rests where commits came meanwhile.
+/// What a worker does with a hint: it regenerates the slot, once between two rings, until the end is told.
 #[derive(Drop)]
 struct Regenerating<'a, N: NodeName, R: Wait + Drop>
 where
     Face<N>: Absorb<FaceOp<N>>,
 {
     node: &'a Node<N, R>,
+    hints: &'a Hints,
     over: &'a Over,
-    // The revision of what this worker regenerated last.
-    last: AtomicU64,
+    // For each slot how often it had rung when a worker regenerated it last.
+    made: &'a [AtomicU64],
 }
 
-/// The revision of what was regenerated. An endpoint that has gone has none.
-fn revision_of(regen: Regen) -> Option<u64> {
-    match regen {
-        Regen::Published(revision) | Regen::Already(revision) => Some(revision),
-        Regen::Full { revision, .. } => Some(revision),
-        Regen::Gone => None,
+/// No slot was regenerated yet.
+fn none_made(alloc: Global) -> Result<Vec<AtomicU64>, Memory> {
+    let mut made = Vec::with_capacity(alloc, SLOTS as usize)?;
+    for _ in 0..SLOTS {
+        made.push(AtomicU64::new(0))?;
     }
-}
-
-/// Yields, so that threads go first that wait for the desk, which a regeneration holds for a while. Once the end was told
-/// nobody has to go first. No clause speaks of it.
-fn rest(over: &Over) {
-    for _ in 0..YIELDS {
-        if over.is_set() {
-            return;
-        }
-        thread::yield_now();
-    }
+    Ok(made)
 }
 
 impl<'a, N: NodeName, R: Wait + Drop> Regenerating<'a, N, R> {
-    /// Whether commits came since this worker regenerated a slot before: this one is of another revision.
-    fn is_behind(&self, regen: Regen) -> bool {
-        match revision_of(regen) {
-            Some(revision) => self.last.swap(revision, Ordering::SeqCst) != revision,
-            None => false,
+    /// Whether the slot is to be regenerated: none was since it rang last, and its map may still be asked. No clause speaks
+    /// of it.
+    fn is_due(&self, slot: u32) -> bool {
+        if self.over.is_set() {
+            return false;
+        }
+        let rung = self.hints.rung();
+        match self.made.get(slot as usize) {
+            Some(made) => made.swap(rung, Ordering::SeqCst) != rung,
+            None => true,
         }
     }
 }
 
 impl<'a, N: NodeName, R: Wait + Drop> Job for Regenerating<'a, N, R> {
+    ghost use Rattle.std.specs.Prelude.{⊤};
+
+    // A regeneration leaves nothing that a fact could name: what it reports stands in the node's history.
+    ghost has_run = { λ job slot. ⊤ };
+
     fn run<W: Wait>(&self, rt: &W, alloc: Global, slot: u32) -> Result<(), Memory> {
+        if !self.is_due(slot) {
+            return Ok(());
+        }
         match self.node.regenerate(rt, alloc, slot) {
-            Ok(regen) => {
-                if self.is_behind(regen) {
-                    rest(self.over);
-                }
-                Ok(())
-            }
+            Ok(_) => Ok(()),
             Err(_) => Err(Memory),
         }
     }
@@ -90,6 +87,7 @@ fn serve<
     gate: &G,
     calls: &Calls,
     over: &Over,
+    made: &[AtomicU64],
     hint_pass: HintPass,
     workers: u32,
 ) -> Result<(), Memory>
@@ -105,7 +103,11 @@ fn serve<
         rt,
         || -> Result<(), Memory>
             requires { hint_pass.queue ≡ hints.now.name }
-        { serve(rt, alloc, node, hints, gate, calls, over, hint_pass, left) },
+        {
+            serve(
+                rt, alloc, node, hints, gate, calls, over, made, hint_pass, left,
+            )
+        },
         || -> Result<(), Memory>
             requires { other.queue ≡ hints.now.name }
         {
@@ -116,8 +118,9 @@ fn serve<
                 &mut other,
                 &Regenerating {
                     node,
+                    hints,
                     over,
-                    last: AtomicU64::new(0),
+                    made,
                 },
                 gate,
                 calls,
@@ -152,28 +155,38 @@ pub fn play_beside<
     requires one_each { AllByRecursion (λ lines. length lines ≡ length passes.items) phases.items }
     requires few { length passes.items ≤ 40 }
     requires hints { hint_pass.queue ≡ hints.now.name }
-    ensures phases { IfOk result (λ played. ArePhases N.options N.passes passes.items phases.items played.told.items played.passes.items) }
+    ensures phases { IfOk result (λ played.
+        ArePhases N.options N.passes passes.items phases.items played.told.items played.passes.items) }
     ensures as_many { IfOk result (λ played. length played.passes.items ≡ length passes.items) }
 {
     let mut hint_pass = hint_pass;
     let other = hints.split(rt, &mut hint_pass)?;
     let calls = Calls::new();
     let over = Over::new();
+    let made = none_made(alloc)?;
+    let slots = made.as_slice();
+    hints.ring();
     let (served, played) = join(
         rt,
         || -> Result<(), Memory>
             requires { other.queue ≡ hints.now.name }
-        { serve(rt, alloc, node, hints, gate, &calls, &over, other, workers) },
+        {
+            serve(
+                rt, alloc, node, hints, gate, &calls, &over, slots, other, workers,
+            )
+        },
         || -> Result<PlayedPhases<N>, Memory>
             requires handed_out { AllByRecursion (λ pass. has N.passes pass.number ≡ true) passes.items }
             requires one_each { AllByRecursion (λ lines. length lines ≡ length passes.items) phases.items }
             requires few { length passes.items ≤ 40 }
             requires hints { hint_pass.queue ≡ hints.now.name }
-            ensures phases { IfOk result (λ played. ArePhases N.options N.passes passes.items phases.items played.told.items played.passes.items) }
+            ensures phases { IfOk result (λ played.
+                ArePhases N.options N.passes passes.items phases.items played.told.items played.passes.items) }
             ensures as_many { IfOk result (λ played. length played.passes.items ≡ length passes.items) }
         {
             let played = play_phases(rt, alloc, node, hints, gate, hint_pass, passes, phases);
             over.set();
+            hints.ring_all();
             played
         },
     );

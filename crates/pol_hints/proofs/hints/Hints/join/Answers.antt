@@ -5,7 +5,7 @@ use Rattle.pol_hints.proofs.Steps.{joined_begin, merges, sounds}
 use Rattle.pol_hints.proofs.hints.Hints.join.Goals as goal
 
 pub absorb-requires-clause-rule : goal.absorb-requires-clause-rule
-absorb-requires-clause-rule g c = merges _ _ _ _ c.pass.invariant.part c.other.invariant.part
+absorb-requires-clause-rule g c = merges _ _ _ _ c.pass.invariant.part c.other.invariant.part c.pass.invariant.rests c.other.invariant.rests
 
 pub learn_as-requires-clause-rule : goal.learn_as-requires-clause-rule
 learn_as-requires-clause-rule g c = sounds _ _
