@@ -69,9 +69,9 @@ fn time_change<N: NodeName, W: Clock + Wait, R: Wait + Drop, L: Ledger>(
     let start = watch.nanos(rt);
     commit(rt, alloc, desk, &mut seats.commits, request, steps)?;
     let committed = watch.nanos(rt);
-    publish(rt, alloc, desk, &mut seats.slot)?;
+    publish(rt, alloc, desk, &mut seats.slot, 0)?;
     let published = watch.nanos(rt);
-    seats.slot.regenerate_over(rt, alloc, desk)?;
+    seats.slot.regenerate_over(rt, alloc, desk, 0)?;
     let over = watch.nanos(rt);
     Ok(Spent {
         commit: committed.wrapping_sub(start),

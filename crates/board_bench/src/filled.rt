@@ -44,14 +44,15 @@ pub(crate) fn commit<N: NodeName, W: Wait, R: Wait + Drop, L: Ledger>(
     }
 }
 
-/// Publishes the map of the slot's endpoint. What else a regeneration does is want of memory here.
+/// Publishes the map of the endpoint of the slot of that number. What else a regeneration does is want of memory here.
 pub(crate) fn publish<N: NodeName, W: Wait, R: Wait + Drop>(
     rt: &W,
     alloc: Global,
     desk: &Mutex<Desk<N, R>>,
     slot: &mut Slot<N>,
+    number: u32,
 ) -> Result<u64, Memory> {
-    match slot.regenerate_over(rt, alloc, desk)? {
+    match slot.regenerate_over(rt, alloc, desk, number)? {
         Regen::Published(revision) => Ok(revision),
         _ => Err(Memory),
     }
@@ -116,8 +117,8 @@ fn publish_once<N: NodeName, W: Wait, R: Wait + Drop>(
     number: u32,
     pass: Pass<N>,
 ) -> Result<u64, Memory> {
-    let mut slot = Slot::open(number, pass);
-    publish(rt, alloc, desk, &mut slot)
+    let mut slot = Slot::open(pass);
+    publish(rt, alloc, desk, &mut slot, number)
 }
 
 /// Publishes the map of each slot but the first, by the last of these passes.
@@ -155,7 +156,7 @@ fn fill<N: NodeName, W: Wait, R: Wait + Drop, L: Ledger>(
     let mut steps = Steps::<L>::new(blank);
     commit_all(rt, alloc, desk, &mut seats.commits, sizes, &mut steps)?;
     publish_others(rt, alloc, desk, &mut seats.others, sizes.endpoints)?;
-    publish(rt, alloc, desk, &mut seats.slot)?;
+    publish(rt, alloc, desk, &mut seats.slot, 0)?;
     Ok(())
 }
 

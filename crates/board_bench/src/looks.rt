@@ -193,9 +193,9 @@ fn come_and_go<N: NodeName, W: Wait, R: Wait + Drop, L: Ledger>(
     ensures number { pass.new.number ≡ pass.old.number }
 {
     commit(rt, alloc, desk, pass, identity(alloc, number)?, steps)?;
-    publish(rt, alloc, desk, slot)?;
+    publish(rt, alloc, desk, slot, 0)?;
     commit(rt, alloc, desk, pass, no_identity(alloc, number)?, steps)?;
-    publish(rt, alloc, desk, slot)?;
+    publish(rt, alloc, desk, slot, 0)?;
     Ok(())
 }
 

@@ -63,7 +63,7 @@ pub(crate) fn seated<N: NodeName>(
     Ok(Seats {
         commits,
         looks,
-        slot: Slot::open(0, first),
+        slot: Slot::open(first),
         others,
     })
 }

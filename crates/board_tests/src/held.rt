@@ -176,7 +176,7 @@ fn publish<N: NodeName, W: Wait, R: Wait + Drop, L: Ledger>(
     ensures number { pass.new.number ≡ pass.old.number }
 {
     let mut steps = Steps::<L>::new(blank);
-    let mut slot = Slot::open(0, slot);
+    let mut slot = Slot::open(slot);
     turn(
         rt,
         alloc,

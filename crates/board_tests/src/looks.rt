@@ -252,7 +252,7 @@ pub(crate) fn turn<N: NodeName, W: Wait, R: Wait + Drop, L: Ledger>(
     ensures number { pass.new.number ≡ pass.old.number }
 {
     commit(rt, alloc, desk, pass, request, steps)?;
-    match slot.regenerate_over(rt, alloc, desk)? {
+    match slot.regenerate_over(rt, alloc, desk, 0)? {
         Regen::Published(revision) => Ok(revision),
         _ => Err(Memory),
     }
@@ -306,7 +306,7 @@ fn change<N: NodeName, W: Wait, R: Wait + Drop, L: Ledger>(
     requires handed_out { has N.passes pass.number ≡ true }
 {
     let mut steps = Steps::<L>::new(blank);
-    let mut slot = Slot::open(0, slot);
+    let mut slot = Slot::open(slot);
     let mut pass = pass;
     change_all(rt, alloc, desk, &mut slot, &mut pass, signs, &mut steps)
 }

@@ -105,7 +105,7 @@ fn play<N: NodeName, W: Wait, R: Wait + Drop, L: Ledger>(
 {
     let mut steps = Steps::<L>::new(blank);
     let Seats { commits, slot, .. } = seats;
-    let mut slot = Slot::open(0, slot);
+    let mut slot = Slot::open(slot);
     let mut pass = commits;
     play_all(
         rt, alloc, desk, &mut slot, &mut pass, lines, answers, &mut steps,

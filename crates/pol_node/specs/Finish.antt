@@ -1,5 +1,6 @@
 -- How a finish ends, where `old` is what the slot's pass had seen before it, and `new` what it has seen after it.
 use Rattle.std.specs.Prelude.{◌≡◌, ◌≢◌, ℕ, ◌≤◌, Bool, true, false, List, length, slice_get, Option, Some}
+use mathlib.Core.List.{IsPrefix}
 use Rattle.pol_mapkey.specs.Entries.{Entry as MapEntry}
 use Rattle.pol_model.specs.declared.options.Options.{Options}
 use Rattle.pol_history.specs.declared.event.EndpointId.{EndpointId}
@@ -7,6 +8,7 @@ use Rattle.pol_history.specs.declared.event.HistoryEvent.{HistoryEvent}
 use Rattle.pol_history.specs.declared.event.HistoryEvent.TheVariants as event
 use Rattle.pol_history.specs.declared.event.LastReport.{LastReport}
 use Rattle.pol_history.specs.Commits.{Lives, state_now}
+use Rattle.pol_history.specs.Legal.{IsLegal}
 use Rattle.pol_history.specs.Regenerate.{IsAlready, IsFull, IsGone, IsPublished}
 use Rattle.pol_history.specs.Reports.{last_report, map_at}
 use Rattle.pol_node.specs.declared.report.Finished.{Finished}
@@ -55,3 +57,12 @@ Regenerates options slot old new (regen.Published revision) = IsPublished option
 Regenerates options slot old new (regen.Already revision) = IsAlready options slot old new revision
 Regenerates options slot old new (regen.Full revision count) = IsFull options slot old new revision count
 Regenerates options slot old new regen.Gone = IsGone options slot old new
+
+-- A regeneration of the slot answers so, by what the slot's pass had seen before it and has seen after it. Both lie behind the
+-- slot's lock.
+pub record HasRegenerated (options : Options) (slot : ℕ) (answer : Regen) : Type 0 where
+  pub old : List HistoryEvent
+  pub new : List HistoryEvent
+  pub begins : IsPrefix old new
+  pub legal : IsLegal options new
+  pub is : Regenerates options slot old new answer

@@ -23,9 +23,8 @@ use Rattle.pol_node.specs.declared.report.Finished.TheVariants as done
 use Rattle.pol_node.specs.declared.report.Regen.{Regen}
 use Rattle.pol_node.specs.declared.report.Regen.TheVariants as regen
 
--- a slot: its number, and what its pass has
+-- a slot: what its pass has
 pub record SlotState : Type 0 where
-  pub number : ℕ
   pub pass : PassState
 
 -- the revision of the map that was made last

@@ -17,6 +17,7 @@ ghost use Rattle.pol_history.specs.SlotTurns.{EachTells};
 ghost use Rattle.pol_board.specs.Counts.{new_passes};
 ghost use Rattle.pol_board_view.specs.Answers.{IsLookOf};
 ghost use Rattle.pol_node.specs.Desk.{IsCauseOf, IsNotTraced};
+ghost use Rattle.pol_node.specs.Finish.{HasRegenerated};
 
 use crate::desk::Desk;
 use crate::last::{LastSync, keep, told_last};
@@ -56,8 +57,7 @@ fn slots_of_passes<N: NodeName>(
 {
     let mut slots = Vec::new(alloc);
     for pass in passes {
-        let number = slots.len() as u32;
-        slots.push(Mutex::new(Slot::open(number, pass)))?;
+        slots.push(Mutex::new(Slot::open(pass)))?;
     }
     Ok(slots)
 }
@@ -106,7 +106,8 @@ fn turns_of<N: NodeName, W: Wait, R: Wait + Drop>(
     requires legal { IsLegal N.options pass.old.has.history }
     ensures grows { PassGrows N.options pass.old pass.new [] }
     ensures each { IfOk result (λ turns. length turns.items ≡ length slots.now) }
-    ensures tell { IfOk result (λ turns. EachTells N.options pass.old.has.history pass.new.has.history (revision_of pass.old.has.history) 0 turns.items) }
+    ensures tell { IfOk result (λ turns. EachTells N.options pass.old.has.history pass.new.has.history
+        (revision_of pass.old.has.history) 0 turns.items) }
 {
     let mut turns = Vec::new(alloc);
     for number in 0..slots.len() {
@@ -157,7 +158,8 @@ impl<N: NodeName, R: Wait + Drop> Node<N, R> {
         writer: BoardWriter<N, R>,
         places: Vec<Pass<N>>,
     ) -> Result<(Node<N, R>, Vec<Pass<N>>), Memory>
-        requires options { N.options ≡ record { mode = config.mode; localhost = config.localhost; map_max = Some config.map_max } }
+        requires options { N.options
+            ≡ record { mode = config.mode; localhost = config.localhost; map_max = Some config.map_max } }
         requires limit { config.map_max ≤ 65536 }
         requires passes { (0 < config.passes) × (config.passes ≤ 40) }
         requires empty { writer.seen ≡ [] }
@@ -213,11 +215,13 @@ impl<N: NodeName, R: Wait + Drop> Node<N, R> {
         requires handed_out { has N.passes pass.old.number ≡ true }
         requires short { IsShort request }
         ensures grows { OnOk result (PassGrowsWhole N.options pass.old pass.new (request ∷ [])) }
-        ensures accepted { IfOk result (IsAccepted N.options pass.old.number pass.old.has.history pass.new.has.history request) }
+        ensures accepted { IfOk result
+            (IsAccepted N.options pass.old.number pass.old.has.history pass.new.has.history request) }
         ensures nothing { OnErr result (PassGrowsWhole N.options pass.old pass.new []) }
         ensures cause { IfErr result (IsCauseOf N.options pass.old.has.history pass.new.has.history request) }
         // Only a policy may list peers that are new, which are judged by all identities.
-        ensures cost { is_of_policy request ≡ false → steps.new ≤ steps.old + label_peers (state_now N.options pass.new.has.history).policies }
+        ensures cost { is_of_policy request ≡ false
+            → steps.new ≤ steps.old + label_peers (state_now N.options pass.new.has.history).policies }
     {
         let mut desk = self.desk.lock(rt);
         let done = desk.commit(rt, alloc, pass, request, steps);
@@ -253,7 +257,8 @@ impl<N: NodeName, R: Wait + Drop> Node<N, R> {
         query: &Query,
     ) -> Result<Traced, TraceError>
         ensures grows { PassGrowsWhole N.options pass.old pass.new [] }
-        ensures traced { IfOk result (λ traced. IsTraced N.options pass.old.has.history pass.new.has.history query.now traced.revision traced.trace) }
+        ensures traced { IfOk result (λ traced.
+            IsTraced N.options pass.old.has.history pass.new.has.history query.now traced.revision traced.trace) }
         ensures cause { IfErr result (IsNotTraced N.options pass.old.has.history pass.new.has.history query.now) }
     {
         let mut desk = self.desk.lock(rt);
@@ -262,18 +267,19 @@ impl<N: NodeName, R: Wait + Drop> Node<N, R> {
         traced
     }
 
-    /// Regenerates the slot: `Slot::regenerate_over`, under the slot's lock. What was done, the slot's pass has seen. There
-    /// are slots from 0 to 255; of another number it is `Gone`.
+    /// Regenerates the slot: `Slot::regenerate_over` of that number, under the slot's lock. What was done, the slot's pass has
+    /// seen. There are slots from 0 to 255; of another number it is `Gone`.
     ///
     /// `Memory` is want of memory: no event was added, but the board's writer may be spent.
     pub fn regenerate<W: Wait>(&self, rt: &W, alloc: Global, slot: u32) -> Result<Regen, Memory>
+        ensures regen { slot < 256 → IfOk result (HasRegenerated N.options slot) }
         ensures gone { 256 ≤ slot → result ≡ Ok Regen.Gone }
     {
         match self.slots.get(slot as usize) {
             None => Ok(Regen::Gone),
-            Some(slot) => {
-                let mut slot = slot.lock(rt);
-                slot.regenerate_over(rt, alloc, &self.desk)
+            Some(held) => {
+                let mut held = held.lock(rt);
+                held.regenerate_over(rt, alloc, &self.desk, slot)
             }
         }
     }
@@ -290,7 +296,8 @@ impl<N: NodeName, R: Wait + Drop> Node<N, R> {
     ) -> Result<SyncReport, Memory>
         ensures grows { PassGrows N.options pass.old pass.new [] }
         ensures whole { OnOk result (PassGrowsWhole N.options pass.old pass.new []) }
-        ensures synced { IfOk result (λ report. IsSynced N.options pass.old.has.history pass.new.has.history report.revision report.full) }
+        ensures synced { IfOk result (λ report.
+            IsSynced N.options pass.old.has.history pass.new.has.history report.revision report.full) }
     {
         let (revision, used) = show(rt, &self.desk, pass);
         let told = told_last(rt, alloc, &self.last, pass)?;

@@ -26,11 +26,10 @@ use std::alloc::Global;
 use std::marker::Model;
 use std::sync::{Mutex, MutexGuard, Wait};
 
-/// A slot: its number, its pass, and the endpoint that it follows, with the map that was made of it last. It regenerates the
-/// endpoint that has its number. Contracts see the number and the pass.
+/// A slot: its pass, and the endpoint that it follows, with the map that was made of it last. Whoever has it tells its number
+/// with each call. Contracts see the pass.
 #[derive(Drop)]
 pub struct Slot<N: NodeName> {
-    number: u32,
     pass: Pass<N>,
     followed: Option<Followed>,
 }
@@ -42,7 +41,7 @@ impl<N: NodeName> Model for Slot<N> {
 
     ghost Value = { SlotState };
 
-    ghost view = { λ s. record { number = s.number; pass = s.pass } };
+    ghost view = { λ s. record { pass = s.pass } };
 
     ghost invariant = { λ s. IfSome s.followed (Follows N.options s.pass.has.history) };
 }
@@ -67,7 +66,8 @@ fn take<N: NodeName, W: Wait, R: Wait + Drop>(
     ensures grows { PassGrowsWhole N.options pass.old pass.new [] }
     ensures taken { IfOk result (IsTakenAt N.options pass.new.has.history slot) }
     ensures moves { IfOk result (TellsMovesFrom N.options pass.new.has.history since) }
-    ensures gone { IsErrOf result TakeError.Gone → endpoint_in slot (state_now N.options pass.new.has.history).endpoints ≡ None }
+    ensures gone { IsErrOf result TakeError.Gone
+        → endpoint_in slot (state_now N.options pass.new.has.history).endpoints ≡ None }
 {
     let mut desk = desk.lock(rt);
     let taken = desk.take(rt, alloc, pass, slot, since);
@@ -88,8 +88,9 @@ fn finish<N: NodeName, W: Wait, R: Wait + Drop>(
     requires follows { Follows N.options pass.old.has.history followed.now }
     requires made { IsMade taken.now followed.now }
     ensures grows { PassGrowsWhole N.options pass.old pass.new [] }
-    ensures finished { IfOk result (Finishes N.options (endpoint_id taken.now.endpoint) taken.now.revision
-        (length (policy_map N.options (state_now N.options pass.old.has.history) taken.now.endpoint)) pass.old.has.history pass.new.has.history) }
+    ensures finished { IfOk result
+        (Finishes N.options (endpoint_id taken.now.endpoint) taken.now.revision (length (policy_map N.options
+        (state_now N.options pass.old.has.history) taken.now.endpoint)) pass.old.has.history pass.new.has.history) }
 {
     let count = followed.work.count();
     let mut desk = desk.lock(rt);
@@ -144,7 +145,8 @@ fn follow<N: NodeName>(
 /// What is told of what was taken, whose map has so many entries. It takes no memory.
 fn make_done(finished: Finished, taken: Taken, count: u64) -> Done
     ensures regen { result.regen ≡ regen_of taken.revision count finished }
-    ensures turn { result.turn ≡ turn_of (record { name = taken.endpoint.name; revision = taken.revision; count = count }) finished }
+    ensures turn { result.turn
+        ≡ turn_of (record { name = taken.endpoint.name; revision = taken.revision; count = count }) finished }
 {
     let Taken {
         revision,
@@ -193,8 +195,10 @@ fn report<N: NodeName, W: Wait, R: Wait + Drop>(
     requires follows { Follows N.options pass.old.has.history followed.old }
     requires made { IsMade taken followed.old }
     ensures grows { PassGrowsWhole N.options pass.old pass.new [] }
-    ensures regen { IfOk result (λ done. Regenerates N.options taken.endpoint.slot pass.old.has.history pass.new.has.history done.regen) }
-    ensures turn { IfOk result (λ done. TellsAnyTurn N.options taken.endpoint.slot pass.old.has.history pass.new.has.history done.turn) }
+    ensures regen { IfOk result (λ done.
+        Regenerates N.options taken.endpoint.slot pass.old.has.history pass.new.has.history done.regen) }
+    ensures turn { IfOk result (λ done.
+        TellsAnyTurn N.options taken.endpoint.slot pass.old.has.history pass.new.has.history done.turn) }
     ensures follows { Follows N.options pass.new.has.history followed.new }
 {
     let count = followed.work.count();
@@ -217,8 +221,10 @@ fn regenerate<N: NodeName, W: Wait, R: Wait + Drop>(
 ) -> Result<Done, Memory>
     requires follows { IfSome followed.old (Follows N.options pass.old.has.history) }
     ensures grows { PassGrowsWhole N.options pass.old pass.new [] }
-    ensures regen { IfOk result (λ done. Regenerates N.options slot pass.old.has.history pass.new.has.history done.regen) }
-    ensures turn { IfOk result (λ done. TellsAnyTurn N.options slot pass.old.has.history pass.new.has.history done.turn) }
+    ensures regen { IfOk result (λ done.
+        Regenerates N.options slot pass.old.has.history pass.new.has.history done.regen) }
+    ensures turn { IfOk result (λ done.
+        TellsAnyTurn N.options slot pass.old.has.history pass.new.has.history done.turn) }
     ensures follows { IfSome followed.new (Follows N.options pass.new.has.history) }
 {
     let since = kept(followed);
@@ -251,12 +257,10 @@ fn kept(followed: &Option<Followed>) -> Option<u64>
 
 impl<N: NodeName> Slot<N> {
     /// A slot that follows no endpoint. It takes no memory.
-    pub fn open(number: u32, pass: Pass<N>) -> Slot<N>
-        ensures number { result.number ≡ number }
+    pub fn open(pass: Pass<N>) -> Slot<N>
         ensures pass { result.pass ≡ pass }
     {
         Slot {
-            number,
             pass,
             followed: None,
         }
@@ -264,7 +268,6 @@ impl<N: NodeName> Slot<N> {
 
     /// Takes in what another has seen.
     fn learn<W: Wait>(&mut self, rt: &W, seen: Seen<N>)
-        ensures number { self.new.number ≡ self.old.number }
         ensures learned { IsPrefix seen self.new.pass.has.history }
     {
         self.pass.learn(rt, seen);
@@ -278,10 +281,11 @@ impl<N: NodeName> Slot<N> {
         desk: &Mutex<Desk<N, R>>,
         number: u32,
     ) -> Result<Done, Memory>
-        ensures number { self.new.number ≡ self.old.number }
         ensures grows { PassGrowsWhole N.options self.old.pass self.new.pass [] }
-        ensures regen { IfOk result (λ done. Regenerates N.options number self.old.pass.has.history self.new.pass.has.history done.regen) }
-        ensures turn { IfOk result (λ done. TellsAnyTurn N.options number self.old.pass.has.history self.new.pass.has.history done.turn) }
+        ensures regen { IfOk result (λ done.
+            Regenerates N.options number self.old.pass.has.history self.new.pass.has.history done.regen) }
+        ensures turn { IfOk result (λ done.
+            TellsAnyTurn N.options number self.old.pass.has.history self.new.pass.has.history done.turn) }
     {
         regenerate(rt, alloc, desk, number, &mut self.pass, &mut self.followed)
     }
@@ -300,7 +304,8 @@ impl<N: NodeName> Slot<N> {
         pass: &mut Pass<N>,
     ) -> Result<SlotTurn, Memory>
         ensures grows { PassGrows N.options pass.old pass.new [] }
-        ensures turn { IfOk result (TellsTurn N.options number pass.old.has.history pass.new.has.history (revision_of pass.old.has.history)) }
+        ensures turn { IfOk result
+            (TellsTurn N.options number pass.old.has.history pass.new.has.history (revision_of pass.old.has.history)) }
     {
         self.learn(rt, pass.seen());
         let done = self.turn(rt, alloc, desk, number);
@@ -311,19 +316,19 @@ impl<N: NodeName> Slot<N> {
         }
     }
 
-    /// Regenerates the slot's endpoint: takes it under the desk's lock, makes its map outside of it, and reports that under
-    /// it. `Memory` is want of memory: no event was added, but the board's writer may be spent.
+    /// Regenerates the endpoint of the slot of that number: takes it under the desk's lock, makes its map outside of it, and
+    /// reports that under it. `Memory` is want of memory: no event was added, but the board's writer may be spent.
     pub fn regenerate_over<W: Wait, R: Wait + Drop>(
         &mut self,
         rt: &W,
         alloc: Global,
         desk: &Mutex<Desk<N, R>>,
+        number: u32,
     ) -> Result<Regen, Memory>
-        ensures number { self.new.number ≡ self.old.number }
         ensures grows { PassGrowsWhole N.options self.old.pass self.new.pass [] }
-        ensures regen { IfOk result (Regenerates N.options self.old.number self.old.pass.has.history self.new.pass.has.history) }
+        ensures regen { IfOk result (Regenerates N.options number self.old.pass.has.history self.new.pass.has.history) }
     {
-        let done = self.turn(rt, alloc, desk, self.number)?;
+        let done = self.turn(rt, alloc, desk, number)?;
         Ok(done.regen)
     }
 }
