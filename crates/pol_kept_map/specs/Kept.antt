@@ -1,4 +1,4 @@
--- What a work keeps of its map.
+-- What a work keeps of its map, and what an origin does.
 use Rattle.std.specs.Prelude.{◌≡◌, ℕ, List, length}
 use Rattle.pol_sets.specs.declared.sets.SetRow.{SetRow}
 use Rattle.pol_filters.specs.declared.filter.Filters.{Filters}
@@ -12,4 +12,9 @@ use Rattle.pol_entry_changes.specs.Given.{raw_of}
 pub record IsKept (filters : Filters) (rows : List SetRow) (size : ℕ) (tally : Tally) : Type 0 where
   pub have : HaveSets rows filters
   pub counts : IsTallyOf (raw_of filters rows) tally
+  pub sized : size ≡ length (distilled filters rows)
+
+-- The number is the size of the map that is made of the filters.
+pub record IsOrigin (filters : Filters) (rows : List SetRow) (size : ℕ) : Type 0 where
+  pub have : HaveSets rows filters
   pub sized : size ≡ length (distilled filters rows)

@@ -9,10 +9,12 @@ mod entries;
 mod givers;
 mod giving;
 pub mod laws;
+mod origin;
 mod still;
 mod turned;
 mod work;
 
 pub use changes::{Changes, Givers};
+pub use origin::Origin;
 pub use pol_map_changes::{Change, ChangeList};
 pub use work::Work;

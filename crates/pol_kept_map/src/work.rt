@@ -9,8 +9,9 @@ ghost use Rattle.pol_kept_map.specs.Givers.{allows_of, denies_of};
 ghost use Rattle.pol_kept_map.specs.Applies.{MovesTell, NamesFilters, PlacesDiffer};
 
 use crate::changes::{Changes, Givers};
-use crate::entries::entries_of;
+use crate::entries::whole_of;
 use crate::givers::{allows_in, denies_in};
+use crate::origin::Origin;
 use crate::turned::turned;
 use pol_data::Memory;
 use pol_distill::distill;
@@ -76,10 +77,12 @@ impl Work {
         requires before { PlacesDiffer self.old.filters }
         requires after { PlacesDiffer (arc_value changes.now.filters) }
         requires named { NamesFilters self.old.filters (arc_value changes.now.filters) }
-        requires moves { IfSome changes.now.moves (MovesTell self.old (arc_value changes.now.filters) changes.now.sets) }
+        requires moves { IfSome changes.now.moves
+            (MovesTell self.old (arc_value changes.now.filters) changes.now.sets) }
         ensures work { OnOk result (IsWorkOf (arc_value changes.now.filters) changes.now.sets self.new) }
         ensures map { OnOk result (map_of self.new ≡ distilled (arc_value changes.now.filters) changes.now.sets) }
-        ensures list { IfOk result (λ list. IsDifference list (table_of (map_of self.old)) (table_of (map_of self.new))) }
+        ensures list { IfOk result (λ list.
+            IsDifference list (table_of (map_of self.old)) (table_of (map_of self.new))) }
         ensures err { OnErr result (self.new ≡ self.old) }
     {
         let sets = changes.sets.share()?;
@@ -104,9 +107,21 @@ impl Work {
     pub fn whole(&self, alloc: Global) -> Result<ChangeList, Memory>
         ensures whole { IfOk result (λ list. list ≡ whole (map_of self.now)) }
     {
-        let table = distill(alloc, &self.filters, &self.sets)?;
-        let entries = entries_of(alloc, &table)?;
-        ChangeList::whole(alloc, &entries)
+        whole_of(alloc, &self.filters, &self.sets)
+    }
+
+    /// What the map is made of, from which it can be made again when the work has gone on. It takes no memory: the one error
+    /// is that a count of those who share is at its end.
+    pub fn origin(&self) -> Result<Origin, Memory>
+        ensures same { IfOk result (λ origin. origin ≡ self.now) }
+    {
+        let sets = self.sets.share()?;
+        let filters = Arc::try_clone(&self.filters)?;
+        Ok(Origin {
+            filters,
+            sets,
+            size: self.size,
+        })
     }
 
     /// How many entries the map has.

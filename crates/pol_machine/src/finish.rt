@@ -68,7 +68,8 @@ fn show(
     taken: &Taken,
 ) -> Result<(), Memory>
     requires few { HasFewKeys map.old changes.old }
-    ensures ok { OnOk result ((shown : MachineMap) × (map.new ≡ Some shown) × IsShownOf map.old changes.old taken.now shown) }
+    ensures ok { OnOk result ((shown : MachineMap)
+        × (map.new ≡ Some shown) × IsShownOf map.old changes.old taken.now shown) }
     ensures err { OnErr result ((map.new ≡ map.old) × (changes.new ≡ changes.old)) }
 {
     changes.fits_together();
@@ -97,7 +98,8 @@ fn show(
 fn publish(alloc: Global, row: &mut MachineRow, commits: u64, taken: &Taken) -> Result<(), Memory>
     requires made { (made : OneFollowed) × (row.old.work ≡ Some made) }
     requires few { IfSome row.old.work (λ made. HasFewKeys row.old.map made.pending) }
-    ensures ok { OnOk result ((made : OneFollowed) → row.old.work ≡ Some made → PublishesRow commits taken.now row.old made row.new) }
+    ensures ok { OnOk result ((made : OneFollowed)
+        → row.old.work ≡ Some made → PublishesRow commits taken.now row.old made row.new) }
     ensures err { OnErr result (row.new ≡ row.old) }
 {
     match &mut row.work {
@@ -118,7 +120,14 @@ fn publish(alloc: Global, row: &mut MachineRow, commits: u64, taken: &Taken) -> 
 
 /// Notes that the map at the revision has so many entries, which are too many, after so many commits. It takes no memory.
 fn block(row: &mut MachineRow, commits: u64, revision: u64, count: u64)
-    ensures { row.new ≡ record row.old { report = Some (record { revision = revision; commits = commits; published = published_before row.old.report }); full = Some count } }
+    ensures { row.new ≡ record row.old {
+      report = Some (record {
+        revision = revision;
+        commits = commits;
+        published = published_before row.old.report;
+      });
+      full = Some count;
+    } }
 {
     let published = published(row.report);
     row.report = Some(LastReport {
@@ -151,7 +160,8 @@ fn report(
 ) -> Result<Reply, Memory>
     requires made { (made : OneFollowed) × (row.old.work ≡ Some made) }
     requires few { IfSome row.old.work (IsSmallMap limit row.old.map) }
-    ensures { (made : OneFollowed) → row.old.work ≡ Some made → Reports limit commits taken.now row.old made row.new result }
+    ensures { (made : OneFollowed) → row.old.work ≡ Some made
+        → Reports limit commits taken.now row.old made row.new result }
 {
     let count = count_of(row);
     if count <= limit {
@@ -204,7 +214,8 @@ fn finish_taken(
     requires sets { HaveSets taken.sets (arc_value taken.filters) }
     requires may { MayFinishTaken limit taken (by_name rows.old taken.endpoint.name) }
     ensures same { result.0 ≡ taken }
-    ensures finishes { FinishesTaken limit commits taken (by_name rows.old taken.endpoint.name) (by_name rows.old) (by_name rows.new) (left_over taken result.1) result.1 }
+    ensures finishes { FinishesTaken limit commits taken (by_name rows.old taken.endpoint.name)
+        (by_name rows.old) (by_name rows.new) (left_over taken result.1) result.1 }
 {
     match rows.get_mut(&taken.endpoint.name) {
         None => (taken, Ok(Reply::Gone)),
@@ -265,8 +276,10 @@ pub(crate) fn finish(
     slot: u32,
 ) -> Result<Reply, Memory>
     requires sets { IfSome (by_slot takes.old slot) (λ taken. HaveSets taken.sets (arc_value taken.filters)) }
-    requires may { IfSome (by_slot takes.old slot) (λ taken. MayFinishTaken limit taken (by_name rows.old taken.endpoint.name)) }
-    ensures { FinishesSlot limit commits slot (by_slot takes.old) (by_name rows.old) (by_name rows.new) (by_slot takes.new) result }
+    requires may { IfSome (by_slot takes.old slot) (λ taken.
+        MayFinishTaken limit taken (by_name rows.old taken.endpoint.name)) }
+    ensures { FinishesSlot limit commits slot
+        (by_slot takes.old) (by_name rows.old) (by_name rows.new) (by_slot takes.new) result }
 {
     match takes.get_mut(&slot) {
         None => Ok(Reply::Idle),

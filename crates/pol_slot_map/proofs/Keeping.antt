@@ -40,13 +40,17 @@ use Rattle.pol_taken.specs.declared.taken.Taken.{Taken}
 use Rattle.pol_taken.specs.OfState.{IsTakenOf}
 use Rattle.pol_kept_map.specs.Work.{AllListed, AllOfFilters, AllOfPeers, IsWorkOf, WorkOf, map_of}
 use Rattle.pol_kept_map.proofs.Works.{is_table}
+use Rattle.pol_map_changes.specs.declared.change.Change.{Change}
+use Rattle.pol_slot_map.specs.declared.base.Base.{Base}
 use Rattle.pol_slot_map.specs.declared.follow.Followed.{Followed}
-use Rattle.pol_slot_map.specs.Follow.{GoesOn, IsShown, IsStartOf, LeadsFrom, Stays, changed_by, led}
+use Rattle.pol_slot_map.specs.Base.{IsFew, entries_in}
+use Rattle.pol_slot_map.specs.Follow.{GoesOn, IsShown, IsStartOf, KeepsFew, Leads, LeadsFrom, Stays, base_of, changed_by, led}
 use Rattle.pol_slot_map.specs.Followed.{Follows, id_in, table_then}
+use Rattle.pol_slot_map.proofs.Cutting.{none_few, whole_few}
 
--- ---- what the changes make of a table, by the parts of what is kept
-same_led : (old new : Followed) → new.pending ≡ old.pending → new.behind ≡ old.behind → (table : PolicyMap) → led new table ≡ led old table
-same_led old new pending behind table = λ i. changed_by (behind i) (changed (pending i) table)
+-- the changes lead from the map that was published last
+leads_here : (options : Options) (history : List HistoryEvent) (f : Followed) → Follows options history f → Leads f
+leads_here options history f is = subst (λ (t : PolicyMap). LeadsFrom t f) (sym is.base) is.leads
 
 some_more : (o : Option ℕ) (less more : ℕ) → less ≤ more → IfSome o (λ n. n ≤ less) → IfSome o (λ n. n ≤ more)
 some_more None less more fewer is = tt
@@ -73,6 +77,8 @@ follows-later options old new f begins is =
       sets = subst (λ (s : State). AllListed (λ p. set_given f.work.rows p ≡ set_at s.identities p) f.work.filters) state is.sets;
       canonical = map-prefix options old new (id_in f) f.kept begins within ∙ is.canonical;
       leads = ap (led f) (table_kept options old new (id_in f) f.shown begins is.shown_within) ∙ is.leads;
+      base = is.base ∙ sym (table_kept options old new (id_in f) f.shown begins is.shown_within);
+      few = is.few;
     }
 
 -- ---- the sets of what was taken
@@ -115,8 +121,9 @@ module _ (options : Options) (history : List HistoryEvent) (legal : IsLegal opti
     (made : distilled (arc_value taken.filters) taken.sets ≡ policy_map options (state_now options history) taken.endpoint) where
   module _ (f : Followed) (id : id_in f ≡ endpoint_id taken.endpoint) (kept : f.kept ≡ taken.revision) (work : IsWorkOf (arc_value taken.filters) taken.sets f.work)
       (map : map_of f.work ≡ distilled (arc_value taken.filters) taken.sets) where
-    follows_taken : IfSome f.shown (λ shown. shown ≤ revision_of history) → LeadsFrom (table_then options history (id_in f) f.shown) f → Follows options history f
-    follows_taken shown leads =
+    follows_taken : IfSome f.shown (λ shown. shown ≤ revision_of history) → Leads f → table_of (base_of f) ≡ table_then options history (id_in f) f.shown
+        → KeepsFew f → Follows options history f
+    follows_taken shown leads base few =
         let at : f.kept ≡ revision_of history = kept ∙ revision in
         let now : state_now options history ≡ state_after options history f.kept =
         sym (ap (λ (n : ℕ). state_after options history n) at ∙ state-now options history) in
@@ -133,7 +140,9 @@ module _ (options : Options) (history : List HistoryEvent) (legal : IsLegal opti
               (exact_listed (state_now options history).identities taken.sets is.sets f.work (arc_value taken.filters) work.agrees is.every));
           canonical = subst (λ (s : State). option_map (policy_map options s) (live_endpoint (id_in f) s) ≡ Some (map_of f.work)) now
               (ap (option_map (policy_map options (state_now options history))) live ∙ ap (λ (m : List MapEntry). Some m) (sym (map ∙ made)));
-          leads = leads;
+          leads = subst (λ (t : PolicyMap). LeadsFrom t f) base leads;
+          base = base;
+          few = few;
         }
 
   -- at the start
@@ -144,9 +153,12 @@ module _ (options : Options) (history : List HistoryEvent) (legal : IsLegal opti
       let leads : changed (whole (map_of f.work)) finite.empty ≡ table_of (map_of f.work) =
       differences_lead (whole (map_of f.work)) finite.empty (table_of (map_of f.work)) (whole_is_difference (map_of f.work) sorted) in
       let by : led f finite.empty ≡ changed (whole (map_of f.work)) finite.empty = λ i. changed_by (start.behind i) (changed (start.pending i) finite.empty) in
+      let base : table_of (base_of f) ≡ finite.empty = ap (λ (b : Base). table_of (entries_in b f.work)) start.base in
       follows_taken f id start.kept start.work start.made
       (subst (λ (o : Option ℕ). IfSome o (λ shown. shown ≤ revision_of history)) (sym start.shown) tt)
-      (subst (λ (o : Option ℕ). LeadsFrom (table_then options history (id_in f) o) f) (sym start.shown) (by ∙ leads))
+      (subst (λ (t : PolicyMap). LeadsFrom t f) (sym base) (by ∙ leads))
+      (subst (λ (o : Option ℕ). table_of (base_of f) ≡ table_then options history (id_in f) o) (sym start.shown) base)
+      (λ joined. subst (λ (cs : List Change). IsFew cs (base_of f) (map_of f.work)) (sym start.pending) (whole_few (base_of f) (map_of f.work)))
 
   -- where it goes on
   pub follows-on : (old new : Followed) → id_in old ≡ endpoint_id taken.endpoint → Follows options history old
@@ -157,7 +169,8 @@ module _ (options : Options) (history : List HistoryEvent) (legal : IsLegal opti
       λ i. table_then options history (sym id i) (sym on.follows.shown i) in
       follows_taken new (id ∙ same) on.kept on.work on.made
       (subst (λ (o : Option ℕ). IfSome o (λ shown. shown ≤ revision_of history)) (sym on.follows.shown) was.shown_within)
-      (subst (λ (t : PolicyMap). LeadsFrom t new) table (on.leads (table_then options history (id_in old) old.shown) was.leads))
+      (on.follows.leads (leads_here options history old was)) (ap table_of on.follows.base ∙ was.base ∙ table)
+      (on.follows.few (leads_here options history old was) was.few)
 
 -- ---- where the map is the same
 module _ (options : Options) (history : List HistoryEvent) (old new : Followed) (is : Follows options history old) where
@@ -165,8 +178,9 @@ module _ (options : Options) (history : List HistoryEvent) (old new : Followed) 
     same_id : id_in new ≡ id_in old
     same_id = λ i. record { name = name i; added = added i }
 
-    follows_same : IfSome new.shown (λ shown. shown ≤ revision_of history) → LeadsFrom (table_then options history (id_in new) new.shown) new → Follows options history new
-    follows_same shown leads =
+    follows_same : IfSome new.shown (λ shown. shown ≤ revision_of history) → Leads new → table_of (base_of new) ≡ table_then options history (id_in new) new.shown
+        → KeepsFew new → Follows options history new
+    follows_same shown leads base few =
         let state : state_after options history old.kept ≡ state_after options history new.kept = ap (λ (n : ℕ). state_after options history n) (sym kept) in
         let within = is.within in
         record {
@@ -178,7 +192,9 @@ module _ (options : Options) (history : List HistoryEvent) (old new : Followed) 
           sets = subst (λ (s : State). AllListed (λ p. set_given new.work.rows p ≡ set_at s.identities p) new.work.filters) state
               (subst (λ (w : WorkOf). AllListed (λ p. set_given w.rows p ≡ set_at (state_after options history old.kept).identities p) w.filters) (sym work) is.sets);
           canonical = (λ i. map_at options history (same_id i) (kept i)) ∙ is.canonical ∙ ap (λ (w : WorkOf). Some (map_of w)) (sym work);
-          leads = leads;
+          leads = subst (λ (t : PolicyMap). LeadsFrom t new) base leads;
+          base = base;
+          few = few;
         }
 
   pub follows-stays : Stays old new → Follows options history new
@@ -186,8 +202,9 @@ module _ (options : Options) (history : List HistoryEvent) (old new : Followed) 
       let id = same_id stays.follows.name stays.follows.added stays.kept stays.work in
       follows_same stays.follows.name stays.follows.added stays.kept stays.work
       (subst (λ (o : Option ℕ). IfSome o (λ shown. shown ≤ revision_of history)) (sym stays.follows.shown) is.shown_within)
-      (ap (led new) (λ i. table_then options history (id i) (stays.follows.shown i)) ∙ stays.leads (table_then options history (id_in old) old.shown) ∙ is.leads
-      ∙ ap (λ (w : WorkOf). table_of (map_of w)) (sym stays.work))
+      (stays.follows.leads (leads_here options history old is))
+      (ap table_of stays.follows.base ∙ is.base ∙ (λ i. table_then options history (sym id i) (sym stays.follows.shown i)))
+      (stays.follows.few (leads_here options history old is) is.few)
 
   -- where it is published
   pub follows-shown : IsShown old new → Follows options history new
@@ -195,7 +212,9 @@ module _ (options : Options) (history : List HistoryEvent) (old new : Followed) 
       let id = same_id shown.name shown.added shown.kept shown.work in
       let table : table_then options history (id_in new) (Some old.kept) ≡ table_of (map_of new.work) =
       (λ i. table_of (table_at options history (id i) old.kept)) ∙ ap (λ (o : Option (List MapEntry)). table_of (or_none o)) is.canonical ∙ ap (λ (w : WorkOf). table_of (map_of w)) (sym shown.work) in
+      let base : table_of (base_of new) ≡ table_of (map_of new.work) = ap (λ (b : Base). table_of (entries_in b new.work)) shown.base in
       follows_same shown.name shown.added shown.kept shown.work
       (subst (λ (o : Option ℕ). IfSome o (λ r. r ≤ revision_of history)) (sym shown.shown) is.within)
-      (subst (λ (o : Option ℕ). LeadsFrom (table_then options history (id_in new) o) new) (sym shown.shown)
-      ((λ i. changed_by (shown.behind i) (changed (shown.pending i) (table_then options history (id_in new) (Some old.kept)))) ∙ table))
+      ((λ i. changed_by (shown.behind i) (changed (shown.pending i) (table_of (base_of new)))) ∙ base)
+      (base ∙ subst (λ (o : Option ℕ). table_of (map_of new.work) ≡ table_then options history (id_in new) o) (sym shown.shown) (sym table))
+      (λ joined. subst (λ (cs : List Change). IsFew cs (base_of new) (map_of new.work)) (sym shown.pending) (none_few (base_of new) (map_of new.work)))

@@ -1,6 +1,6 @@
 -- Each peer that a filter lists is listed by the filter's policy, which has its stamp.
-use Rattle.std.proofs.Common.{◌≡◌, ℕ, ◌+◌, Bool, true, false, cond, List, [], ◌∷◌, ◌++◌, inl, inr, refl, sym, subst}
-use Rattle.std.specs.List.{AllByRecursion, Contains, flat_map}
+use Rattle.std.proofs.Common.{◌≡◌, ℕ, ◌+◌, Bool, true, false, cond, List, [], ◌∷◌, ◌++◌, inl, inr, refl}
+use Rattle.std.specs.List.{AllByRecursion, Contains}
 use Rattle.pol_data.proofs.Every.{every-append, every-weaker}
 use Rattle.pol_data.proofs.Members.{In, In-from_Contains, every-in}
 use Rattle.pol_labels.specs.declared.label.Label.{Label}

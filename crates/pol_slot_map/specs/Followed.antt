@@ -15,7 +15,7 @@ use Rattle.pol_model.specs.Selects.{set_at}
 use Rattle.pol_sets.specs.Sets.{set_given}
 use Rattle.pol_trie.specs.PolicyMap.{PolicyMap}
 use Rattle.pol_slot_map.specs.declared.follow.Followed.{Followed}
-use Rattle.pol_slot_map.specs.Follow.{LeadsFrom}
+use Rattle.pol_slot_map.specs.Follow.{KeepsFew, LeadsFrom, base_of}
 
 -- the endpoint that is followed
 abbrev pub id_in : Followed → EndpointId
@@ -27,7 +27,7 @@ table_then options history endpoint None = finite.empty
 table_then options history endpoint (Some revision) = table_of (table_at options history endpoint revision)
 
 -- The map that was made last is the endpoint's canonical map at a revision of the history, made of what the state there
--- gives it. The changes lead to it from the map that was published last.
+-- gives it. The changes lead to it from the map that was published last, and where all are joined there are few.
 pub record Follows (options : Options) (history : List HistoryEvent) (f : Followed) : Type 0 where
   pub within : f.kept ≤ revision_of history
   pub shown_within : IfSome f.shown (λ revision. revision ≤ revision_of history)
@@ -37,3 +37,5 @@ pub record Follows (options : Options) (history : List HistoryEvent) (f : Follow
   pub sets : AllListed (λ p. set_given f.work.rows p ≡ set_at (state_after options history f.kept).identities p) f.work.filters
   pub canonical : map_at options history (id_in f) f.kept ≡ Some (map_of f.work)
   pub leads : LeadsFrom (table_then options history (id_in f) f.shown) f
+  pub base : table_of (base_of f) ≡ table_then options history (id_in f) f.shown
+  pub few : KeepsFew f

@@ -6,6 +6,7 @@ ghost use Rattle.pol_distill.specs.Distilled.{distilled};
 ghost use Rattle.pol_distill.specs.Sorted.{HaveSets};
 ghost use Rattle.pol_slot_map.specs.Follow.{GoesOn, IsShown, IsStartOf, MayApply, Stays};
 
+use crate::base::{Base, cut, no_changes};
 use pol_data::{Memory, Text};
 use pol_entry_changes::sets_ascend;
 use pol_kept_map::{Changes, Work};
@@ -15,7 +16,7 @@ use std::alloc::Global;
 use std::sync::Arc;
 
 /// An endpoint, with the map that was made of it last, and the changes that lead to that map from the one that was
-/// published last.
+/// published last. Where all changes are joined, there are at most twice as many as the two maps have entries.
 #[derive(Drop)]
 pub struct Followed {
     /// The endpoint's name.
@@ -26,6 +27,8 @@ pub struct Followed {
     pub kept: u64,
     /// The revision of the map that was published last, if there is one.
     pub shown: Option<u64>,
+    /// The map that was published last.
+    pub base: Base,
     /// The map that was made last, with what it is made of.
     pub work: Work,
     /// The changes since the map that was published last.
@@ -60,19 +63,23 @@ impl Followed {
             added: taken.endpoint.added,
             kept: taken.revision,
             shown: None,
+            base: Base::Nothing,
             work,
             pending,
             behind: None,
         })
     }
 
-    /// Joins the changes behind to the others. The one error is want of memory, and then nothing is changed.
+    /// Joins the changes behind to the others, and keeps them few. The one error is want of memory, and then nothing is
+    /// changed.
     fn join(&mut self, alloc: Global) -> Result<(), Memory>
         ensures joined { OnOk result (self.new.behind ≡ None) }
         ensures stays { Stays self.old self.new }
     {
         if let Some(behind) = &self.behind {
-            self.pending = self.pending.then(alloc, behind)?;
+            let mut joined = self.pending.then(alloc, behind)?;
+            cut(alloc, &mut joined, &self.base, &self.work)?;
+            self.pending = joined;
             self.behind = None;
         }
         Ok(())
@@ -83,10 +90,13 @@ impl Followed {
     fn take_on(&mut self, changes: &Changes, revision: u64) -> Result<(), Memory>
         requires joined { self.old.behind ≡ None }
         requires may { MayApply self.old.work (arc_value changes.now.filters) changes.now.sets changes.now.moves }
-        ensures went { OnOk result (GoesOn (arc_value changes.now.filters) changes.now.sets revision self.old self.new) }
+        ensures went { OnOk result
+            (GoesOn (arc_value changes.now.filters) changes.now.sets revision self.old self.new) }
         ensures err { OnErr result (self.new ≡ self.old) }
     {
+        let base = self.base.apart(&self.work)?;
         let list = self.work.apply(changes)?;
+        self.base = base;
         self.kept = revision;
         self.behind = Some(list);
         Ok(())
@@ -97,8 +107,10 @@ impl Followed {
     fn go_by(&mut self, alloc: Global, changes: &Changes, revision: u64) -> Result<(), Memory>
         requires may { MayApply self.old.work (arc_value changes.now.filters) changes.now.sets changes.now.moves }
         ensures joined { OnOk result (self.new.behind ≡ None) }
-        ensures went { OnOk result (GoesOn (arc_value changes.now.filters) changes.now.sets revision self.old self.new) }
-        ensures leads { OnErr result (Stays self.old self.new ⊎ GoesOn (arc_value changes.now.filters) changes.now.sets revision self.old self.new) }
+        ensures went { OnOk result
+            (GoesOn (arc_value changes.now.filters) changes.now.sets revision self.old self.new) }
+        ensures leads { OnErr result (Stays self.old self.new
+            ⊎ GoesOn (arc_value changes.now.filters) changes.now.sets revision self.old self.new) }
     {
         self.join(alloc)?;
         self.take_on(changes, revision)?;
@@ -112,7 +124,8 @@ impl Followed {
         ensures same { result.0 ≡ taken }
         ensures kept { OnOk result.1 (self.new.kept ≡ taken.revision) }
         ensures joined { OnOk result.1 (self.new.behind ≡ None) }
-        ensures leads { Stays self.old self.new ⊎ GoesOn (arc_value taken.filters) taken.sets taken.revision self.old self.new }
+        ensures leads { Stays self.old self.new
+            ⊎ GoesOn (arc_value taken.filters) taken.sets taken.revision self.old self.new }
     {
         let Taken {
             revision,
@@ -146,9 +159,11 @@ impl Followed {
 
     /// Whether what was taken leaves the map as it is. It may be false though nothing differs.
     fn stays_by(&self, taken: &Taken) -> bool
-        ensures work { IsTrue result → MayApply self.now.work (arc_value taken.now.filters) taken.now.sets taken.now.moves
+        ensures work { IsTrue result
+            → MayApply self.now.work (arc_value taken.now.filters) taken.now.sets taken.now.moves
             → IsWorkOf (arc_value taken.now.filters) taken.now.sets self.now.work }
-        ensures map { IsTrue result → MayApply self.now.work (arc_value taken.now.filters) taken.now.sets taken.now.moves
+        ensures map { IsTrue result
+            → MayApply self.now.work (arc_value taken.now.filters) taken.now.sets taken.now.moves
             → map_of self.now.work ≡ distilled (arc_value taken.now.filters) taken.now.sets }
     {
         sets_ascend(taken.sets.as_slice());
@@ -171,11 +186,13 @@ impl Followed {
     /// memory. Where it is of the revision that is kept, or leaves the map as it is, nothing is made. After the error the work
     /// is as before, or has gone on, and what is kept leads to its map all the same.
     pub fn try_go_on(&mut self, alloc: Global, taken: Taken) -> (Taken, Result<(), Memory>)
-        requires may { self.old.kept ≢ taken.revision → MayApply self.old.work (arc_value taken.filters) taken.sets taken.moves }
+        requires may { self.old.kept ≢ taken.revision
+            → MayApply self.old.work (arc_value taken.filters) taken.sets taken.moves }
         ensures same { result.0 ≡ taken }
         ensures kept { OnOk result.1 (self.new.kept ≡ taken.revision) }
         ensures joined { OnOk result.1 (self.new.behind ≡ None) }
-        ensures leads { Stays self.old self.new ⊎ GoesOn (arc_value taken.filters) taken.sets taken.revision self.old self.new }
+        ensures leads { Stays self.old self.new
+            ⊎ GoesOn (arc_value taken.filters) taken.sets taken.revision self.old self.new }
     {
         if self.kept == taken.revision {
             let joined = self.join(alloc);
@@ -195,7 +212,8 @@ impl Followed {
         ensures same { IfOk result (λ again. again ≡ taken) }
         ensures kept { OnOk result (self.new.kept ≡ taken.revision) }
         ensures joined { OnOk result (self.new.behind ≡ None) }
-        ensures leads { Stays self.old self.new ⊎ GoesOn (arc_value taken.filters) taken.sets taken.revision self.old self.new }
+        ensures leads { Stays self.old self.new
+            ⊎ GoesOn (arc_value taken.filters) taken.sets taken.revision self.old self.new }
     {
         let (taken, went) = self.try_go_on(alloc, taken);
         match went {
@@ -209,7 +227,8 @@ impl Followed {
         ensures shown { IsShown self.old self.new }
     {
         self.shown = Some(self.kept);
-        self.pending = ChangeList::from_vec(Vec::new(alloc));
+        self.base = Base::Own;
+        self.pending = no_changes(alloc);
         self.behind = None;
     }
 }

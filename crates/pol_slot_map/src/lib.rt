@@ -5,7 +5,9 @@
 //! endpoint may be applied to what is kept of it is in `laws`.
 #![tactic(auto)]
 
+mod base;
 mod follow;
 pub mod laws;
 
+pub use base::Base;
 pub use follow::Followed;

@@ -29,6 +29,7 @@ returns-clause-ok c made is =
         added = on.added;
         kept = on.kept;
         shown = on.shown;
+        base = on.base;
         work = on.work;
         pending = on.pending;
         behind = on.behind;
