@@ -14,3 +14,7 @@ pub mod Lookup
 pub mod Shared
 pub mod Firsts
 pub mod Around
+pub mod Numbered
+pub mod Standing
+pub mod Serving
+pub mod Peered

@@ -39,6 +39,7 @@ use Rattle.pol_filters.specs.declared.filter.Filters.{Filters}
 use Rattle.pol_filters.specs.FilterParts.{entry_of, filter_parts, filters_of}
 use Rattle.pol_filters.specs.Resolved.{entry_filters, filter_at, filters_for, filters_in, policy_filters, rule_filters}
 use Rattle.pol_distill.specs.Sorted.{HaveSets, ListHasSets, PeersHaveSets}
+use Rattle.pol_connection_maps.specs.PeerRows.{filters_peers, list_peers}
 use Rattle.pol_connection_maps.specs.Sets.{AreExact, AreSetsOf, peers_of}
 
 every-parts : {X : Type 0} (P : X → Type 0) (xs ys : List X) → AllByRecursion P (xs ++ ys) → AllByRecursion P xs × AllByRecursion P ys
@@ -46,9 +47,6 @@ every-parts P [] ys all = (tt, all)
 every-parts P (x ∷ xs) ys all = let rest = every-parts P xs ys all.1 in ((all.0, rest.0), rest.1)
 
 -- ---- what holds of all peers of the policies holds of those that filters list
-abbrev list_peers : List Filter → List Peer
-list_peers filters = flat_map (λ one. peers_in one.peers) filters
-
 module _ (Q : Peer → Type 0) where
   joined : (xs ys : List Filter) → AllByRecursion Q (list_peers xs) → AllByRecursion Q (list_peers ys) → AllByRecursion Q (list_peers (xs ++ ys))
   joined [] ys front back = back
@@ -123,16 +121,20 @@ module _ (rows : List SetRow) where
       let parts = every-parts Has (peers_in one.peers) (list_peers filters) all in
       (peers_have one.peers parts.0, lists_have filters parts.1)
 
+  pub filters_serve : (filters : Filters) → AllByRecursion Has (filters_peers filters) → HaveSets rows filters
+  filters_serve filters all =
+      let parts = every-parts Has (list_peers filters.ingress) (list_peers filters.egress) all in
+      record { ingress = lists_have filters.ingress parts.0; egress = lists_have filters.egress parts.1 }
+
   pub filters_have : (policies : List Stamped) (labels : List Label) (mode : Mode) (localhost : Bool) → AllByRecursion Has (peers_of policies)
-      → HaveSets rows (filters_for policies labels mode localhost)
-  filters_have policies labels mode localhost all = record {
-    ingress = lists_have (filters_in policies labels Ingress) (of_policies Has labels Ingress policies all);
-    egress = lists_have (filters_in policies labels Egress) (of_policies Has labels Egress policies all);
-  }
+      → AllByRecursion Has (filters_peers (filters_for policies labels mode localhost))
+  filters_have policies labels mode localhost all =
+      every-append Has (list_peers (filters_in policies labels Ingress)) (list_peers (filters_in policies labels Egress))
+      (of_policies Has labels Ingress policies all) (of_policies Has labels Egress policies all)
 
 -- ---- and the sets are those of the state
 module _ (identities : List IdentityRow) (rows : List SetRow) (exact : AreExact identities rows) where
-  given_is : (p : Peer) → IsTrue (has_set rows p) → set_given rows p ≡ set_at identities p
+  pub given_is : (p : Peer) → IsTrue (has_set rows p) → set_given rows p ≡ set_at identities p
   given_is p there =
       let one = found-some (is_row_of p) rows there in
       let at = find-In (is_row_of p) one.0 rows one.1 in

@@ -42,7 +42,7 @@ use Rattle.pol_connection_maps.specs.Rows.{AreRowsOf}
 use Rattle.pol_connection_maps.specs.Seen.{Seen, seen_half, seen_row}
 use Rattle.pol_connection_maps.specs.Sets.{AreExact, AreSetsOf, peers_of}
 use Rattle.pol_connection_maps.proofs.Alike.{Agrees, AllAgree, all-append}
-use Rattle.pol_connection_maps.proofs.Listed.{filters_have, parts_agree}
+use Rattle.pol_connection_maps.proofs.Listed.{filters_have, filters_serve, parts_agree}
 use Rattle.pol_connection_maps.proofs.Ordered.{every_by_name}
 
 find_map : {X Y : Type 0} (p : Y → Bool) (f : X → Y) (xs : List X) → find p (map f xs) ≡ option_map f (find (λ x. p (f x)) xs)
@@ -88,7 +88,7 @@ module _ (options : Options) (s : State) (keeps : Keeps s) where
         let every = subst (λ ps. AllByRecursion (λ p. IsTrue (has_set sets p)) (peers_of ps)) are.policies exact.every in
         let right = subst (λ ids. AreExact ids sets) are.identities exact.exact in
         (λ i. distilled (filters_for (are.policies i) (same i) (are.mode i) (are.localhost i)) sets)
-        ∙ distilled_is options s e init sets (parts_agree s.identities sets right (filters_at options s e) (filters_have sets s.policies e.labels s.mode options.localhost every))
+        ∙ distilled_is options s e init sets (parts_agree s.identities sets right (filters_at options s e) (filters_serve sets (filters_at options s e) (filters_have sets s.policies e.labels s.mode options.localhost every)))
 
     -- an end with a policy of its own
     subject_agrees : (end : End) (row : EndRow) (e : Endpoint) (own : IdentityRow) → row.name ≡ end.name → row.number ≡ end.number → end.number ≡ e.identity → row.own ≡ true → end.subject ≡ Some e

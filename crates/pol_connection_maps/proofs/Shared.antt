@@ -1,6 +1,6 @@
 -- The connections from an end are those from each end that is alike, and the list is made of them.
-use Rattle.std.proofs.Common.{◌≡◌, ℕ, Bool, true, false, cond, ◌<◌, List, [], ◌∷◌, ◌++◌, map, filter, ◌+◌, get_or, length, take, Option, refl, sym, ap, ◌∙◌, if◌then◌else◌}
-use Rattle.std.specs.List.{flat_map, slice_get}
+use Rattle.std.proofs.Common.{◌≡◌, ℕ, Bool, true, false, cond, ◌<◌, List, [], ◌∷◌, ◌++◌, map, filter, ◌+◌, get_or, length, take, Option, refl, sym, ap, subst, append-nil, ◌∙◌, if◌then◌else◌}
+use Rattle.std.specs.List.{AllByRecursion, flat_map, slice_get}
 use Rattle.std.proofs.lemmas.List.{length-map, map-append, take_more}
 use Rattle.pol_data.proofs.Every.{every-append, every-weaker}
 use Rattle.pol_ports.specs.declared.Proto.{Proto}
@@ -69,8 +69,8 @@ module _ {E : Type 0} (t : Telling E) where
   itself one = record { from = λ _. refl; to = λ _. refl }
 
   -- ---- kinds
-  pub more_kinds : (old new : List E) (ends : List (E × ℕ)) (end : E) (kind : ℕ) → AreOfKinds t old ends → FindsKind t old new end kind → AreOfKinds t new (ends ++ (end, kind) ∷ [])
-  more_kinds old new ends end kind so_far finds =
+  pub more_kinds : (stands : E → Type 0) (old new : List E) (ends : List (E × ℕ)) (end : E) (kind : ℕ) → AreOfKinds t old ends → FindsKind t stands old new end kind → AreOfKinds t new (ends ++ (end, kind) ∷ [])
+  more_kinds stands old new ends end kind so_far finds =
       every-append (λ (one : E × ℕ). IsOfKind t new one.0 one.1) ends ((end, kind) ∷ [])
       (every-weaker (λ (one : E × ℕ). IsOfKind t old one.0 one.1) (λ (one : E × ℕ). IsOfKind t new one.0 one.1) later ends so_far)
       (finds.found, tt)
@@ -87,15 +87,21 @@ module _ {E : Type 0} (t : Telling E) where
       ap ends_in pushed ∙ map-append (λ (one : E × ℕ). one.0) old ((end, kind) ∷ [])
       ∙ (λ j. so_far j ++ is j ∷ []) ∙ sym (take_more all i end within)
 
-  pub new_kind : {R : Type 0} (seen : R → E) (old new : List R) (r : R) (kind : ℕ) → new ≡ old ++ r ∷ [] → kind ≡ length old → FindsKind t (map seen old) (map seen new) (seen r) kind
-  new_kind seen old new r kind pushed is =
+  pub new_kind : (stands : E → Type 0) {R : Type 0} (seen : R → E) (old new : List R) (r : R) (kind : ℕ) → new ≡ old ++ r ∷ [] → kind ≡ length old
+      → AllByRecursion stands (map seen old) → stands (seen r) → FindsKind t stands (map seen old) (map seen new) (seen r) kind
+  new_kind stands seen old new r kind pushed is firsts own =
       let grown : map seen new ≡ map seen old ++ seen r ∷ [] = ap (map seen) pushed ∙ map-append seen old (r ∷ []) in
       let place : kind ≡ length (map seen old) = is ∙ sym (length-map old seen) in
       record {
         more = seen r ∷ [];
         grown = grown;
         found = record { first = seen r; at = (λ i. slice_get (grown i) (place i)) ∙ last_at (map seen old) (seen r); alike = itself (seen r) };
+        stand = subst (AllByRecursion stands) (sym grown) (every-append stands (map seen old) (seen r ∷ []) firsts (own, tt));
       }
+
+  -- a kind that is known already
+  pub old_kind : (stands : E → Type 0) (firsts : List E) (end : E) (kind : ℕ) → AllByRecursion stands firsts → IsOfKind t firsts end kind → FindsKind t stands firsts firsts end kind
+  old_kind stands firsts end kind all is = record { more = []; grown = sym (append-nil firsts); found = is; stand = all }
 
   pub kind_at : (firsts : List E) (ends : List (E × ℕ)) (i : ℕ) (one : E × ℕ) → AreOfKinds t firsts ends → i < length ends → one ≡ get_or ends i one → IsOfKind t firsts one.0 one.1
   kind_at firsts ends i one are within is = every_at (λ (one : E × ℕ). IsOfKind t firsts one.0 one.1) ends i one are within is

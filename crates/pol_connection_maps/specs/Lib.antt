@@ -1,8 +1,11 @@
 pub mod Rows
 pub mod Sets
 pub mod Maps
+pub mod PeerRows
+pub mod Again
 pub mod EndRows
 pub mod Seen
 pub mod Lists
 pub mod Telling
 pub mod Named
+pub mod Stays

@@ -71,10 +71,11 @@ pub record IsOfKind {E : Type 0} (t : Telling E) (firsts : List E) (end : E) (ki
   pub alike : AreAlike t first end
 
 -- a kind was found, or begins with the end
-pub record FindsKind {E : Type 0} (t : Telling E) (old new : List E) (end : E) (kind : ℕ) : Type 0 where
+pub record FindsKind {E : Type 0} (t : Telling E) (stands : E → Type 0) (old new : List E) (end : E) (kind : ℕ) : Type 0 where
   pub more : List E
   pub grown : new ≡ old ++ more
   pub found : IsOfKind t new end kind
+  pub stand : AllByRecursion stands new
 
 -- each of the ends has the place of its kind
 abbrev pub AreOfKinds : {E : Type 0} → Telling E → List E → List (E × ℕ) → Type 0

@@ -3,6 +3,7 @@ ghost use Rattle.std.specs.Prelude.{◌≡◌, IfOk};
 ghost use Rattle.pol_port_ranges.specs.Ranges.{ranges};
 ghost use Rattle.pol_connection_maps.specs.Lists.{changed_list};
 ghost use Rattle.pol_connection_maps.specs.Seen.{seen_changed};
+ghost use Rattle.pol_connection_maps.specs.Stays.{AreOfMaps, HaveTheirMaps};
 ghost use Rattle.pol_connection_maps.specs.Telling.{telling_changed};
 
 use crate::kept::KeptEnd;
@@ -44,6 +45,8 @@ fn ranges_changed(
 impl<'a> Tells for KeptEnd<'a> {
     ghost telling = { telling_changed };
 
+    ghost stands = { HaveTheirMaps };
+
     type Key = ((u32, bool), (u32, bool));
 
     fn name(&self) -> &EndName {
@@ -55,7 +58,7 @@ impl<'a> Tells for KeptEnd<'a> {
     }
 
     fn is_alike(&self, other: &KeptEnd<'a>) -> bool {
-        self.is_same(other)
+        self.is_of_kind(other)
     }
 
     fn asks(&self, to: &KeptEnd<'a>) -> bool {
@@ -77,6 +80,7 @@ impl<'a> Tells for KeptEnd<'a> {
 
 /// The connections of these ends of which a change is told.
 pub(crate) fn changed_list(alloc: Global, ends: &[KeptEnd<'_>]) -> Result<Vec<Connection>, Memory>
+    requires { AreOfMaps HaveTheirMaps ends.now }
     ensures { IfOk result (λ list. list.items ≡ changed_list ends.now) }
 {
     told_list(alloc, ends)

@@ -1,17 +1,18 @@
 //! Ends with their policy maps.
-ghost use Rattle.std.specs.Prelude.{◌≡◌, ◌<◌, ◌^◌, ℕ, IfOk, IsTrue, is_some, map, option_map};
-ghost use Rattle.std.specs.Arc.{arc_value};
+ghost use Rattle.std.specs.Prelude.{◌≡◌, ◌<◌, ◌^◌, ℕ, IfOk, List, is_some, map};
 ghost use Rattle.pol_shut_ports.specs.Shut.{word_in};
+ghost use Rattle.pol_connection_maps.specs.Maps.{AreMapsOf, NumberEntries};
 ghost use Rattle.pol_connection_maps.specs.Seen.{seen_half, seen_row};
 
 use crate::end_row::EndRow;
-use crate::number::{NumberMap, map_of};
+use crate::number::{NumberMap, share_of};
 use crate::own_map::OwnMap;
 use pol_audit::Difference;
 use pol_connections::EndName;
 use pol_data::Memory;
 use pol_ports::{Direction, Proto};
 use std::alloc::Global;
+use std::collections::BTreeMap;
 use std::marker::Model;
 use std::sync::Arc;
 
@@ -34,11 +35,12 @@ impl Model for EndMap {
 }
 
 /// The end of this row, with the map of its number.
-fn end_map(alloc: Global, row: &EndRow, maps: &[NumberMap]) -> Result<EndMap, Memory>
-    ensures { IfOk result (λ end. end ≡ seen_row maps.now row.now) }
+fn end_map(alloc: Global, row: &EndRow, table: &BTreeMap<u32, &NumberMap>) -> Result<EndMap, Memory>
+    ensures { IfOk result (λ end.
+        (maps : List NumberEntries) → AreMapsOf maps table.now → end ≡ seen_row maps row.now) }
 {
     let map = if row.own {
-        map_of(maps, row.number)?
+        share_of(table, row.number)?
     } else {
         None
     };
@@ -53,13 +55,14 @@ fn end_map(alloc: Global, row: &EndRow, maps: &[NumberMap]) -> Result<EndMap, Me
 pub(crate) fn with_maps(
     alloc: Global,
     rows: &[EndRow],
-    maps: &[NumberMap],
+    table: &BTreeMap<u32, &NumberMap>,
 ) -> Result<Vec<EndMap>, Memory>
-    ensures { IfOk result (λ ends. ends.items ≡ map (seen_row maps.now) rows.now) }
+    ensures { IfOk result (λ ends.
+        (maps : List NumberEntries) → AreMapsOf maps table.now → ends.items ≡ map (seen_row maps) rows.now) }
 {
     let mut ends = Vec::new(alloc);
     for row in rows {
-        ends.push(end_map(alloc, row, maps)?)?;
+        ends.push(end_map(alloc, row, table)?)?;
     }
     Ok(ends)
 }
@@ -88,29 +91,12 @@ impl EndMap {
 
     /// What it shuts to or from the number. An end without a policy shuts nothing.
     pub(crate) fn at(&self, dir: Direction, number: u32, proto: Proto) -> &[Difference]
-        ensures { (port : ℕ) → port < 2 ^ 16 → word_in result.now port ≡ seen_half self.now.entries dir number proto port }
+        ensures { (port : ℕ) → port < 2 ^ 16
+            → word_in result.now port ≡ seen_half self.now.entries dir number proto port }
     {
         match &self.map {
             None => &[],
             Some(map) => map.at(dir, number, proto),
         }
-    }
-
-    /// Whether both are seen by one number, and have the same map or none.
-    pub(crate) fn is_same(&self, other: &EndMap) -> bool
-        ensures { IsTrue result → (self.now.number ≡ other.now.number) × (self.now.entries ≡ other.now.entries) }
-    {
-        self.number == other.number && same_map(&self.map, &other.map)
-    }
-}
-
-/// Whether both are the same map, or none.
-fn same_map(one: &Option<Arc<OwnMap>>, other: &Option<Arc<OwnMap>>) -> bool
-    ensures { IsTrue result → option_map arc_value one.now ≡ option_map arc_value other.now }
-{
-    match (one, other) {
-        (None, None) => true,
-        (Some(one), Some(other)) => one.is_same(other),
-        _ => false,
     }
 }

@@ -1,5 +1,7 @@
 //! Ends by kind: the same is told of the connections of all ends of a kind.
 ghost use Rattle.std.specs.Prelude.{◌≡◌, IfOk, IfSome, map};
+ghost use Rattle.std.specs.List.{AllByRecursion};
+ghost use Rattle.pol_connection_maps.specs.Stays.{StateMaps};
 ghost use Rattle.pol_connection_maps.specs.Telling.{AreOfKinds, FindsKind, IsOfKind, ends_in};
 
 use crate::told::Tells;
@@ -57,7 +59,9 @@ pub(crate) struct Kinds<'a, E> {
 
 /// The place of the first end of this end's kind, if its key leads to one that is alike.
 fn known_kind<E: Tells>(places: &BTreeMap<E::Key, usize>, firsts: &[&E], end: &E) -> Option<usize>
-    ensures { IfSome result (IsOfKind E.telling (map (λ first. first.now) firsts.now) end.now) }
+    ensures { IfSome result (λ kind.
+        (maps : StateMaps) → AllByRecursion (E.stands maps) (map (λ first. first.now) firsts.now)
+        → E.stands maps end.now → IsOfKind E.telling (map (λ first. first.now) firsts.now) end.now kind) }
 {
     let kind = *places.get(&end.key())?;
     let first = firsts.get(kind)?;
@@ -74,7 +78,9 @@ fn kind_of<'a, E: Tells>(
     firsts: &mut Vec<&'a E>,
     end: &'a E,
 ) -> Result<usize, Memory>
-    ensures { IfOk result (FindsKind E.telling (map (λ first. first.now) firsts.old.items) (map (λ first. first.now) firsts.new.items) end.now) }
+    ensures { IfOk result (λ kind. (maps : StateMaps) → AllByRecursion (E.stands maps) (map (λ first.
+        first.now) firsts.old.items) → E.stands maps end.now → FindsKind E.telling (E.stands maps) (map (λ first.
+        first.now) firsts.old.items) (map (λ first. first.now) firsts.new.items) end.now kind) }
 {
     if let Some(kind) = known_kind(places, firsts, end) {
         return Ok(kind);
@@ -88,7 +94,8 @@ fn kind_of<'a, E: Tells>(
 /// The ends by kind.
 pub(crate) fn kinds_of<'a, E: Tells>(alloc: Global, ends: &'a [E]) -> Result<Kinds<'a, E>, Memory>
     ensures ends { IfOk result (λ kinds. ends_in kinds.ends.items ≡ ends.now) }
-    ensures kinds { IfOk result (λ kinds. AreOfKinds E.telling (map (λ first. first.now) kinds.firsts.items) kinds.ends.items) }
+    ensures kinds { IfOk result (λ kinds. (maps : StateMaps) → AllByRecursion (E.stands maps) ends.now
+        → AreOfKinds E.telling (map (λ first. first.now) kinds.firsts.items) kinds.ends.items) }
 {
     let mut places = BTreeMap::new(alloc);
     let mut firsts = Vec::new(alloc);

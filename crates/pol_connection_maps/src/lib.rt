@@ -4,7 +4,9 @@
 //! scan of all rules.
 #![tactic(auto)]
 
+mod again;
 mod alone;
+mod by_maps;
 mod changed;
 mod end_map;
 mod end_row;
@@ -17,9 +19,12 @@ mod names;
 mod number;
 mod open;
 mod own_map;
+mod own_sets;
+mod peer_rows;
 mod regions;
 mod rows;
 mod sets;
+mod stays;
 mod targets;
 mod told;
 

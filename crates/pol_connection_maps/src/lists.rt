@@ -4,44 +4,32 @@ ghost use Rattle.pol_model.specs.declared.options.Options.{Options};
 ghost use Rattle.pol_model.specs.State.{State};
 ghost use Rattle.pol_model_laws.specs.Keeps.{Keeps};
 ghost use Rattle.pol_connections.specs.Connections.{changes_of, connections_of, ends_alone};
-ghost use Rattle.pol_connection_maps.specs.Lists.{AreSeenOf};
 ghost use Rattle.pol_connection_maps.specs.Rows.{AreRowsOf, AreSound};
 
 use crate::alone::names_alone;
-use crate::changed::changed_list;
-use crate::end_map::{EndMap, with_maps};
+use crate::by_maps::{changed_by_maps, open_by_maps};
 use crate::end_row::end_rows;
-use crate::kept::kept_ends;
 use crate::maps::number_maps;
-use crate::open::open_list;
+use crate::peer_rows::PeerRows;
 use crate::regions::regions_of;
 use crate::rows::StateRows;
 use crate::sets::sets_of;
-use pol_addr::Prefix;
 use pol_connections::{Connection, EndName};
 use pol_data::Memory;
 use std::alloc::Global;
-
-/// The ends of a state with these rows, with their maps.
-fn ends_of(alloc: Global, rows: &StateRows<'_>, regions: &[Prefix]) -> Result<Vec<EndMap>, Memory>
-    requires { AreSound rows.now }
-    ensures { IfOk result (λ ends. AreSeenOf rows.now regions.now ends.items) }
-{
-    let sets = sets_of(alloc, rows.identities, rows.policies)?;
-    let maps = number_maps(alloc, rows, &sets)?;
-    let ends = end_rows(alloc, rows, regions)?;
-    with_maps(alloc, &ends, &maps)
-}
 
 /// The open connections of a state with these rows: of each pair of ends, in their order, and each protocol, the ranges of ports on
 /// which the source may send and the target may receive ('profile'; Cilium, Network Policy). The one error is want of memory.
 pub fn open_connections(alloc: Global, rows: &StateRows<'_>) -> Result<Vec<Connection>, Memory>
     requires { AreSound rows.now }
-    ensures { IfOk result (λ list. (options : Options) (s : State) → AreRowsOf options s rows.now → Keeps s → list.items ≡ connections_of options s) }
+    ensures { IfOk result (λ list. (options : Options) (s : State)
+        → AreRowsOf options s rows.now → Keeps s → list.items ≡ connections_of options s) }
 {
     let regions = regions_of(alloc, rows.identities, rows.identities)?;
-    let ends = ends_of(alloc, rows, &regions)?;
-    open_list(alloc, &ends)
+    let sets = sets_of(alloc, rows.identities, rows.policies)?;
+    let index = PeerRows::new(alloc, sets.as_slice())?;
+    let maps = number_maps(alloc, &[], &index, rows, &index)?;
+    open_by_maps(alloc, rows, &regions, &maps)
 }
 
 /// The connections that a change from a state with the first rows to one with the second opens or shuts: of each pair of ends that
@@ -55,13 +43,25 @@ pub fn changed_connections(
 ) -> Result<Vec<Connection>, Memory>
     requires before { AreSound before.now }
     requires after { AreSound after.now }
-    ensures { IfOk result (λ list. (options : Options) (s t : State) → AreRowsOf options s before.now → AreRowsOf options t after.now → Keeps s → Keeps t → list.items ≡ changes_of halves options s t) }
+    ensures { IfOk result (λ list. (options : Options) (s t : State) → AreRowsOf options s before.now
+        → AreRowsOf options t after.now → Keeps s → Keeps t → list.items ≡ changes_of halves options s t) }
 {
     let regions = regions_of(alloc, before.identities, after.identities)?;
-    let ends_before = ends_of(alloc, before, &regions)?;
-    let ends_after = ends_of(alloc, after, &regions)?;
-    let kept = kept_ends(alloc, halves, &ends_before, &ends_after)?;
-    changed_list(alloc, &kept)
+    let sets_before = sets_of(alloc, before.identities, before.policies)?;
+    let sets_after = sets_of(alloc, after.identities, after.policies)?;
+    let peers_before = PeerRows::new(alloc, sets_before.as_slice())?;
+    let peers_after = PeerRows::new(alloc, sets_after.as_slice())?;
+    let maps_before = number_maps(alloc, &[], &peers_before, before, &peers_before)?;
+    let maps_after = number_maps(alloc, &maps_before, &peers_before, after, &peers_after)?;
+    changed_by_maps(
+        alloc,
+        halves,
+        &regions,
+        before,
+        &maps_before,
+        after,
+        &maps_after,
+    )
 }
 
 /// The names of ends of a state with the second rows that one with the first rows doesn't have, in the order of ends ('profile').
@@ -73,7 +73,8 @@ pub fn ends_alone(
 ) -> Result<Vec<EndName>, Memory>
     requires one { AreSound one.now }
     requires other { AreSound other.now }
-    ensures { IfOk result (λ names. (options later : Options) (s t : State) → AreRowsOf options s one.now → AreRowsOf later t other.now → names.items ≡ ends_alone s t) }
+    ensures { IfOk result (λ names. (options later : Options) (s t : State)
+        → AreRowsOf options s one.now → AreRowsOf later t other.now → names.items ≡ ends_alone s t) }
 {
     let regions = regions_of(alloc, one.identities, other.identities)?;
     let ends_one = end_rows(alloc, one, &regions)?;

@@ -2,9 +2,11 @@
 ghost use Rattle.std.specs.Prelude.{◌≡◌, IfOk};
 ghost use Rattle.pol_connection_maps.specs.Lists.{open_list};
 ghost use Rattle.pol_connection_maps.specs.Seen.{seen_asked};
+ghost use Rattle.pol_connection_maps.specs.Stays.{AreOfMaps, HasItsMap};
 ghost use Rattle.pol_connection_maps.specs.Telling.{telling_alone};
 
 use crate::end_map::EndMap;
+use crate::stays::are_of_one_kind;
 use crate::targets::told_list;
 use crate::told::Tells;
 use pol_connections::{Connection, EndName};
@@ -24,6 +26,8 @@ pub(crate) fn is_asked(from: &EndMap, to: &EndMap) -> bool
 impl Tells for EndMap {
     ghost telling = { telling_alone };
 
+    ghost stands = { λ maps end. HasItsMap maps.after end };
+
     type Key = (u32, bool);
 
     fn name(&self) -> &EndName {
@@ -35,7 +39,7 @@ impl Tells for EndMap {
     }
 
     fn is_alike(&self, other: &EndMap) -> bool {
-        self.is_same(other)
+        are_of_one_kind(self, other)
     }
 
     fn asks(&self, to: &EndMap) -> bool {
@@ -51,6 +55,7 @@ impl Tells for EndMap {
 
 /// The open connections of these ends.
 pub(crate) fn open_list(alloc: Global, ends: &[EndMap]) -> Result<Vec<Connection>, Memory>
+    requires { AreOfMaps (λ maps end. HasItsMap maps.after end) ends.now }
     ensures { IfOk result (λ list. list.items ≡ open_list ends.now) }
 {
     told_list(alloc, ends)

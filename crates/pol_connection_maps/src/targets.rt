@@ -1,5 +1,6 @@
 //! The connections between ends, each found once for all ends of a kind.
 ghost use Rattle.std.specs.Prelude.{◌≡◌, ◌++◌, IfOk, OnOk, map};
+ghost use Rattle.pol_connection_maps.specs.Stays.{AreOfMaps};
 ghost use Rattle.pol_connection_maps.specs.Telling.{AreOfKinds, connection_to, ends_in, ports_between, reached, targets, told_list};
 
 use crate::kinds::{OfKind, kinds_of};
@@ -51,7 +52,8 @@ fn row_from<E: Tells>(
     from: &E,
     firsts: &[&E],
 ) -> Result<Vec<Vec<ProtoRange>>, Memory>
-    ensures { IfOk result (λ row. map (λ cell. cell.items) row.items ≡ map (ports_between E.telling from.now) (map (λ first. first.now) firsts.now)) }
+    ensures { IfOk result (λ row. map (λ cell.
+        cell.items) row.items ≡ map (ports_between E.telling from.now) (map (λ first. first.now) firsts.now)) }
 {
     let mut row = Vec::new(alloc);
     for first in firsts {
@@ -99,7 +101,8 @@ fn rows_of<'a, E: Tells>(
     ends: &[OfKind<'a, E>],
 ) -> Result<Vec<Vec<Target<'a>>>, Memory>
     requires { AreOfKinds E.telling (map (λ first. first.now) firsts.now) ends.now }
-    ensures { IfOk result (λ rows. map (λ row. row.items) rows.items ≡ map (targets E.telling (ends_in ends.now)) (map (λ first. first.now) firsts.now)) }
+    ensures { IfOk result (λ rows. map (λ row.
+        row.items) rows.items ≡ map (targets E.telling (ends_in ends.now)) (map (λ first. first.now) firsts.now)) }
 {
     let mut rows = Vec::new(alloc);
     for first in firsts {
@@ -142,6 +145,7 @@ fn list_of<E: Tells>(
 
 /// The connections between these ends of which something is told.
 pub(crate) fn told_list<E: Tells>(alloc: Global, ends: &[E]) -> Result<Vec<Connection>, Memory>
+    requires { AreOfMaps E.stands ends.now }
     ensures { IfOk result (λ list. list.items ≡ told_list E.telling ends.now) }
 {
     let kinds = kinds_of(alloc, ends)?;

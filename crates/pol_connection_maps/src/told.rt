@@ -1,6 +1,7 @@
 //! What is told of the connections between ends, whatever an end is.
 ghost use Rattle.std.specs.Prelude.{◌≡◌, ◌++◌, IfOk, IsTrue, OnOk, map};
 ghost use Rattle.pol_port_ranges.specs.Ranges.{ranges};
+ghost use Rattle.pol_connection_maps.specs.Stays.{StateMaps};
 ghost use Rattle.pol_connection_maps.specs.Telling.{AreAlike, Telling, pair_ports, ports_between, proto_ports};
 
 use pol_connections::EndName;
@@ -11,6 +12,7 @@ use std::alloc::Global;
 
 /// An end of a state, or of both states of a change, as far as connections between two such are told.
 pub(crate) trait Tells {
+    ghost use Rattle.pol_connection_maps.specs.Stays.{StateMaps};
     ghost use Rattle.pol_connection_maps.specs.Telling.{Telling};
 
     /// By what ends are looked up to find one that is alike.
@@ -19,16 +21,20 @@ pub(crate) trait Tells {
     /// Who an end is, which connections are asked, and what is said of them.
     ghost telling: { Telling Self };
 
+    /// Whether an end is one of the states that have these maps.
+    ghost stands: { StateMaps → Self → Type 0 };
+
     /// Who it is.
     fn name(&self) -> &EndName
         ensures { result.now ≡ telling.name self.now };
 
-    /// Its key. No clause says that ends of one key are alike: they are compared.
+    /// Its key. No clause says that ends of one key are alike: they are asked.
     fn key(&self) -> Self::Key;
 
-    /// Whether the same is told of the connections of both. It may be so where this says no.
+    /// Whether the same is told of the connections of both ends of the same states. It may be so where this says no.
     fn is_alike(&self, other: &Self) -> bool
-        ensures { IsTrue result → AreAlike telling self.now other.now };
+        ensures { IsTrue result → (maps : StateMaps)
+            → stands maps self.now → stands maps other.now → AreAlike telling self.now other.now };
 
     /// Whether a connection to the other end is asked.
     fn asks(&self, to: &Self) -> bool

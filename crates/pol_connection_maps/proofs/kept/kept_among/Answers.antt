@@ -1,9 +1,22 @@
 use Rattle.std.proofs.Common.{◌<◌, ◌++◌, ◌+◌, drop, length, sym, ap, ◌∙◌, arith}
 use Rattle.std.specs.Option.{option_copied}
 use Rattle.pol_connection_maps.specs.Lists.{kept_ends, seen_of}
+use Rattle.pol_connection_maps.specs.Stays.{HasItsMap}
 use Rattle.pol_connection_maps.proofs.Firsts.{not_kept, one_kept, split_at}
+use Rattle.pol_connection_maps.proofs.Lookup.{every_at}
+use Rattle.pol_connection_maps.proofs.Standing.{found_stands}
 use Rattle.pol_connection_maps.proofs.kept.kept_among.Goals as goal
 use Rattle.pol_connection_maps.proofs.kept.kept_among.Goals.{in-Some+in_ok-push, in_default}
+
+pub new-requires : goal.new-requires
+new-requires c =
+    let before = c.requires.before in
+    let maps = c.requires.their.maps in
+    let end = c.end-item.result in
+    let found = sym (ap (λ n. seen_of n before) c.name.ensures) ∙ sym (c.first_named.ensures before c.requires.are) ∙ ap option_copied c.in-Some.is in
+    λ same. c.is_as_it_was-same.ensures same maps (found_stands maps.before before end.name _ c.requires.their.was found)
+    (every_at (HasItsMap maps.after) c.args.after.now c.loop-end.end-index end c.requires.their.is (omega (arith, c.loop-end-test.true)) c.end-item.is)
+    c.requires.their.stay
 
 pub loop-end-preserved : goal.loop-end-preserved
 loop-end-preserved c = λ before are.

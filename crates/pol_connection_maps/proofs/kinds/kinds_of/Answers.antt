@@ -1,5 +1,7 @@
 use Rattle.std.proofs.Common.{◌<◌, ◌++◌, [], ◌∷◌, length, map, sym, subst, ◌∙◌, arith}
+use Rattle.std.proofs.lemmas.List.{take_all}
 use Rattle.pol_connection_maps.specs.Telling.{AreOfKinds}
+use Rattle.pol_connection_maps.proofs.Lookup.{every_at}
 use Rattle.pol_connection_maps.proofs.Shared.{more_ends, more_kinds}
 use Rattle.pol_connection_maps.proofs.kinds.kinds_of.Goals as goal
 
@@ -16,5 +18,14 @@ loop-end-preserved g c =
     let pushed = c.in_ok-push.ensures.items ∙ (λ j. c.loop-end.of_kinds.items ++ c.new.ensures j ∷ []) in
     record {
       ends = more_ends t all i item kind c.loop-end.of_kinds.items c.push.new.self.items pushed c.loop-end.invariant.ends within c.end-item.is;
-      kinds = subst (AreOfKinds t new) (sym pushed) (more_kinds t old new c.loop-end.of_kinds.items item kind c.loop-end.invariant.kinds c.in_ok-kind.ensures);
+      kinds = λ maps stand.
+          let so_far = c.loop-end.invariant.kinds maps stand in
+          let finds = c.in_ok-kind.ensures maps so_far.1 (every_at (g.E.Tells.stands maps) all i item stand within c.end-item.is) in
+          (subst (AreOfKinds t new) (sym pushed) (more_kinds t (g.E.Tells.stands maps) old new c.loop-end.of_kinds.items item kind so_far.0 finds), finds.stand);
     }
+
+pub returns : goal.returns
+returns g c = record {
+  ends = c.loop-end.invariant.ends ∙ take_all c.loop-end.end-index c.args.ends.now c.loop-end-test.false;
+  kinds = λ maps stand. (c.loop-end.invariant.kinds maps stand).0;
+}
