@@ -1,2 +1,14 @@
+pub mod HistoriesOfRuns
+pub mod JsonNodes
 pub mod NumbersOfRuns
+pub mod PartsOfRuns
+pub mod ReadSizes
+pub mod ShortPolicies
 pub mod SizesLeft
+pub mod SizesOfRuns
+pub mod SmallKeys
+pub mod SmallNumbers
+pub mod StatesOfRuns
+pub mod TextNodes
+pub mod ValidReads
+pub mod Words
