@@ -22,7 +22,7 @@ from play_checks import told
 from lib import regions
 from lib.addresses import NETWORKS, WORLDS, lies_in
 from recipes_checks import NAMESPACE, PODS, pod, policy
-from wenirako import changes, children, coarse, core, drawing, flows, halves, kubectl, listing, opened, programs, progress, resolving, words, writing
+from wenirako import changes, children, coarse, core, drawing, flows, halves, kubectl, mentions, opened, programs, progress, resolving, words, writing
 from wenirako.report import Report
 
 TOP = compare.TOP
@@ -90,6 +90,9 @@ def what_is_open(folder, wrong):
     told(wrong, "to the ledger", stripped(out), [["pay/teller", "pay/ledger-0", "TCP 8443", "every pod"]])
     _, out, err = door.call("list", *STATE, "--from", "world", "--to", "pay/*")
     told(wrong, "from the world", (out, err.splitlines()[-1]), ("", "wenirako: nothing is open"))
+    _, out, _ = door.call("list", *STATE, "--from", "*", "--to", "pay/*", "--node", "east-2")
+    told(wrong, "with a node's pods", [it[:3] for it in stripped(out)], [["pay/teller-6c9f7-hx2wd", "pay/ledger-0", "TCP 8443"]])
+    told(wrong, "between pods of other nodes", door.call("list", *STATE, "--from", "pay/ledger-0", "--to", "shop/cart", "--node", "east-2")[1], "")
     value = json.loads(door.call("list", *STATE, *BOTH, "--from", "shop/cart", "--to", "pay/*", "--format", "json")[1])
     told(wrong, "with the policies", [(it["decided_by"], it["verdict"]) for it in value["rows"]], [(DECIDED, "allowed")])
     form = json.loads((TOP / "docs" / "answer.schema.json").read_text())
@@ -149,7 +152,7 @@ def connections_are_asked_of_much(folder, wrong):
     door, lists, scripts = Door(folder), front_random.lines_of_connections, []
     counted = lambda lines, words=(): scripts.append(lines) or lists(lines, words)
     shut = lambda count: policy("shut", {"endpointSelector": {"matchLabels": {"app": "web"}}, "egress": [{"toCIDR": [f"10.8.{it}.0/24" for it in range(count)]}]})
-    for count, ends, is_asked in ((0, [], True), (0, ["--to", "shop/*"], True), (9, [], True), (9, ["--to", "shop/*"], False), (0, ["--to", "world"], False)):
+    for count, ends, is_asked in ((0, [], True), (0, ["--to", "shop/*"], True), (9, [], True), (30, ["--to", "shop/*"], False), (0, ["--to", "world"], False)):
         state = ["--state", door.write("state.json", listed(NAMESPACE, *PODS, shut(count)))]
         alone, scripts[:] = door.call("list", *ends, *state), []
         with replaced(Door, has_connections=True), replaced(front_random, lines_of_connections=counted):
@@ -226,6 +229,45 @@ def prefixes_are_asked_once(folder, wrong):
             over = door.call(*words), len(asked) - alone[1]
     told(wrong, "what changes", over[0], alone[0])
     told(wrong, "how often it is listed", over[1], alone[1])
+
+
+def alike_halves_are_asked_once(folder, wrong):
+    """Halves whose policies say the same of other pods are asked about once, and told with their own; so are entities that nobody names."""
+    door, verdicts = Door(folder), core.Core.verdicts
+    wide = {"apiVersion": "cilium.io/v2", "kind": "CiliumClusterwideNetworkPolicy", "metadata": {"name": "wide"}, "spec": {"endpointSelector": {}, "ingressDeny": [{"fromEntities": ["health"]}]}}
+    add = ["--add", door.write("wide.json", wide), "--format", "json"]
+
+    def asked(count, peers):
+        spec = lambda app: {"endpointSelector": {"matchLabels": {"app": app}}, "ingress": [{**peers, "toPorts": [{"ports": [{"port": "80", "protocol": "TCP"}]}]}]}
+        pods = [pod("shop", f"a{it}", "n1", f"10.0.1.{it}", {"app": f"a{it}"}) for it in range(count)]
+        questions = set()
+        state = door.write("state.json", listed(NAMESPACE, *pods, *(policy(f"p{it}", spec(f"a{it}")) for it in range(count))))
+        with replaced(core.Core, verdicts=lambda self, those, what: questions.update(those := {*those}) or verdicts(self, those, what)):
+            rows = json.loads(door.call("diff", "--state", state, *add)[1])["rows"]
+        shut = sorted((one["pod"], *it["decided_by"]) for it in rows if {"entity": "health"} in it["from"] for one in it["to"] if "pod" in one)
+        told(wrong, f"what shuts for each of {count}", shut, [(f"shop/a{it}", "ingress: wide#0.ingressDeny[0]") for it in range(count)] if "fromEntities" in peers else [])
+        opened = json.loads(door.call("list", "--state", state, "--from", "shop/a0", "--to", "shop/*", "--format", "json")[1])["rows"]
+        entries = sorted((it["to"][0]["pod"], it["decided_by"][1]) for it in opened)
+        told(wrong, f"what opens each of {count}", entries, [(f"shop/a{it}", f"ingress: shop/p{it}#0.ingress[0]") for it in range(1, count)] if "fromEndpoints" in peers else [])
+        return {it for it in questions if it.remote != halves.NOBODY}
+
+    of_pods, of_entities = {"fromEndpoints": [{"matchLabels": {"app": "a0"}}]}, {"fromEntities": ["health", "init"]}
+    told(wrong, "questions about five and about two", len(asked(5, of_pods)), len(asked(2, of_pods)))
+    entities = lambda peers: [len({it.remote for it in asked(2, peers) if it.phase == phase and it.remote[0] == "identity"}) for phase in (0, 1)]
+    told(wrong, "entities that are asked about", (entities(of_pods), entities(of_entities)), ([2, 3], [4, 4]))
+
+
+def sets_are_told_apart(_, wrong):
+    """What rules can tell of sets of labels is told of all at once as it is of each."""
+    pick = random.Random(1)
+    labels = [[f"k8s:{key}={pick.choice('uvw')}" for key in "abcd" if pick.random() < 0.7] for _ in range(60)]
+    for _ in range(100):
+        selectors = [{"matchLabels": {pick.choice("abce"): pick.choice("uvx")}} if pick.random() < 0.6 else {"matchExpressions": [{"key": pick.choice("abce"), "operator": "Exists"}]} for _ in range(3)]
+        found = mentions.Mentions([], ())
+        found.walk(selectors)
+        found.listed = sorted(found.values.items())
+        at_once, each = mentions.Sets(labels).told_by(found), [found.seen(it) for it in labels]
+        wrong += [f"{selectors}: {labels[one]} and {labels[other]}" for one in range(60) for other in range(60) if (at_once[one] == at_once[other]) != (each[one] == each[other])][:1]
 
 
 def why_is_told(folder, wrong):
@@ -469,6 +511,12 @@ def words_agree(folder, wrong):
         (["check", "-", "--state", "-"], "- is standard input, which can be read once"),
         (["why", "a", "b", *STATE], "the following arguments are required: PROTOCOL/PORT"),
         (["list", *STATE, "--by", "node"], "argument --by: invalid choice: 'node'"),
+        (["list", *STATE, "--port", "TCP/70000"], "--port: 'TCP/70000' is no port"),
+        (["list", *STATE, "--labels", "("], "--labels: '(' is no pattern"),
+        (["why", "shop/web", "pay/ledger-0", "TCP", *STATE], "PROTOCOL/PORT: 'TCP' is no single port"),
+        (["diff", *STATE, "--remove", "cnp"], "--remove cnp: it is CiliumNetworkPolicy/NAMESPACE/NAME"),
+        (["diff", "--state", "-", "--add", "-"], "- is standard input, which can be read once"),
+        (["completion", "zsh"], "completion is for bash"),
     ):
         status, out, err = door.call(*given)
         told(wrong, f"at {given}", (status, out, err.splitlines()[0].startswith(f"wenirako: {what}")), (2, "", True))
@@ -491,7 +539,7 @@ def bash_completes(folder, wrong):
     for line, wanted in (
         (["wenirako", "di"], "diff"),
         (["wenirako", "diff", "--sta"], "--state --state-after"),
-        (["wenirako", "list", "--by", ""], " ".join(listing.BY)),
+        (["wenirako", "list", "--by", ""], " ".join(words.BY)),
         (["wenirako", "why", "--form"], "--format"),
         (["wenirako", "diff", "--format", "ht"], "html"),
         (["wenirako", "completion", ""], "bash"),
@@ -604,11 +652,13 @@ except children.Ended as ended:
 """
 
 
-# What a signal raises comes in a destructor, which swallows it; the child then runs for ten minutes.
+# What a signal raises comes in a destructor, which swallows it. Then a child runs for ten minutes; or no child runs, and more
+# signals come, the last of them while children are ended.
 SWALLOWED = """
-import os, signal, sys
+import os, signal, sys, time
 sys.path[:0] = sys.argv[1:3]
 from wenirako import children
+end_all = children.end_all
 
 class Ending:
     def __del__(self):
@@ -616,23 +666,33 @@ class Ending:
         for _ in range(1000):
             pass
 
+def ending():
+    os.kill(os.getpid(), signal.SIGINT)
+    end_all()
+    print("all ended")
+
 def asked():
     Ending()
-    return children.run(["sleep", "600"]).status
+    if sys.argv[3] == "child":
+        return children.run(["sleep", "600"]).status
+    os.kill(os.getpid(), signal.SIGINT)
+    time.sleep(600)
 
+children.end_all = ending
 print(children.ended_by(asked))
 """
 
 
 def signals_are_not_lost(_, wrong):
-    """A signal whose exception was swallowed ends the program at its next child; and of a child that a signal ended that is said."""
-    words = [sys.executable, "-c", SWALLOWED, str(TOP / "tools"), str(TOP / "recipes")]
-    run = subprocess.Popen(words, stdout=subprocess.PIPE, stderr=subprocess.DEVNULL, text=True, start_new_session=True)
-    try:
-        told(wrong, "how it ends", run.communicate(timeout=120)[0].split(), ["143"])
-    except subprocess.TimeoutExpired:
-        os.killpg(run.pid, signal.SIGKILL)
-        wrong.append("it doesn't end")
+    """A signal whose exception was swallowed ends the program at its next child, and a later one at once; and of a child that a signal ended that is said."""
+    for behind in ("child", "signal"):
+        words = [sys.executable, "-c", SWALLOWED, str(TOP / "tools"), str(TOP / "recipes"), behind]
+        run = subprocess.Popen(words, stdout=subprocess.PIPE, stderr=subprocess.DEVNULL, text=True, start_new_session=True)
+        try:
+            told(wrong, f"how it ends by a {behind}", run.communicate(timeout=120)[0].split("\n"), ["all ended", "143", ""])
+        except subprocess.TimeoutExpired:
+            os.killpg(run.pid, signal.SIGKILL)
+            wrong.append(f"it doesn't end by a {behind}")
     killed = programs.Program(["sh", "-c", "kill -KILL $$"], False, "")
     for what, ask in (
         ("connections", lambda: [*opened.Opened(lambda: killed, None, progress.Progress("x", True)).play(["a"])]),
@@ -685,6 +745,57 @@ def other_programs_are_not_asked(folder, wrong):
     broken = Archive(pathlib.Path(folder) / "broken", "#!/bin/sh\necho no room >&2\nexit 3\n")
     status, out, err = broken.call("diff", *STATE, *BOTH)
     told(wrong, "one without answers", (status, out, err), (70, "", "wenirako: policyd ended with the status 3: no room\n"))
+
+
+# Odd input.
+
+
+def odd_input_has_one_line(folder, wrong):
+    """What nobody can mean is told in one line, with the status of bad input."""
+    door = Door(folder)
+    state = ["--state", door.write("state.json", listed(NAMESPACE, *PODS))]
+    document = lambda spec, name="p": f"apiVersion: cilium.io/v2\nkind: CiliumNetworkPolicy\nmetadata: {{name: {name}, namespace: shop}}\nspec:\n  endpointSelector: {{}}\n  {spec}\n"
+    network = {"apiVersion": "networking.k8s.io/v1", "kind": "NetworkPolicy", "metadata": {"name": "n", "namespace": "shop"}, "spec": {"podSelector": {}, "ingress": [{"from": "web"}]}}
+    for what, text, said in (
+        ("a long name", document("ingress: []", "p" * 254), "Cilium refuses it: wrong-shape at metadata.name"),
+        ("a name with a blank", document("ingress: []", "p q"), "Cilium refuses it: wrong-shape at metadata.name"),
+        ("a namespace that is a number", document("ingress: []").replace("namespace: shop", "namespace: 5"), "Cilium refuses it: wrong-shape at metadata.namespace"),
+        ("a name that is an object", document("ingress: []", "{}"), "name is no text"),
+        ("peers that are a text", json.dumps(network), "Cilium refuses it: wrong-shape at spec.ingress[0].from"),
+        ("what JSON hasn't", document("ingress: !!set {a}"), "no YAML: could not determine a constructor"),
+        ("bytes", document("description: !!binary aGk="), "no YAML: could not determine a constructor"),
+        ("a list as a name", document("? [a]\n  : b"), "no YAML: while constructing a mapping"),
+        ("nothing as a name", document("ingress: [{~: b}]"), "no YAML: None is no name of a member"),
+        ("what holds itself", document("ingress: &a [*a]"), "it is nested too deeply, or holds itself"),
+        ("a number that is too large", json.dumps(policy("p", {"endpointSelector": {}, "ingress": [{"a": 0}]})).replace(": 0", ": 1e400"), "a number is too large"),
+    ):
+        status, out, err = door.call("diff", *state, "--add", door.write("odd", text))
+        told(wrong, what, (status, out, said in err, err.count("\n")), (1, "", True, 1))
+    # (kubectl takes a number that names a member as its text)
+    told(wrong, "a number as a key", door.call("diff", *state, "--add", door.write("odd", document("ingress: [{fromEndpoints: [{matchLabels: {1: a}}]}]")))[0], 3)
+
+
+def what_cannot_be_written_is_told(folder, wrong):
+    """An answer that can't be written is none; what can't be said otherwise takes no answer away."""
+    archive = Archive(folder)
+    words = f"./wenirako list --state '{EXAMPLE / 'state.json'}' --from shop/cart --port TCP/5432 --quiet"
+    status, out, err = archive.call("-c", f"{words} >/dev/full", command="sh")
+    told(wrong, "on a full disk", (status, out, err.splitlines()[-1]), (70, "", "wenirako: standard output: No space left on device"))
+    status, out, err = archive.call("-c", f"{words} 2>/dev/full", command="sh")
+    told(wrong, "where nothing can be said", (status, len(out.splitlines()), err), (0, 2, ""))
+    status, out, err = archive.call("-c", "./wenirako list --state - <&-", command="sh")
+    told(wrong, "without an input", (status, out, err), (1, "", "wenirako: standard input is empty: it takes what kubectl get .. -o json prints\n"))
+
+
+def what_stands_twice_is_replaced(folder, wrong):
+    """Of objects of one name the last stands, which is told of policies too; and one that comes is in the place of all."""
+    door = Door(folder)
+    twice, other = [policy("p", {"endpointSelector": {}, "ingress": [{"fromEntities": [it]}]}) for it in ("host", "all")], policy("p", {"endpointSelector": {}, "ingress": [{"fromEntities": ["init"]}]})
+    state = ["--state", door.write("state.json", listed(NAMESPACE, *PODS, *twice))]
+    status, out, err = door.call("list", *state, "--from", "shop/web", "--to", "shop/cart")
+    told(wrong, "the last stands", (status, len(cells(out)), "left out: policies that stand again further down: 1 (shop/p)" in err), (0, 1, True))
+    status, out, err = door.call("diff", *state, "--add", "-", given=json.dumps(other))
+    told(wrong, "where one comes, by standard input", (status, "shop/web" in out), (3, True))
 
 
 # Modules.
@@ -815,9 +926,9 @@ def over_connections(check):
 
 
 def checks():
-    found = (a_change_is_told, forms_agree, what_is_open, connections_are_asked, connections_are_asked_of_much, connections_cannot_tell, a_change_is_held, scripts_begin_alike, prefixes_are_asked_once, why_is_told, expectations_are_held, flows_are_replayed)
+    found = (a_change_is_told, forms_agree, what_is_open, connections_are_asked, connections_are_asked_of_much, connections_cannot_tell, a_change_is_held, scripts_begin_alike, prefixes_are_asked_once, alike_halves_are_asked_once, sets_are_told_apart, why_is_told, expectations_are_held, flows_are_replayed)
     found += (two_states_are_compared, slips_are_asked_of_the_bridge, workloads_and_namespaces, names_are_ends, worlds_are_told_apart, names_of_each_family, pods_of_both_families_are_ends, live_pods_have_their_addresses, words_agree, bash_completes, kubectl_is_asked)
-    found += (children_end_too, children_that_start_end_too, signals_are_not_lost, other_programs_are_not_asked, progress_lives, ports_are_read, unions_and_flat_ranges)
+    found += (children_end_too, children_that_start_end_too, signals_are_not_lost, other_programs_are_not_asked, odd_input_has_one_line, what_cannot_be_written_is_told, what_stands_twice_is_replaced, progress_lives, ports_are_read, unions_and_flat_ranges)
     found += (forms_are_safe, prefixes_lie_in_each_other, flows_are_read, modules_are_small, one_formatter_lays_them_out, their_types_fit, random_changes_are_told)
     asking = (a_change_is_told, forms_agree, what_is_open, expectations_are_held, two_states_are_compared, workloads_and_namespaces, names_are_ends, worlds_are_told_apart, names_of_each_family)
     yield from ((f"front door {it.__name__.replace('_', ' ')}", lambda it=it: run(it)) for it in found)

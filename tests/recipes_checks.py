@@ -327,7 +327,6 @@ def faults_of_changes(wrong):
                 "--remove netpol/shop/lost: the state has no such policy; of its kind it has shop/open",
             ),
             (["--remove", "ccnp/lost"], "--remove ccnp/lost: the state has no such policy; of its kind it has none"),
-            (["--remove", "pod/shop/web"], "--remove pod/shop/web: it is CiliumNetworkPolicy/NAMESPACE/NAME, CiliumClusterwideNetworkPolicy/NAME or NetworkPolicy/NAMESPACE/NAME; cnp, ccnp and netpol do for the kinds"),
             (["--add", fine, "--add", fine], f"{fine}: document 1: shop/fine comes twice, and one of them alone can be meant"),
             (["--remove", "cnp/shop/fine", "--remove", "CiliumNetworkPolicy/shop/fine"], "--remove CiliumNetworkPolicy/shop/fine: shop/fine goes twice"),
             (["--add", fine, "--node", "n9"], "--node n9: no pod of the state is on it; there are n1, n2"),
@@ -360,6 +359,8 @@ def words_that_do_not_fit(wrong):
             told(wrong, f"the usage of {recipe} with {words}", f"usage: {recipe}" in err or f"recipes/{recipe} [" in err, True)
     for words in (["--state", "a", "--state", "b"], ["--format", "json", "--format", "json"]):
         told(wrong, f"with {words}", call("what-if", words)[2].splitlines()[0], f"what-if: {words[0]} stands twice")
+    found, out, err = call("what-if", ["--remove", "pod/shop/web"])
+    told(wrong, "a policy's name of another form", (found, out, err.splitlines()[0]), (2, "", "what-if: --remove pod/shop/web: it is CiliumNetworkPolicy/NAMESPACE/NAME, CiliumClusterwideNetworkPolicy/NAME or NetworkPolicy/NAMESPACE/NAME; cnp, ccnp and netpol do for the kinds"))
 
 
 def read(items):
@@ -452,7 +453,7 @@ def interrupted(words):
 def the_rules_tell_what_is_rewritten(wrong):
     """The tables of docs/RULES.md name each member that policyd leaves out."""
     rows = [it for it in (compare.TOP / "docs" / "RULES.md").read_text().split("## What the bridge rewrites")[1].splitlines() if it.startswith("|")]
-    for name in " ".join(LEFT_OUT.values()).split():
+    for name in (it for listed in LEFT_OUT.values() for it in listed):
         told(wrong, f"whether docs/RULES.md tells {name}", any(f"`{name}`" in it for it in rows), True)
 
 

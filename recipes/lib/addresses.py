@@ -21,6 +21,7 @@ LENGTH = re.compile(r"0|[1-9]\d{0,2}", re.ASCII)
 GROUPS, GROUP_BITS = 8, 16
 
 
+@functools.lru_cache(maxsize=None)
 def parsed(text: str) -> typing.Optional[Address]:
     """The address of a text, or None."""
     if not IPV4.fullmatch(text) and not IPV6.fullmatch(text):

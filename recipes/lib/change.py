@@ -4,7 +4,7 @@ from __future__ import annotations
 import typing
 
 from . import manifests
-from .reading import Bad
+from .reading import Bad, text_of
 from .state import State
 
 
@@ -38,9 +38,9 @@ class Change:
         return bool(self.lines) or old != new
 
 
-def of_files(before: State, added: typing.Sequence[str], removed: typing.Sequence[str]) -> Change:
-    """The change by the manifests of files and by the policies that texts such as `cnp/pay/web` name."""
-    read = manifests.Manifests(added)
+def of_files(before: State, added: typing.Sequence[str], removed: typing.Sequence[str], text: typing.Callable[[str], str] = text_of) -> Change:
+    """The change by the manifests of files and by the policies that texts such as `cnp/pay/web` name; `text` reads a file."""
+    read = manifests.Manifests(added, text)
     found = Change(before, manifests.after(before, read, manifests.removed(before, removed)), list(read.said()))
     for key in read.objects:
         refused = found.after.rewritten[key].refused if key in found.after.rewritten else None

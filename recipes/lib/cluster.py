@@ -59,6 +59,7 @@ class Cluster:
         self.namespaces: typing.Dict[str, typing.Dict[str, str]] = {}
         self.pods: typing.Dict[str, Pod] = {}
         self.policies: typing.List[typing.Union[Policy, network.NetworkPolicy]] = []
+        self.keys: typing.Set[tuple] = set()
         self.templates: typing.List[Pod] = []
         # What addresses are: the name of a Service by its own ones and by those outside the cluster, the node's name.
         self.services: typing.Dict[str, str] = {}
@@ -145,7 +146,7 @@ class Cluster:
         if (api, kind) in workloads.KINDS:
             self.take_template(workloads.Template(place, value))
         elif is_policy(value):
-            self.policies.append(policy_of(place, value))
+            self.take_policy(policy_of(place, value))
         elif deciding.decides(api, kind):
             self.deciding.append(deciding.Deciding(place, value))
         elif (api, kind) in services.GROUPS:
@@ -174,6 +175,12 @@ class Cluster:
         else:
             return False
         return True
+
+    def take_policy(self, policy: Policy) -> None:
+        if policy.key in self.keys:
+            self.leave_out("policies that stand again further down", policy.name)
+        self.keys.add(policy.key)
+        self.policies.append(policy)
 
     def take_template(self, template: workloads.Template) -> None:
         """A workload's template; a Job of a CronJob is that one's."""

@@ -34,7 +34,7 @@ def key_of(value: dict) -> Key:
     told = value.get("metadata")
     metadata: dict = told if isinstance(told, dict) else {}
     namespace = "" if value["kind"] in WITHOUT_NAMESPACE else str(metadata.get("namespace") or "default")
-    return value["kind"], namespace, metadata.get("name", "")
+    return value["kind"], namespace, str(metadata.get("name") or "")
 
 
 def named(key: tuple) -> str:
@@ -44,12 +44,13 @@ def named(key: tuple) -> str:
 class Manifests:
     """The objects of files, by their keys, and the kinds that were skipped."""
 
-    def __init__(self, names: typing.Iterable[str]):
+    def __init__(self, names: typing.Iterable[str], read: typing.Callable[[str], str] = text_of):
+        """`read` gives the text of a name."""
         self.objects: typing.Dict[Key, typing.Tuple[str, dict]] = {}
         self.skipped: typing.Dict[tuple, int] = {}
         for name in names:
             count = len(self.objects)
-            for place, value in objects(text_of(name), name, f"{name}: document"):
+            for place, value in objects(read(name), name, f"{name}: document"):
                 self.take(place, value)
             if len(self.objects) == count:
                 raise Bad(f"--add {name}: nothing in it is read; {', '.join(self.said()) or 'it has no object'}")
@@ -69,18 +70,23 @@ class Manifests:
             yield f"skipped: {count} {kind} ({api})"
 
 
+def named_by(text: str) -> Key:
+    """The key of a policy that a text such as `cnp/pay/web` names; Bad where it has another form."""
+    word, *names = text.split("/")
+    kind = {**SHORT, **{it.lower(): it for it in KINDS}}.get(word.lower())
+    names = ["", *names] if kind == CLUSTER_WIDE else names
+    if kind is None or len(names) != 2:
+        raise Bad(f"--remove {text}: it is {NAMESPACED}/NAMESPACE/NAME, {CLUSTER_WIDE}/NAME or {network.KIND}/NAMESPACE/NAME; cnp, ccnp and netpol do for the kinds")
+    return kind, names[0], names[1]
+
+
 def removed(before: State, texts: typing.Iterable[str]) -> typing.List[Key]:
     """The keys of the policies that texts such as `cnp/pay/web` name."""
     found: typing.List[Key] = []
     for text in texts:
-        word, *names = text.split("/")
-        kind = {**SHORT, **{it.lower(): it for it in KINDS}}.get(word.lower())
-        names = ["", *names] if kind == CLUSTER_WIDE else names
-        if kind is None or len(names) != 2:
-            raise Bad(f"--remove {text}: it is {NAMESPACED}/NAMESPACE/NAME, {CLUSTER_WIDE}/NAME or {network.KIND}/NAMESPACE/NAME; cnp, ccnp and netpol do for the kinds")
-        key = kind, names[0], names[1]
+        key = named_by(text)
         if key not in before.policies:
-            listed = sorted(named(it) for it in before.policies if it[0] == kind)
+            listed = sorted(named(it) for it in before.policies if it[0] == key[0])
             raise Bad(f"--remove {text}: the state has no such policy; of its kind it has {', '.join(listed) or 'none'}")
         if key in found:
             raise Bad(f"--remove {text}: {before.policies[key].name} goes twice")
@@ -93,8 +99,9 @@ def after(before: State, manifests: Manifests, gone: typing.Collection[tuple]) -
     given, coming = [], dict(manifests.objects)
     for place, value in before.cluster.given:
         key = key_of(value)
-        if key in coming:
-            given.append(coming.pop(key))
+        if key in manifests.objects:
+            # (what stands twice is replaced once)
+            given += [coming.pop(key)] if key in coming else []
         elif key not in gone:
             given.append((place, value))
     given += coming.values()

@@ -3,7 +3,7 @@ from __future__ import annotations
 
 import typing
 
-from .policies import NAMESPACE_KEY, Asked, Policy, asked_of_subject
+from .policies import NAMESPACE_KEY, Asked, Policy, asked_of_subject, listed
 
 API, KIND = "networking.k8s.io/v1", "NetworkPolicy"
 SECTIONS = {"ingress": "Ingress", "egress": "Egress"}
@@ -32,10 +32,10 @@ class NetworkPolicy(Policy):
     def entries(self) -> typing.Iterator[typing.Tuple[str, dict]]:
         """Its entries, each with its direction, as far as the recipes ask: prefixes and ports, as an entry of Cilium's."""
         for section, word in (("ingress", "from"), ("egress", "to")):
-            for entry in self.spec().get(section) or []:
+            for entry in listed(self.spec(), section):
                 if section in self.directions() and isinstance(entry, dict):
-                    blocks = [it["ipBlock"] for it in entry.get(word) or [] if it.get("ipBlock") is not None]
-                    yield section, {f"{word}CIDRSet": blocks, "toPorts": [{"ports": list(map(port_of, entry.get("ports") or []))}]}
+                    blocks = [it["ipBlock"] for it in listed(entry, word) if isinstance(it, dict) and it.get("ipBlock") is not None]
+                    yield section, {f"{word}CIDRSet": blocks, "toPorts": [{"ports": [port_of(it) for it in listed(entry, "ports") if isinstance(it, dict)]}]}
 
     def directions(self) -> typing.Set[str]:
         """The directions in which it isolates."""

@@ -30,10 +30,12 @@ class Policy:
         self.name = name if self.kind == CLUSTER_WIDE else f"{self.namespace}/{name}"
         self.line = line_of(place, {"op": "apply", "policy": self.document})
         self.whole = self
+        # Whether rewriting has looked at all of it, so that nothing is left to refuse.
+        self.is_read = False
 
     def why_unread(self) -> typing.Optional[typing.Tuple[str, str]]:
         """What policyd doesn't read in it, with its place, or None."""
-        return why_unread(self.document)
+        return None if self.is_read else why_unread(self.document)
 
     def rules(self) -> typing.List[dict]:
         """Its rules that are objects."""

@@ -23,8 +23,8 @@ class Bad(Exception):
 def line_of(place: str, value: object) -> str:
     try:
         return json.dumps(value, separators=(",", ":"), allow_nan=False)
-    except ValueError:
-        raise Bad(f"{place}: a number is too large")
+    except (ValueError, RecursionError) as error:
+        raise Bad(f"{place}: {'a number is too large' if 'float' in str(error) else 'it is nested too deeply, or holds itself'}")
 
 
 def text_of(name: str) -> str:
@@ -105,10 +105,17 @@ def of_yaml(text: str, whole: str) -> typing.Iterator[object]:
 def loader(yaml: typing.Any) -> type:
     """PyYAML's safe loader with the texts that kubectl reads as texts: dates, `yes` and `no`, and numbers like 1:30."""
 
+    plain = "tag:yaml.org,2002:"
+    kinds = [*(f"{plain}{it}" for it in ("null", "bool", "int", "float", "str", "seq", "map")), None]
+
     class Loader(yaml.SafeLoader):
         yaml_implicit_resolvers: typing.Dict[str, list] = {}
+        # (what JSON doesn't have is none of kubectl's)
+        yaml_constructors = {it: yaml.SafeLoader.yaml_constructors[it] for it in kinds}
 
-    plain = "tag:yaml.org,2002:"
+        def construct_mapping(self, node: typing.Any, deep: bool = False) -> typing.Dict[str, typing.Any]:
+            return {key_text(it): value for it, value in super().construct_mapping(node, deep).items()}
+
     for name, form, firsts in (
         ("bool", r"true|True|TRUE|false|False|FALSE", "tTfF"),
         ("int", r"[-+]?(0|[1-9][0-9]*)|0x[0-9a-fA-F]+", "-+0123456789"),
@@ -118,6 +125,13 @@ def loader(yaml: typing.Any) -> type:
     ):
         Loader.add_implicit_resolver(f"{plain}{name}", re.compile(f"^(?:{form})$"), list(firsts))
     return Loader
+
+
+def key_text(key: object) -> str:
+    """The name of a member of an object in YAML, which kubectl takes as text where it is a number or a boolean."""
+    if not isinstance(key, (str, int, float)):
+        raise ValueError(f"{key!r} is no name of a member")
+    return key if isinstance(key, str) else json.dumps(key)
 
 
 def objects(text: str, whole: str = "standard input", part: str = "document", warned: typing.Optional[typing.List[str]] = None) -> typing.Iterator[typing.Tuple[str, dict]]:

@@ -40,6 +40,20 @@ def sets(entry: dict) -> typing.List[dict]:
     return [it for kind in ("from", "to") for it in entry.get(f"{kind}CIDRSet") or []]
 
 
+class Prefixes(typing.FrozenSet[Network]):
+    """A set of prefixes that is known again at once.
+
+    ipaddress hashes a prefix and the half of it that ends it alike, so that the two leave no trace in the hash of a set.
+    """
+
+    @functools.cached_property
+    def number(self) -> int:
+        return hash(frozenset(map(order, self)))
+
+    def __hash__(self) -> int:
+        return self.number
+
+
 class Nested:
     """Prefixes, and which of them lies in which."""
 

@@ -6,6 +6,7 @@ it with the answers of every case.
 """
 from __future__ import annotations
 
+import functools
 import re
 import typing
 
@@ -45,17 +46,17 @@ SHAPES: typing.Dict[str, typing.Dict[str, Shape]] = {
 }
 NEEDED = {"expression": ("key", "operator"), "set": ("cidr",), "port": ("port",), "block": ("cidr",)}
 LEFT_OUT = {
-    "rule": "nodeSelector",
-    "from": "fromRequires fromNodes fromGroups icmps authentication",
-    "to": "toRequires toNodes toGroups toFQDNs toServices icmps authentication",
-    "set": "cidrGroupRef cidrGroupSelector",
-    "item": "rules terminatingTLS originatingTLS listener serverNames",
+    "rule": ("nodeSelector",),
+    "from": ("fromRequires", "fromNodes", "fromGroups", "icmps", "authentication"),
+    "to": ("toRequires", "toNodes", "toGroups", "toFQDNs", "toServices", "icmps", "authentication"),
+    "set": ("cidrGroupRef", "cidrGroupSelector"),
+    "item": ("rules", "terminatingTLS", "originatingTLS", "listener", "serverNames"),
 }
 SECTIONS = ("ingress", "ingressDeny", "egress", "egressDeny")
 ENTITIES = "all world world-ipv4 world-ipv6 host remote-node kube-apiserver ingress init health unmanaged cluster".split()
 PROTOCOLS = ("", "TCP", "UDP", "SCTP", "ANY")
-# Whether each letter of a name is printed as it is.
-PRINTABLE = re.compile("[!-~]*").fullmatch
+# What stands in the place of a byte of a name that isn't printed.
+UNPRINTED = "?"
 
 
 class Unread(Exception):
@@ -89,10 +90,14 @@ def is_network_policy(document: dict) -> bool:
 
 
 def below(path: str, name: str) -> str:
-    """The path of a member; a byte that isn't printed is a question mark, as in policyd's answers."""
-    if not PRINTABLE(name):
-        name = "".join(chr(it) if 0x21 <= it <= 0x7E else "?" for it in name.encode(errors="surrogatepass"))
-    return f"{path}.{name}" if path else name
+    """The path of a member."""
+    return f"{path}.{printed(name)}" if path else printed(name)
+
+
+@functools.lru_cache(maxsize=None)
+def printed(name: str) -> str:
+    """A name as policyd's answers have it."""
+    return "".join(chr(it) if 0x21 <= it <= 0x7E else UNPRINTED for it in name.encode(errors="surrogatepass"))
 
 
 def walk(value: object, shape: Shape, path: str) -> None:
@@ -113,17 +118,19 @@ def walk(value: object, shape: Shape, path: str) -> None:
 
 
 def visit(value: dict, shape: str, path: str) -> None:
-    for name in LEFT_OUT["set"].split() if shape == "set" else []:
+    left_out = LEFT_OUT.get(shape, ())
+    for name in left_out if shape == "set" else ():
         if value.get(name) is not None:
             raise Unread(name, path)
     for name in NEEDED.get(shape, ()):
         if value.get(name) is None:
             raise Unread("wrong-shape", below(path, name))
-    for name in sorted(value, key=lambda it: it.encode(errors="surrogatepass")):
+    # (texts are in the order of their bytes)
+    for name in sorted(value):
         if value[name] is None:
             continue
         known = TEXT if shape == "texts" else SHAPES[shape].get(name)
-        if name in LEFT_OUT.get(shape, "").split():
+        if name in left_out:
             raise Unread(name, path)
         if known is not None:
             walk(value[name], known, below(path, name))

@@ -21,48 +21,73 @@ class Both:
         self.before, self.after, self.may_change, self.is_unsure = before, after, may_change, is_unsure
 
 
+class Whose:
+    """The endpoint of halves before and after a change, and what its rules tell of other sides."""
+
+    def __init__(self, halves: Halves, group: Group, direction: str, made: dict[tuple, dict[tuple, Both]]):
+        """`made` has the halves that were made so far, by what they are of: endpoints that are judged alike share them."""
+        self.halves, self.asked = halves, [(phase, group.number(phase), direction) for phase in (0, 1)]
+        self.of_rules = [halves.half(*it) for it in self.asked]
+        self.numbers = [halves.beside.number(*it) for it in self.asked]
+        self.is_relabelled, self.has_other_rules = group.before != group.after, self.of_rules[0] != self.of_rules[1]
+        self.made = made.setdefault((*self.of_rules, *self.numbers), {})
+        self.known: dict[End, Both] = {}
+
+    def of(self, other: End) -> Both:
+        """The half with another side."""
+        found = self.known.get(other)
+        if found is None:
+            found = self.known[other] = self.make(other)
+        return found
+
+    def make(self, other: End) -> Both:
+        if isinstance(other, Group):
+            seen: list = [self.halves.alike(half, other.number(phase)) for phase, half in enumerate(self.of_rules)]
+        else:
+            seen = [self.halves.key(*it, other)[1:] for it in self.asked]
+        is_same = not self.is_relabelled and (not isinstance(other, Group) or other.before == other.after)
+        key = (*seen, is_same)
+        if key not in self.made:
+            before, after = ((*it, side(other, phase)) for phase, it in enumerate(self.asked))
+            self.made[key] = Both(before, after, self.has_other_rules or seen[0] != seen[1] or self.are_doubted(is_same), any(self.numbers))
+        return self.made[key]
+
+    def are_doubted(self, is_same: bool) -> bool:
+        """Whether something else that isn't read touches a half after, or the same something touches other labels."""
+        return self.numbers[0] != self.numbers[1] or bool(self.numbers[0]) and not is_same
+
+    def is_touched(self) -> bool:
+        """Whether halves may change, whatever their other sides are."""
+        return self.has_other_rules or self.are_doubted(not self.is_relabelled)
+
+
 class Boths:
     """Makes them, each once, and says what is so of them."""
 
     def __init__(self, halves: Halves):
         self.halves, self.beside = halves, halves.beside
-        self.known: dict[tuple[Group, str], dict[End, Both]] = {}
-        self.made: dict[tuple, Both] = {}
+        self.known: dict[tuple[Group, str], Whose] = {}
+        self.made: dict[tuple, dict[tuple, Both]] = {}
         self.moved: dict[Both, bool] = {}
         self.shapes: dict[Both, object] = {}
 
     def of(self, source: End, target: End) -> tuple[Both, ...]:
         """The halves of a connection."""
-        asked = ((source, EGRESS, target), (target, INGRESS, source))
-        return tuple(self.one(end, direction, other) for end, direction, other in asked if isinstance(end, Group))
+        first = (self.one(source, EGRESS, target),) if isinstance(source, Group) else ()
+        return (*first, self.one(target, INGRESS, source)) if isinstance(target, Group) else first
 
     def one(self, group: Group, direction: str, other: End) -> Both:
-        known = self.known.setdefault((group, direction), {})
-        if other not in known:
-            before, after = ((phase, group.number(phase), direction, side(other, phase)) for phase in (0, 1))
-            known[other] = self.make(before, after)
-        return known[other]
+        return self.whose(group, direction).of(other)
 
-    def make(self, before: Wanted, after: Wanted) -> Both:
-        keys, numbers = [self.halves.key(*it) for it in (before, after)], [self.number(*it) for it in (before, after)]
-        is_same = before[1:] == after[1:]
-        key = (*keys, *numbers, is_same)
-        if key not in self.made:
-            self.made[key] = Both(before, after, keys[0] != keys[1] or self.are_doubted(numbers, is_same), any(numbers))
-        return self.made[key]
-
-    def number(self, phase: int, at: int, direction: str, *_: object) -> int:
-        return self.beside.number(phase, at, direction)
-
-    def are_doubted(self, numbers: Sequence[int], is_same: bool) -> bool:
-        """Whether something else that isn't read touches a half after, or the same something touches other labels."""
-        return numbers[0] != numbers[1] or bool(numbers[0]) and not is_same
+    def whose(self, group: Group, direction: str) -> Whose:
+        found = self.known.get((group, direction))
+        if found is None:
+            found = self.known[group, direction] = Whose(self.halves, group, direction, self.made)
+        return found
 
     def is_touched(self, group: Group, direction: str) -> bool:
         """Whether halves of a group in a direction may change, whatever their other sides are."""
-        before, after = ((phase, group.number(phase), direction) for phase in (0, 1))
-        numbers = [self.number(*it) for it in (before, after)]
-        return self.halves.half(*before) != self.halves.half(*after) or self.are_doubted(numbers, before[1:] == after[1:])
+        return self.whose(group, direction).is_touched()
 
     def moves(self, it: Both) -> bool:
         """Whether some packet of a half that may change is judged otherwise after, once it has been asked about."""
@@ -82,7 +107,7 @@ class Boths:
 
     def is_shut(self, it: Both) -> bool:
         found = profiles(self.halves, (it.before, it.after))
-        if found is None or isinstance(it.before[3], Outside) or any(self.number(*each) for each in (it.before, it.after)):
+        if found is None or isinstance(it.before[3], Outside) or any(self.beside.number(*each[:3]) for each in (it.before, it.after)):
             return False
         return all(segment.word == BY_DEFAULT for profile in found for segments in profile.values() for segment in segments)
 

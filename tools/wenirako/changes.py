@@ -6,7 +6,6 @@ here they are the ends that rows have.
 from __future__ import annotations
 
 import bisect
-import itertools
 import json
 from typing import Iterable, Mapping, NamedTuple, Optional, Sequence
 
@@ -86,10 +85,9 @@ class Changes:
     def told(self, *words: str) -> Mapping[tuple[End, End], Heard]:
         """What is said of each connection between ends that rows have; with `HALVES` where a half alone changes, too."""
         scripts = shared_first(*(self.opened.script({name: it.number(phase) for name, it in self.groups.items()}, phase) for phase in (0, 1)))
-        parts = (it.rstrip("\n").partition(SAID) for it in self.opened.answers(scripts, "asking what opens and shuts", words))
         found: dict[tuple[End, End], Heard] = {}
-        for ends, lines in itertools.groupby((it for it in parts if it[1]), lambda it: it[0]):
-            pair, told = self.pair(*ends.split(TARGET)), self.made_of(tuple(it[2] for it in lines))
+        for ends, lines in by_ends(self.opened.answers(scripts, "asking what opens and shuts", words)):
+            pair, told = self.pair(*ends.split(TARGET)), self.made_of(lines)
             # (several prefixes of other policies may lie in one that a half tells apart)
             if pair is not None and found.setdefault(pair, told) is not told:
                 raise NoAnswer(f"connections tells {ends} from others that were thought to be judged alike")
@@ -151,6 +149,23 @@ class Outer:
             nearest = self.nested.of(known(key[1])) if key[0] == "region" else None
             self.known[key] = self.entities.get(key) if key[0] == "reserved" else self.regions.get(nearest) if nearest is not None else None
         return self.known[key]
+
+
+def by_ends(lines: Iterable[str]) -> Iterable[tuple[str, tuple[str, ...]]]:
+    """Lines of the same ends, which stand together: their ends, and what each says of them."""
+    listed: list[str] = []
+    whose = ""
+    for line in lines:
+        ends, is_of_ends, said = line.partition(SAID)
+        if not is_of_ends:
+            continue
+        if ends != whose and listed:
+            yield whose, tuple(listed)
+            listed = []
+        whose = ends
+        listed.append(said)
+    if listed:
+        yield whose, tuple(listed)
 
 
 def shared_first(before: Sequence[str], after: Sequence[str]) -> list[list[str]]:

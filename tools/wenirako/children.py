@@ -8,6 +8,7 @@ import subprocess
 import tempfile
 import threading
 import time
+from types import CodeType, FrameType
 from typing import Any, Callable, Iterator, NamedTuple, Optional, Sequence
 
 from .statuses import INTERRUPTED, TERMINATED
@@ -31,17 +32,18 @@ class Ended(BaseException):
 
 
 class Signals:
-    """What signals have told this program. The first counts; it raises `Ended` in the main thread, once that may be."""
+    """What signals have told this program. The first says the status. Each raises `Ended` in the main thread, once that may be."""
 
     def __init__(self) -> None:
         self.status: Optional[int] = None
         self.are_held = False
 
-    def heed(self, number: int, _: object) -> None:
+    def heed(self, number: int, frame: Optional[FrameType]) -> None:
         if self.status is None:
             self.status = INTERRUPTED if number == signal.SIGINT else TERMINATED
-            if not self.are_held:
-                self.check()
+        # (a later one raises too, since what the first raised may have been swallowed; but none does once the work is left)
+        if not self.are_held and is_within(frame, done_whole.__code__):
+            self.check()
 
     def check(self) -> None:
         if self.status is not None:
@@ -87,21 +89,33 @@ def name_of(number: int) -> str:
 
 
 def heed_signals() -> None:
-    """From here on SIGINT, SIGTERM and SIGHUP raise `Ended` in the main thread."""
+    """From here on SIGINT, SIGTERM and SIGHUP are heeded."""
     _signals.status = None
     for number in (signal.SIGINT, signal.SIGTERM, signal.SIGHUP):
         if signal.getsignal(number) is not signal.SIG_IGN:
             signal.signal(number, _signals.heed)
 
 
+def done_whole(main: Callable[[], int]) -> int:
+    """The status of work. While this runs signals raise `Ended`."""
+    status = main()
+    # (what a signal raised may have been swallowed)
+    _signals.check()
+    return status
+
+
+def is_within(frame: Optional[FrameType], code: CodeType) -> bool:
+    """Whether what runs in a frame was called by this code, or by what that called."""
+    while frame is not None and frame.f_code is not code:
+        frame = frame.f_back
+    return frame is not None
+
+
 def ended_by(main: Callable[[], int]) -> int:
     """The status of a program that is told to end by signals, and whose children end with it."""
     heed_signals()
     try:
-        status = main()
-        # (what a signal raised may have been swallowed)
-        _signals.check()
-        return status
+        return done_whole(main)
     except Ended as ended:
         return ended.status
     finally:

@@ -91,7 +91,6 @@ def is_within(ranges: Ranges, low: int, high: int) -> bool:
 
 def pairs_with(source: End, target: End, is_noded: bool) -> bool:
     """Whether a connection between two ends is told of: not that of a pod to itself, and with a node's pod where one is named."""
-    ends = [it for it in (source, target) if isinstance(it, Group)]
-    if source is target and isinstance(source, Group) and len(source.pods) == 1:
+    if isinstance(source, Group) and isinstance(target, Group) and len(source.pods) == len(target.pods) == 1 and source.pods[0].name == target.pods[0].name:
         return False
-    return not is_noded or any(it.is_local for it in ends)
+    return not is_noded or any(isinstance(it, Group) and it.is_local for it in (source, target))

@@ -5,9 +5,9 @@ ends at once is asked of `connections`, by `opened`.
 """
 from __future__ import annotations
 
-import concurrent.futures
 import os
 import re
+import threading
 from typing import Callable, Iterable, NamedTuple, Optional, Sequence
 
 from lib.reading import line_of
@@ -106,6 +106,14 @@ class Core:
         if batches and self.program is None:
             self.program = self.find()
         self.progress.begin(what, sum(map(len, batches)))
+        found = ask(batches[0]) if len(batches) == 1 else self.at_once(batches, ask)
+        self.progress.end()
+        return found
+
+    def at_once(self, batches: Sequence[Sequence[Question]], ask: Callable[[Sequence[Question]], dict]) -> dict:
+        # (it takes a while to be read, and one batch needs none of it)
+        import concurrent.futures
+
         found: dict = {}
         with concurrent.futures.ThreadPoolExecutor(workers()) as pool:
             futures = {pool.submit(ask, batch): len(batch) for batch in batches}
@@ -122,7 +130,6 @@ class Core:
                     it.cancel()
                 children.end_all()
                 raise
-        self.progress.end()
         return found
 
     # Verdicts: one script for a batch, whose endpoints are live at once.
@@ -194,8 +201,9 @@ class Core:
     def play(self, lines: Sequence[str], numbers: dict[int, int]) -> list[str]:
         """The answers to a script that begins with identities, one a line."""
         assert self.program is not None
+        tick = self.progress.tick if threading.current_thread() is threading.main_thread() else lambda: None
         # (one session alone asks, so maps that are made while it waits gain nothing)
-        done = children.run([*self.program.command, "--workers", "0"], "".join(f"{it}\n" for it in lines).encode())
+        done = children.run([*self.program.command, "--workers", "0"], "".join(f"{it}\n" for it in lines).encode(), tick)
         said = done.out.decode().splitlines()
         self.runs, self.lines = self.runs + 1, self.lines + len(lines)
         if done.status not in (0, 1) or len(said) != len(lines):
@@ -246,9 +254,10 @@ def word_of(text: str, synced: str) -> Optional[str]:
 
 
 def query(operation: str, it: Question, numbers: dict[int, int]) -> str:
-    """The line of a question."""
-    name, value = ("identity", numbers[it.remote[1]]) if it.remote[0] == "set" else it.remote
-    return line_of("", {"op": operation, "endpoint": str(it.at), "direction": it.direction, name: value, "protocol": it.protocol, "port": it.port})
+    """The line of a question, in JSON: no part of it has a character that is escaped there."""
+    kind, value = it.remote
+    remote = f'"{kind}":"{value}"' if kind == "address" else f'"identity":{numbers[value] if kind == "set" else value}'
+    return f'{{"op":"{operation}","endpoint":"{it.at}","direction":"{it.direction}",{remote},"protocol":"{it.protocol}","port":{it.port}}}'
 
 
 def removal(at: int) -> str:

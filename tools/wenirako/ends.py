@@ -12,6 +12,8 @@ from lib.rewriting import Unsure
 from .selecting import Half
 
 ENTITIES = {1: "host", 6: "remote-node", 7: "kube-apiserver", 8: "ingress", 4: "health", 5: "init", 3: "unmanaged"}
+# The one that its own pods always let in.
+HOST = 1
 # Addresses that stand for sets of labels whose pods have none of their own are taken from here.
 SPARE = ipaddress.IPv4Address("255.255.0.0")
 
@@ -89,7 +91,7 @@ class Universe:
         self.states, self.node = states, node
         self.sets: list[LabelSet] = []
         self.numbers: dict[tuple, int] = {}
-        self.taken = {ipaddress.ip_address(it) for state in states for it in addresses_of(state)}
+        self.taken = {found for it in {it for state in states for it in addresses_of(state)} for found in [addresses.parsed(it)] if found}
         self.groups: list[Group] = []
         # Pods that one of two states lacks, and whose workload gives no other pod in their place: by the state's number.
         self.alone: tuple[list, list] = ([], [])
@@ -181,7 +183,7 @@ def entity(number: int) -> Outside:
 
 def inside(halves: Iterable[Half], *wholes: Network) -> list[Outside]:
     """The regions of prefixes, as far as the entries of halves tell them apart."""
-    named = frozenset({*regions.named(entry for it in halves for entry in it.entries()), *wholes})
+    named = regions.Prefixes({*regions.named(entry for it in halves for entry in it.entries()), *wholes})
     # (those of equal prefixes have the same ones)
     prefixes = regions.nested(named).prefixes
     return [Outside("region", it, prefixes) for it in sorted(prefixes, key=addresses.order) if any(addresses.lies_in(it, whole) for whole in wholes)]

@@ -17,10 +17,10 @@ from lib.label_index import LabelIndex
 from . import mentions
 from .beside import Beside, Plain, named, parted
 from .core import ALLOWED, BY_DEFAULT, Answer, Core, Misjudged, NoAnswer, Question
-from .ends import End, Group, Outside, Universe, inside
-from .mentions import Mentions
+from .ends import ENTITIES, HOST, End, Group, Outside, Universe, inside
+from .mentions import Mentions, Sets, Told
 from .reasons import isolating
-from .selecting import DIRECTIONS, Half, Interned, Selection
+from .selecting import DIRECTIONS, Half, Interned, Rule, Selection
 
 # A number that nobody has.
 NOBODY = ("identity", 4_294_967_295)
@@ -67,11 +67,20 @@ class Halves:
     def select(self, refused: set[str]) -> None:
         """Works out who selects whom, where the core refuses these policies."""
         self.core.refused = refused
-        interned, index = Interned(), LabelIndex([it.labels for it in self.universe.sets])
+        labels = [it.labels for it in self.universe.sets]
+        interned, index, self.sets = Interned(), LabelIndex(labels), Sets(labels)
         self.selections = [Selection(index, it, refused, interned) for it in self.policies]
         self.profiles: dict[tuple, Profile] = {}
-        self.pending: dict[tuple, dict] = {}
+        # Questions that wait for answers, each with those that are asked for them.
+        self.pending: dict[tuple, tuple[dict, dict]] = {}
+        self.asked: dict[tuple, dict] = {}
+        self.to_nobody: dict[int, str] = {}
         self.stand_ins: dict[Half, tuple[int, int]] = {}
+        # A number for what each half says, and the first half that says it.
+        self.numbers: dict[tuple, int] = {}
+        self.said_by: dict[Half, int] = {}
+        self.firsts: list[Half] = []
+        self.of_said: dict[int, Told] = {}
         self.words: dict[Question, str] = {}
         self.answers: dict[Question, Answer] = {}
         self.kept: dict[tuple, Any] = {}
@@ -110,8 +119,11 @@ class Halves:
             remote = self.remote(side)
             if remote is not None:
                 phase, at = self.stand_ins.setdefault(half, (phase, at))
-                self.pending[key] = self.questions(half, phase, at, remote)
-                asked.update(it for each in self.pending[key].values() for _, _, it in each)
+                own = self.questions(half, phase, at, remote)
+                # (halves that say the same are asked about once, but for a packet that shows whether they isolate alike)
+                first = self.asked.setdefault((self.said(half), key[1]), own)
+                self.pending[key] = own, first
+                asked.update(it for each in first.values() for _, _, it in each if it not in self.words)
                 asked.add(Question(phase, at, direction, NOBODY, "TCP", 0))
         if asked:
             self.take(self.core.verdicts(asked, what))
@@ -119,16 +131,24 @@ class Halves:
     def take(self, words: dict[Question, str]) -> None:
         self.words.update(words)
         for it, word in words.items():
-            if it.remote == NOBODY and word != ALLOWED and not self.half(it.phase, it.at, it.direction).rules:
-                raise NoAnswer(f"something isolates {self.universe.sets[it.at].labels} ({it.direction}), and no policy was thought to select these labels")
-        for (half, alike), questions in self.pending.items():
+            if it.remote == NOBODY:
+                self.isolates_alike(it, word)
+        for (half, alike), (own, first) in self.pending.items():
             profile: Profile = {}
-            for protocol, each in questions.items():
-                segments = whole([Segment(low, high, words[it], it) for low, high, it in each])
+            for protocol, each in own.items():
+                found = [(low, high, self.words.setdefault(it, self.words[one]), it) for (low, high, it), (_, _, one) in zip(each, first[protocol])]
+                segments = whole([Segment(*it) for it in found])
                 for like in self.stretches(half)[protocol][1]:
                     profile[like] = segments
             self.profiles[half, alike] = profile
         self.pending = {}
+
+    def isolates_alike(self, it: Question, word: str) -> None:
+        """Complains where a packet from nobody shows that others isolate a half than was thought."""
+        half = self.half(it.phase, it.at, it.direction)
+        if self.to_nobody.setdefault(self.said(half), word) != word or word != ALLOWED and not half.rules:
+            names = ", ".join(isolating(half)) or "no policy"
+            raise NoAnswer(f"{word} is what {self.universe.sets[it.at].labels} has for a packet from nobody ({it.direction}), and {names} was thought to isolate it")
 
     def questions(self, half: Half, phase: int, at: int, remote: tuple) -> dict[str, list]:
         """What is asked of a half: a question for each stretch of ports, of each protocol that it tells from those before."""
@@ -241,12 +261,36 @@ class Halves:
 
     def alike(self, half: Half, side: Side) -> object:
         """What a half's rules can tell of an other side: sides of which they can tell the same are judged alike."""
-        if isinstance(side, Outside):
-            return side if side.kind != "name" else Outside("region", side.region, side.prefixes)
-        key = (half, side)
-        if key not in self.kept:
-            self.kept[key] = self.once(mentions.of_half, half).seen(self.universe.sets[side].labels)
-        return self.kept[key]
+        if not isinstance(side, Outside):
+            return self.apart(half)[side]
+        if side.kind == "entity":
+            return self.once(self.entity, (self.said(half), side))
+        return side if side.kind != "name" else Outside("region", side.region, side.prefixes)
+
+    def said(self, half: Half) -> int:
+        """A number for what the rules of a half say, but for their names and subjects: halves of one number are judged alike."""
+        found = self.said_by.get(half)
+        if found is None:
+            found = self.said_by[half] = self.numbers.setdefault((half.direction, *sorted(self.once(Rule.said, it) for it in half.rules)), len(self.firsts))
+            self.firsts += [half] if found == len(self.firsts) else []
+        return found
+
+    def apart(self, half: Half) -> Told:
+        """What a half's rules can tell of each set of labels at the other side."""
+        said = self.said(half)
+        found = self.of_said.get(said)
+        if found is None:
+            found = self.of_said[said] = self.told_apart(said)
+        return found
+
+    def told_apart(self, said: int) -> Told:
+        return self.sets.told_by(self.once(mentions.of_half, self.firsts[said]))
+
+    def entity(self, asked: tuple[int, Outside]) -> object:
+        """An entity by itself where halves name it, or where it is the host; else what they can tell of its label."""
+        said, side = asked
+        found, name = self.once(mentions.of_half, self.firsts[said]), ENTITIES[side.value]
+        return side if side.value == HOST or found.names(name) else found.seen([f"reserved:{name}"])
 
     def kind(self, phase: int, end: End) -> int:
         """A number that is the same for ends that all halves of a state judge alike, at either side."""
@@ -256,13 +300,12 @@ class Halves:
         key = ("kind", phase, at)
         if key not in self.kept:
             ways = [(self.half(phase, at, it), self.beside.number(phase, at, it), *((one.place, one.names) for one in self.beside.names(phase, at, it))) for it in DIRECTIONS]
-            told_apart = self.once(self.mentioned, phase).seen(self.universe.sets[at].labels)
-            self.kept[key] = self.kinds.setdefault((phase, told_apart, *ways), len(self.kinds))
+            self.kept[key] = self.kinds.setdefault((phase, self.once(self.mentioned, phase)[at], *ways), len(self.kinds))
         return self.kept[key]
 
-    def mentioned(self, phase: int) -> Mentions:
-        """What all rules of a state name at their other sides."""
-        return Mentions(self.selections[phase].rules, DIRECTIONS)
+    def mentioned(self, phase: int) -> Told:
+        """What all rules of a state can tell of each set of labels at their other sides."""
+        return self.sets.told_by(Mentions(self.selections[phase].rules, DIRECTIONS))
 
     def merged(self, groups: Iterable[Group]) -> list[Group]:
         """Groups, with those made one whose pods are judged alike in each state, and that changed their labels or didn't."""

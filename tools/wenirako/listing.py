@@ -10,11 +10,10 @@ from .core import ALLOWED
 from .ends import End
 from .naming import Names
 from .report import Report, counted, doubt
-from .resolving import EVERY_PORT, PortRange, everything, named, pairs, port_range
+from .resolving import EVERY_PORT, Named, PortRange, everything, named, pairs, port_range
 from .rows import Line, Ports, Rows, Told, listed, written_ports
 from .statuses import NOTHING, UNSURE
 
-BY = ("pod", "workload", "namespace")
 HEADS = ("FROM", "TO", "PORTS", "ALLOWED BY")
 
 
@@ -23,7 +22,7 @@ def report(asked: Asked, source: Optional[str], target: Optional[str], port: Opt
     universe = asked.universe
     ends = [named(universe, text, word) if text is not None else everything(universe) for word, text in (("--from", source), ("--to", target))]
     ports = port_range(port, "--port") if port is not None else EVERY_PORT
-    lines = asked.halves.foreseen(lambda: found(asked, list(pairs(asked.halves, ends[0], ends[1])), ports))
+    lines = asked.halves.foreseen(lambda: found(asked, all_pairs(asked, *ends), ports))
     open_ones, others = ([it for it in lines if (it.told.after == ALLOWED) == is_open] for is_open in (True, False))
     written = lambda listed: by_line(asked.names, listed) if by == "pod" else coarse(listed, by, *(it.groups for it in ends))
     cells, more = written(open_ones), written(others)
@@ -33,6 +32,11 @@ def report(asked: Asked, source: Optional[str], target: Optional[str], port: Opt
     summary += f", and {counted(len(more), 'line', 'lines')} of some that may be" if more else ""
     doubts = list(dict.fromkeys(name for it in lines for name in it.told.unsure))
     return Report("list", summary, heads, [*cells, *more], rows, asked.notes(), UNSURE if doubts else NOTHING, lines, asked.names, above=doubt(doubts))
+
+
+def all_pairs(asked: Asked, sources: Named, targets: Named) -> list[tuple[End, End]]:
+    """The connections that are asked about, of pods that all rules judge alike as one."""
+    return list(pairs(asked.halves, sources.by_kind(asked.halves), targets.by_kind(asked.halves)))
 
 
 def found(asked: Asked, listed_pairs: list[tuple[End, End]], ports: PortRange) -> list[Line]:

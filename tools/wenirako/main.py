@@ -2,15 +2,17 @@
 from __future__ import annotations
 
 import argparse
+import contextlib
+import os
 import pathlib
 import sys
 from typing import Any, Optional, Sequence
 
 from lib import labels, state as bridge
 from lib.reading import Bad, decoded, text_of
-from lib.writing import put
+from lib.writing import Unwritten, put
 
-from . import check, children, diffing, drawing, kubectl, lint, listing, page, play, programs, replay, why, words as lines_of, writing
+from . import children, kubectl, lint, programs, words as lines_of, writing
 from .asked import Asked
 from .core import NoAnswer
 from .programs import NoProgram
@@ -20,6 +22,9 @@ from .states import States, changed, with_pods
 from .statuses import BAD, BAD_WORDS, NO_ANSWER, NOTHING
 
 
+STANDARD_INPUT = "standard input"
+
+
 class Run:
     """A question that is asked, with its words."""
 
@@ -27,11 +32,14 @@ class Run:
         self.command, self.name, self.words = command, name, words
         self.progress = Progress(command, words.quiet)
         self.notes: list[str] = []
+        self.known: Optional[programs.Program] = None
 
     def say(self, text: str) -> None:
         self.progress.end()
-        for line in text.split("\n"):
-            print(f"{self.command}: {line}", file=sys.stderr, flush=True)
+        # (where nobody can hear it, the answer is given all the same)
+        with contextlib.suppress(OSError):
+            for line in text.split("\n"):
+                print(f"{self.command}: {line}", file=sys.stderr, flush=True)
 
     def option(self, name: str) -> Any:
         return getattr(self.words, name, None)
@@ -40,7 +48,7 @@ class Run:
 
     def text(self, name: str) -> str:
         """The text of a file, or of standard input where that is a dash."""
-        return decoded("standard input", sys.stdin.buffer.read()) if name == "-" else text_of(name)
+        return decoded(STANDARD_INPUT, sys.stdin.buffer.read() if sys.stdin else b"") if name == "-" else text_of(name)
 
     def state(self, name: Optional[str]) -> bridge.State:
         """A state of a file, or of kubectl where none is named."""
@@ -50,12 +58,13 @@ class Run:
             if words.save:
                 kubectl.saved(text, words.save)
             return with_pods(bridge.read(text, labels.choice(words), words.cluster_name, "kubectl", "kubectl: document"), "kubectl")
-        return with_pods(bridge.read(self.text(name), labels.choice(words), words.cluster_name, name, f"{name}: document"), name)
+        whole = STANDARD_INPUT if name == "-" else name
+        return with_pods(bridge.read(self.text(name), labels.choice(words), words.cluster_name, whole, f"{whole}: document"), whole)
 
     def states(self) -> States:
         before = self.state(self.words.state)
         added, removed, after = self.option("add") or [], self.option("remove") or [], self.option("state_after")
-        states = changed(before, added, removed) if added or removed else States(before, self.state(after), are_whole=True) if after else States(before)
+        states = changed(before, added, removed, self.text) if added or removed else States(before, self.state(after), are_whole=True) if after else States(before)
         if self.option("strict") and states.unread():
             raise Bad("\n".join(states.unread()))
         nodes = sorted({it.node for it in states.before.cluster.live})
@@ -65,6 +74,11 @@ class Run:
 
     # The answer.
 
+    def program(self) -> programs.Program:
+        """The program that answers, looked for once."""
+        self.known = self.known or programs.found(self.say, self.progress)
+        return self.known
+
     def report(self) -> Report:
         states = self.states()
         if self.name == "lint":
@@ -72,26 +86,41 @@ class Run:
         # (what is asked of the state after a change alone needs no other)
         if self.name in ("list", "check"):
             states = states.afterwards()
-        return self.made(Asked(states, lambda: programs.found(self.say, self.progress), self.progress, self.option("node"), programs.connections))
+        return self.made(Asked(states, self.program, self.progress, self.option("node"), programs.connections))
 
     def made(self, asked: Asked) -> Report:
+        # (a question's module is read where that is asked, and so is a form's)
         words = self.words
         if self.name == "diff":
+            from . import diffing
+
             return diffing.report(asked)
         if self.name == "list":
+            from . import listing
+
             return listing.report(asked, getattr(words, "from"), words.to, words.port, words.by)
         if self.name == "why":
+            from . import why
+
             return why.report(asked, getattr(words, "from"), words.to, words.protocol_port)
-        name = words.expectations if self.name == "check" else words.flows
-        text = self.text(name)
-        return check.report(asked, text, name) if self.name == "check" else replay.report(asked, text, name)
+        if self.name == "check":
+            from . import check
+
+            return check.report(asked, self.text(words.expectations), words.expectations)
+        from . import replay
+
+        return replay.report(asked, self.text(words.flows), words.flows)
 
     def written(self, report: Report) -> str:
         form = self.words.format
         if form == "json":
-            standing = None if self.name == "lint" else programs.there()
+            standing = None if self.name == "lint" else self.known or programs.there()
             return writing.as_json(report, programs.commit(), bool(standing and standing.is_proved))
-        return {"table": writing.table, "markdown": writing.markdown, "dot": drawing.dot, "html": page.html}[form](report)
+        if form in ("table", "markdown"):
+            return (writing.table if form == "table" else writing.markdown)(report)
+        from . import drawing, page
+
+        return (drawing.dot if form == "dot" else page.html)(report)
 
 
 def answer(command: str, name: str, words: Sequence[str]) -> int:
@@ -114,7 +143,16 @@ def answer(command: str, name: str, words: Sequence[str]) -> int:
 
 def main(words: Sequence[str], command: str = "wenirako") -> int:
     """Runs the command with its words, and gives the status."""
-    return children.ended_by(lambda: asked_for(list(words), command))
+    sys.stderr = sys.stderr or open(os.devnull, "w")
+    return children.ended_by(lambda: answered(list(words), command))
+
+
+def answered(words: list[str], command: str) -> int:
+    try:
+        return asked_for(words, command)
+    except Unwritten as wrong:
+        print(f"{command}: {wrong}", file=sys.stderr)
+        return NO_ANSWER
 
 
 def asked_for(words: list[str], command: str) -> int:
@@ -122,6 +160,8 @@ def asked_for(words: list[str], command: str) -> int:
     if first in lines_of.QUESTIONS:
         return answer(command, first, words[1:])
     if first == "play":
+        from . import play
+
         return play.main(words[1:])
     if first in ("--help", "-h", "help"):
         put(lines_of.help_text() + "\n")
@@ -132,6 +172,9 @@ def asked_for(words: list[str], command: str) -> int:
     if words == ["completion", "bash"]:
         put(lines_of.completion())
         return NOTHING
+    if first == "completion":
+        print(f"{command}: completion is for bash: {command} completion bash", file=sys.stderr)
+        return BAD_WORDS
     print(f"{command}: {first}: no question is called so", file=sys.stderr)
     print(lines_of.help_text(), file=sys.stderr)
     return BAD_WORDS

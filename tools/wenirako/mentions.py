@@ -2,11 +2,11 @@
 
 Selectors compare the values of keys with values that they list, or ask whether a key is there. So labels that agree on
 the keys that some selector names, as far as their values are listed, are selected alike, however selectors are judged.
+Entities are such labels too: one that nobody names is as the others that nobody names.
 """
 from __future__ import annotations
 
-import functools
-from typing import Iterable, Sequence
+from typing import Iterable, Mapping, Sequence
 
 from .selecting import Half, Rule
 
@@ -15,6 +15,9 @@ NAMESPACE_LABELS = "io.cilium.k8s.namespace.labels."
 # What is seen of a value that isn't listed.
 THERE = "\0"
 CLUSTER_KEY = "io.cilium.k8s.policy.cluster"
+# Members below which no further selector stands.
+NO_SELECTORS = ("matchLabels", "matchExpressions", "toPorts", "ports")
+ENTITIES = ("fromEntities", "toEntities")
 
 
 class Mentions:
@@ -23,6 +26,7 @@ class Mentions:
     def __init__(self, rules: Iterable[Rule], directions: Iterable[str]):
         """`directions` has those whose sections are looked at."""
         rules = list(rules)
+        self.entities: set[str] = set()
         # (a selector without a namespace is bound to its policy's, and the entity `cluster` is a label's value)
         self.values: dict[str, set[str]] = {NAMESPACE_KEY: {it.part.namespace for it in rules}, CLUSTER_KEY: {"default"}}
         for rule in rules:
@@ -43,8 +47,9 @@ class Mentions:
                 self.mention(key, [text])
             for it in value.get("matchExpressions") or []:
                 self.mention(it["key"], it.get("values") or [])
+            self.entities.update(it for name in ENTITIES for it in value.get(name) or [])
             for name, it in value.items():
-                if name not in ("matchLabels", "matchExpressions"):
+                if name not in NO_SELECTORS:
                     self.walk(it)
 
     def mention(self, key: str, values: Iterable[str]) -> None:
@@ -53,8 +58,49 @@ class Mentions:
 
     def seen(self, labels: Sequence[str]) -> tuple:
         """What is seen of labels: of each that is named, its value where that is listed, and else that it is there."""
-        values = by_key(tuple(labels))
+        values = by_key(labels)
         return tuple((value if value in listed else THERE) if value is not None else None for value, listed in ((values.get(key), listed) for key, listed in self.listed))
+
+    def names(self, entity: str) -> bool:
+        """Whether an entity is named by itself; those that have several in them have all but the world's alike."""
+        return entity in self.entities
+
+
+class Sets:
+    """Sets of labels by their values, so that what rules can tell of each is found for all at once."""
+
+    def __init__(self, sets: Iterable[Sequence[str]]):
+        self.by_value: dict[str, dict[str, list[int]]] = {}
+        # The keys of each, by a number.
+        self.shapes: list[int] = []
+        self.keys: dict[frozenset[str], int] = {}
+        for at, labels in enumerate(sets):
+            values = by_key(labels)
+            self.shapes.append(self.keys.setdefault(frozenset(values), len(self.keys)))
+            for key, value in values.items():
+                self.by_value.setdefault(key, {}).setdefault(value, []).append(at)
+
+    def told_by(self, mentions: Mentions) -> Told:
+        """What rules can tell of each."""
+        listed: dict[int, tuple] = {}
+        for key, values in mentions.listed:
+            having = self.by_value.get(key, {})
+            for value in values & having.keys():
+                # (one that all have tells none apart)
+                for at in having[value] if len(having[value]) < len(self.shapes) else ():
+                    listed[at] = (*listed.get(at, ()), key, value)
+        return Told(self.shapes, [frozenset(mentions.values.keys() & it) for it in self.keys], listed)
+
+
+class Told:
+    """What rules can tell of sets of labels: it is the same of those of which `seen` gives the same."""
+
+    def __init__(self, shapes: Sequence[int], keys: Sequence[frozenset[str]], listed: Mapping[int, tuple]):
+        """The number of each set's keys, which of these keys are named, and the values that are listed, where there are some."""
+        self.shapes, self.keys, self.listed = shapes, keys, listed
+
+    def __getitem__(self, at: int) -> tuple:
+        return self.keys[self.shapes[at]], self.listed.get(at, ())
 
 
 def of_half(half: Half) -> Mentions:
@@ -62,7 +108,6 @@ def of_half(half: Half) -> Mentions:
     return Mentions(half.rules, (half.direction,))
 
 
-@functools.lru_cache(maxsize=None)
-def by_key(labels: tuple) -> dict[str, str]:
+def by_key(labels: Iterable[str]) -> dict[str, str]:
     """The values of labels by their keys: those of pods are all of one source."""
     return dict(it.partition(":")[2].partition("=")[::2] for it in labels)

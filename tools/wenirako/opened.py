@@ -5,6 +5,7 @@ both halves, so what only one half says is asked of policyd, as all is where the
 """
 from __future__ import annotations
 
+import io
 import itertools
 import json
 import tempfile
@@ -94,7 +95,7 @@ class Opened:
 
     def answers(self, scripts: Sequence[Sequence[str]], what: str, words: Sequence[str] = ()) -> Iterable[str]:
         """The lines that are written of a script, or of two, but for what is refused, which has to be as was foreseen."""
-        self.progress.begin(what, 1)
+        self.progress.begin(what)
         first, others = parted(self.play([*scripts[0], *(line for it in scripts[1:] for line in (DIVIDER, *it))], words))
         self.progress.end()
         refused = {scripts[it.get("side") == AFTER][it["line"] - 1]: it["answer"].split(" ", 1)[1] for it in first}
@@ -116,7 +117,7 @@ class Opened:
             if done.status not in (NOTHING, BAD, TELLS):
                 raise (Untold if done.status in (MEMORY, TOO_LONG) else NoAnswer)(done.said("connections"))
             written.seek(0)
-            yield from (line.decode() for line in written)
+            yield from io.TextIOWrapper(written, encoding="utf-8", newline="\n")
 
 
 class Places:

@@ -13,6 +13,7 @@ from lib.addresses import WORLDS, Network, is_one, parsed, prefix, written
 from lib.pods import Pod
 from lib.reading import Bad
 
+from .connections import pairs_with
 from .ends import ENTITIES, End, Group, Outside, Universe, entity
 from .halves import Halves
 from .naming import ANY_OTHER, NAMED_MOST, some
@@ -31,6 +32,10 @@ class Named(NamedTuple):
     text: str
     groups: list[Group]
     outer: list[Outer]
+
+    def by_kind(self, halves: Halves) -> Named:
+        """The same ends, with pods that all rules judge alike in one group."""
+        return self._replace(groups=halves.merged(self.groups))
 
     def outside(self, halves: Halves, asked: tuple[int, int, str]) -> list[Outside]:
         """What isn't a pod of these, as far as the half at the other side tells it apart."""
@@ -169,12 +174,15 @@ def one_port(text: str, place: str) -> PortRange:
 
 
 def pairs(halves: Halves, sources: Named, targets: Named, phase: int = 0) -> Iterable[tuple[End, End]]:
-    """The connections between two ends: those between pods, and those of pods with what is none."""
+    """The connections between two ends: those between pods, and those of pods with what is none; with a node's where one is named."""
+    is_noded = halves.universe.node is not None
+    return (it for it in every_two(halves, sources, targets, phase) if pairs_with(*it, is_noded))
+
+
+def every_two(halves: Halves, sources: Named, targets: Named, phase: int) -> Iterable[tuple[End, End]]:
     there = [it for it in targets.groups if it.at(phase) is not None]
     for source in (it for it in sources.groups if it.at(phase) is not None):
-        for target in there:
-            if len(source.pods) > 1 or len(target.pods) > 1 or source.pods[0].name != target.pods[0].name:
-                yield source, target
+        yield from ((source, target) for target in there)
         at = source.number(phase)
         yield from ((source, it) for it in targets.outside(halves, (phase, at, EGRESS)))
     for target in there:

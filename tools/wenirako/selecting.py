@@ -5,6 +5,7 @@ isolates a half, where `policyd` is asked of it, and each entry that an answer n
 """
 from __future__ import annotations
 
+import json
 from typing import Any, Iterable, NamedTuple
 
 from lib.label_index import LabelIndex
@@ -12,6 +13,7 @@ from lib.policies import NAMESPACE_KEY
 
 EGRESS, INGRESS = "egress", "ingress"
 DIRECTIONS = (EGRESS, INGRESS)
+SUBJECTS = ("endpointSelector", "podSelector", "nodeSelector")
 OPPOSITE = {INGRESS: EGRESS, EGRESS: INGRESS}
 
 
@@ -38,6 +40,13 @@ class Rule(NamedTuple):
         document = self.part.document
         rules = [document.get("spec"), *(document.get("specs") or [])]
         return [it[name] for it in rules if isinstance(it, dict) for name in (direction, f"{direction}Deny") if it.get(name)]
+
+    def said(self) -> str:
+        """All that it says to whom it selects: its document without its names and its subject."""
+        document = self.part.document
+        bare = lambda it: {name: value for name, value in it.items() if name not in SUBJECTS} if isinstance(it, dict) else it
+        rest = {**document, "metadata": self.part.namespace, "spec": bare(document.get("spec")), "specs": [*map(bare, document.get("specs") or [])]}
+        return json.dumps(rest, sort_keys=True)
 
     def __eq__(self, other: object) -> bool:
         return isinstance(other, Rule) and self.line == other.line and self.given.line == other.given.line

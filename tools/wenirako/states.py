@@ -1,11 +1,11 @@
 """The states that a question is about: a cluster's as it is, and as it is after a change."""
 from __future__ import annotations
 
-from typing import Iterable, Optional, Sequence
+from typing import Callable, Iterable, Optional, Sequence
 
 from lib import change, force, lint
 from lib.cluster import lacks, left_out
-from lib.reading import Bad
+from lib.reading import Bad, text_of
 from lib.state import State
 
 
@@ -70,9 +70,9 @@ class States:
         return f"{place} ({', '.join(marks)})" if marks else place
 
 
-def changed(before: State, added: Sequence[str], removed: Sequence[str]) -> States:
-    """The state with manifests that come and policies that go."""
-    found = change.of_files(before, added, removed)
+def changed(before: State, added: Sequence[str], removed: Sequence[str], text: Callable[[str], str] = text_of) -> States:
+    """The state with manifests that come and policies that go; `text` reads a file."""
+    found = change.of_files(before, added, removed, text)
     return States(before, found.after, found.skipped)
 
 

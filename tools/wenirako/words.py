@@ -5,12 +5,14 @@ import argparse
 import sys
 from typing import Any, NamedTuple, NoReturn, Optional, Sequence
 
-from lib import labels
+from lib import labels, manifests
+from lib.reading import Bad
 from lib.words import Once
 
-from .listing import BY
 from .statuses import BAD_WORDS
 
+# What a line of `list` may be of.
+BY = ("pod", "workload", "namespace")
 TABLES = ("table", "json", "markdown")
 DRAWN = (*TABLES, "dot", "html")
 CHANGES, STATE = ("--add", "--remove"), ("--state",)
@@ -38,7 +40,7 @@ OPTIONS = {
     "--state": ("FILE", "the cluster's objects, - for standard input; kubectl is asked without it", False),
     "--save": ("FILE", "keeps what kubectl was asked for", False),
     "--context": ("NAME", "the context for kubectl", False),
-    "--add": ("FILE", "policies that come", True),
+    "--add": ("FILE", "policies that come, - for standard input", True),
     "--remove": ("KIND/NAMESPACE/NAME", "a policy that goes; cnp, ccnp and netpol do for kinds", True),
     "--state-after": ("FILE", "a whole state in place of a change", False),
     "--from": ("X", "only from there: NAMESPACE/NAME, NAMESPACE/*, an entity, an address", False),
@@ -140,8 +142,25 @@ def wrong_together(name: str, words: argparse.Namespace) -> Optional[str]:
         return "--state-after is a whole state: --add and --remove would change another one"
     if name == "diff" and not (value("--state-after") or value("--add") or value("--remove")):
         return "nothing to change: --add FILE, --remove KIND/NAMESPACE/NAME or --state-after FILE"
-    if [value(it) for it in ("--state", "--state-after", "expectations", "flows")].count("-") > 1:
+    if [*(value(it) for it in ("--state", "--state-after", "expectations", "flows")), *(value("--add") or [])].count("-") > 1:
         return "- is standard input, which can be read once"
+    return wrong_form(words)
+
+
+def wrong_form(words: argparse.Namespace) -> Optional[str]:
+    """What is wrong with a word by itself, or None."""
+    from .resolving import one_port, port_range
+
+    try:
+        labels.choice(words)
+        if getattr(words, "port", None) is not None:
+            port_range(words.port, "--port")
+        if getattr(words, "protocol_port", None) is not None:
+            one_port(words.protocol_port, "PROTOCOL/PORT")
+        for it in getattr(words, "remove", None) or []:
+            manifests.named_by(it)
+    except Bad as wrong:
+        return str(wrong)
     return None
 
 

@@ -24,9 +24,15 @@ def table(report: Report) -> str:
 
 
 def as_json(report: Report, commit: str, is_proved: bool) -> str:
-    """The form of docs/answer.schema.json."""
+    """The form of docs/answer.schema.json, with a line for each row."""
     whole = {"schema": SCHEMA, "question": report.question, "summary": report.summary, "program": {"commit": commit, "proved": is_proved}}
-    return json.dumps({**whole, "rows": report.rows, **report.more, "notes": report.notes}, indent=2) + "\n"
+    members = {**whole, "rows": report.rows, **report.more, "notes": report.notes}
+    return "{\n" + ",\n".join(f"  {json.dumps(name)}: {by_item(value)}" for name, value in members.items()) + "\n}\n"
+
+
+def by_item(value: object) -> str:
+    """A value in JSON, a list with an item a line."""
+    return "[\n" + ",\n".join(f"    {json.dumps(it)}" for it in value) + "\n  ]" if isinstance(value, list) and value else json.dumps(value)
 
 
 def markdown(report: Report) -> str:

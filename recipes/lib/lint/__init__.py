@@ -29,9 +29,9 @@ class Slip:
     text: str
 
 
-def slips(state: State, only: typing.Optional[typing.Collection[tuple]] = None) -> typing.List[Slip]:
+def slips(state: State, only: typing.Optional[typing.Collection[typing.Tuple[str, str, str]]] = None) -> typing.List[Slip]:
     """The slips of the state's policies, in the order of the policies; `only` has the keys of those that are asked about."""
-    ground, found = Ground(state), []
+    ground, found = Ground(state, only), []
     for key, policy in state.policies.items():
         if (only is None or key in only) and not state.rewritten[key].refused:
             found += [Slip(kind, policy.name, place, text) for kind, place, text in of_policy(ground, policy)]

@@ -88,28 +88,45 @@ def other_of(listed: typing.List[Cover], mine: Cover) -> typing.Optional[Cover]:
 
 
 def covers(ground: Ground) -> typing.List[Cover]:
-    """What the entries of the state cover, as policyd is given them; one that became several is left out."""
+    """What the entries of the state cover, as policyd is given them, of those that may cover what is asked about; one that became several is left out."""
     if ground.covers is None:
-        found: typing.Dict[str, typing.List[Cover]] = {}
+        asked = asked_about(ground)
+        found: typing.Dict[str, typing.List[typing.Optional[Cover]]] = {}
         for whole in ground.state.rewritten.values():
             marked = {*whole.marks, *(it.place for it in whole.names)}
             for part in whole.parts:
-                for place, cover in of_part(ground, whole, part, marked, len(found)):
+                for place, cover in of_part(ground, whole, part, marked, len(found), asked):
                     found.setdefault(place, []).append(cover)
-        ground.covers = [it[0] for it in found.values() if len(it) == 1 and it[0].subject]
+        ground.covers = [it for listed in found.values() if len(listed) == 1 for it in listed if it is not None and it.subject]
     return ground.covers
 
 
-def of_part(ground: Ground, whole: Rewritten, part: Policy, marked: typing.Container[str], order: int) -> typing.Iterator[tuple]:
+def asked_about(ground: Ground) -> typing.FrozenSet[int]:
+    """The sets of labels that the policies which are asked about select: an entry for none of them covers none of theirs."""
+    if ground.only is None:
+        return ground.index.every
+    parts = [part for key in ground.only if key in ground.state.rewritten for part in ground.state.rewritten[key].parts]
+    return frozenset().union(*(subject_of(ground, part, rule) for part in parts for rule in rules_of(ground, part)))
+
+
+def subject_of(ground: Ground, part: Policy, rule: dict) -> typing.FrozenSet[int]:
+    return ground.matching(tuple(requirements(rule["endpointSelector"], part.namespace)))
+
+
+def of_part(ground: Ground, whole: Rewritten, part: Policy, marked: typing.Container[str], order: int, asked: frozenset) -> typing.Iterator[tuple]:
+    """What the entries of a rule cover, by their places: None for one that no set of labels which is asked about has."""
     front = "" if part.namespace else "/"
     for number, rule in enumerate(rules_of(ground, part)):
-        subject = ground.matching(tuple(requirements(rule["endpointSelector"], part.namespace)))
+        subject = subject_of(ground, part, rule)
         for section in SECTIONS:
             for at, entry in enumerate(rule.get(section) or []):
                 answer = f"{front}{part.name}#{number}.{section}[{at}]"
                 place = whole.places.get(answer, answer.lstrip("/"))
-                value = {name: it for name, it in entry.items() if name}
                 order += 1
+                if subject.isdisjoint(asked):
+                    yield place, None
+                    continue
+                value = {name: it for name, it in entry.items() if name}
                 yield place, cover_of(ground, part, place, order, whole, section, subject, value, place in marked)
 
 

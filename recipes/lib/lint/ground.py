@@ -47,8 +47,9 @@ class Written:
 class Ground:
     """A state's pods by their labels, and its policies' entries."""
 
-    def __init__(self, state: State):
-        self.state, self.cluster = state, state.cluster
+    def __init__(self, state: State, only: typing.Optional[typing.Collection[typing.Tuple[str, str, str]]] = None):
+        """`only` has the keys of the policies whose slips are asked about; None stands for all."""
+        self.state, self.cluster, self.only = state, state.cluster, only
         # (selectors are rewritten for no policy)
         self.work = Work(None, state, Rewritten(None))  # type: ignore[arg-type]
         self.pods = [it for it in state.ends if it.stands_for != ANY_OTHER]

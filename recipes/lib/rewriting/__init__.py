@@ -9,7 +9,7 @@ from __future__ import annotations
 import typing
 
 from ..policies import NAMESPACED, Policy
-from ..unread import SECTIONS, SHAPES
+from ..unread import SECTIONS, SHAPES, Unread, walk
 from . import network, rules
 from .results import Names, Rewritten, Unsure  # noqa: F401
 from .work import Refused, Rule, Work
@@ -27,9 +27,10 @@ def rewrite(policy: Policy, state: State) -> Rewritten:
     found = Rewritten(policy)
     work = Work(policy, state, found)
     try:
+        check_names(policy)
         is_network = network.is_network(policy.document)
         if is_network and not network.is_rewritten(policy, state):
-            found.parts = [policy]
+            found.parts, policy.is_read = [policy], True
             return found
         note_unknown(work, "network policy" if is_network else "policy")
         written = network.as_rules(work) if is_network else rules.written(work)
@@ -38,8 +39,17 @@ def rewrite(policy: Policy, state: State) -> Rewritten:
         return Rewritten(policy, refused=str(refused))
     name = f"{network.FRONT}{policy.key[2]}" if is_network else policy.key[2]
     if made:
-        found.parts = [assembled(work, made, name)]
+        part = assembled(work, made, name)
+        found.parts, part.is_read = [part], True
     return found
+
+
+def check_names(policy: Policy) -> None:
+    """Refused where a name or a namespace is none that the API server takes."""
+    try:
+        walk(policy.document["metadata"], "metadata", "metadata")
+    except Unread as wrong:
+        raise Refused(f"{wrong.what} at {wrong.path}")
 
 
 def note_unknown(work: Work, form: str) -> None:

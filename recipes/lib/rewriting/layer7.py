@@ -1,7 +1,6 @@
 """What a proxy decides behind the ports: its layers 3 and 4 are kept, and marked."""
 from __future__ import annotations
 
-import dataclasses
 import typing
 
 from .work import Entry, Work
@@ -20,7 +19,7 @@ def rewrite(work: Work, entry: Entry, word: str) -> typing.List[Entry]:
     mode = value.pop("authentication", None)
     if mode is not None and mode.get("mode") != "disabled":
         marks.append("auth")
-    return [dataclasses.replace(entry, value=value, marks=tuple(marks))]
+    return [entry.with_value(value, tuple(marks))]
 
 
 def without(item: dict) -> dict:

@@ -2,7 +2,6 @@
 entity of nobody goes."""
 from __future__ import annotations
 
-import dataclasses
 import typing
 
 from .work import Entry, Work
@@ -28,4 +27,4 @@ def rewrite(work: Work, entry: Entry, word: str) -> typing.List[Entry]:
         entities = value[f"{word}Entities"] = [it for it in entities if it != NOBODY]
     if "remote-node" in entities and "kube-apiserver" not in entities:
         value[f"{word}Entities"] = [*entities, "kube-apiserver"]
-    return [dataclasses.replace(entry, value=value, marks=marks)]
+    return [entry.with_value(value, marks)]

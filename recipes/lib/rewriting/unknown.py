@@ -19,7 +19,7 @@ REWRITTEN: typing.Dict[str, typing.Any] = {
     "cidrGroupSelector": "selector",
 }
 FORMS: typing.Dict[str, dict] = {
-    **SHAPES,
+    **{form: {**members, **{it: REWRITTEN.get(it, ANY) for it in LEFT_OUT.get(form, ())}} for form, members in SHAPES.items()},
     "service": {"k8sService": "service by name", "k8sServiceSelector": "services by labels"},
     "service by name": {"serviceName": ANY, "namespace": ANY},
     "services by labels": {"selector": "selector", "namespace": ANY},
@@ -33,7 +33,7 @@ def check(value: object, form: typing.Any, path: str) -> None:
         for at, it in enumerate(value if isinstance(value, list) else []):
             check(it, form[0], f"{path}[{at}]")
     elif isinstance(value, dict) and form in FORMS:
-        known = {**FORMS[form], **{it: REWRITTEN.get(it, ANY) for it in LEFT_OUT.get(form, "").split()}}
+        known = FORMS[form]
         for name in sorted(it for it in value if value[it] is not None):
             if name not in known:
                 raise Unread("unknown-member", below(path, name))

@@ -28,8 +28,9 @@ class Entry:
     # The label without which a pod of the subject isn't meant: it has a port of some name and number.
     port_label: str = ""
 
-    def with_value(self, value: dict) -> Entry:
-        return Entry(self.number, value, self.marks, self.port_label)
+    def with_value(self, value: dict, marks: typing.Optional[typing.Tuple[str, ...]] = None) -> Entry:
+        """The entry with another value, and with other marks where some are given."""
+        return Entry(self.number, value, self.marks if marks is None else marks, self.port_label)
 
 
 @dataclasses.dataclass
