@@ -30,8 +30,8 @@ pub fn answers_of_runs_are_small()
         → length (lines_of script) < 2 ^ 64 → IsTrue (list_all has_read_numbers run.answers) }
 {}
 
-/// Beside these only sizes are left of what reading gives: the entries of a map, places in a policy, the number of the other side of an
-/// explanation, and faults of rules ('profile').
+/// An answer with such numbers and names lacks only sizes of what reading gives (`has_read_parts`): the entries of a map, places in a
+/// policy, the number of the other side of an explanation, and faults of rules ('profile').
 pub fn sizes_are_left()
     ensures { (answer : Answer) → IsTrue (has_read_numbers answer)
         → IsTrue (has_read_sizes answer) → IsTrue (has_read_parts answer) }
@@ -50,7 +50,7 @@ pub fn states_of_runs_keep()
         (revision : ℕ) → Keeps (state_at options (spots_of (zip (readings_of script) run.answers)) revision) }
 {}
 
-/// A JSON value has no more nodes than its text has bytes, and one (RFC 8259).
+/// A JSON value has at most one node more than its text has bytes (RFC 8259).
 pub fn values_have_few_nodes()
     ensures { (text : List ℕ) (value : Data) → read text ≡ Some value → nodes value ≤ length text + 1 }
 {}

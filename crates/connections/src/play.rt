@@ -19,7 +19,7 @@ use std::alloc::Global;
 
 /// Reads a script from the source, or two with the line `--` between them, and writes which connections are open at its end,
 /// or which open and shut from the end of the first to that of the second, or of which a half changes, where halves are asked
-/// for; before that, what of them was refused.
+/// for. Before these stand the lines that were refused, and of two scripts the names of ends that one alone has.
 ///
 /// Words that don't fit are status `Usage`, and nothing is read then. The whole source is read before a line of it is
 /// (`Read`, `TooLong`), and nothing is written before all is known (`Write`). Want of memory may come at any point before the

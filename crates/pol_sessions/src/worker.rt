@@ -42,8 +42,8 @@ fn none_made(alloc: Global) -> Result<Vec<AtomicU64>, Memory> {
 }
 
 impl<'a, N: NodeName, R: Wait + Drop> Regenerating<'a, N, R> {
-    /// Whether the slot is to be regenerated: none was since it rang last, and its map may still be asked. No clause speaks
-    /// of it.
+    /// Whether the slot is to be regenerated: it wasn't since the last ring, and its map may still be asked for. It counts as
+    /// regenerated from then on. No clause speaks of it.
     fn is_due(&self, slot: u32) -> bool {
         if self.over.is_set() {
             return false;

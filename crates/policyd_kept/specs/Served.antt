@@ -61,8 +61,8 @@ IsServed options start script may_leave old new Disk =
     WritesNothing options start may_leave old new ⊎ WritesBefore options start script may_leave old new
 IsServed options start script may_leave old new Damaged = Keeps old new
 
--- That, where a script is too long it is so, and at each moment since then an image was a journal of these requests and of a beginning
--- of those that the script accepts.
+-- What the status says; that a script which is told as too long is too long; and that at each moment since the old disk's each image that
+-- a crash might leave was a journal of these requests and of a beginning of those that the script accepts.
 pub record Serves {D : Type 0} (moment : D → ℕ) (left_since : D → ℕ → List ℕ → Type 0) (may_leave : D → List ℕ → Type 0) (options : Options) (start : List Request)
     (script : List ℕ) (old_disk new_disk : D) (old new : Option (List ℕ)) (status : Status) : Type 0 where
   pub served : IsServed options start script (may_leave new_disk) old new status

@@ -88,8 +88,8 @@ fn serve_file<R: Files<File = File>, S: Source, K: Sink>(
 }
 
 /// The first word names a file, and the others are those of a script that is played, without `--generate`, `--map`, `--audit` and
-/// `--crash-at`. Where they don't fit, the file isn't touched. It is opened as a disk, made where it is missing, and held until the end;
-/// then `serve` answers the lines of the source over the journal in it ('profile').
+/// `--crash-at`. Where they fit, the file is opened as a disk, made where it is missing, and held until the end; then `serve` answers the
+/// lines of the source over the journal in it ('profile'). No clause speaks of the file.
 pub fn run<R: Files<File = File>, S: Source, K: Sink>(
     rt: &R,
     alloc: Global,

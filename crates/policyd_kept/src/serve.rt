@@ -175,8 +175,8 @@ fn serve_opened<L: Ledger, S: Source, K: Sink, D: Disk>(
 ///
 /// `Damaged` comes exactly where the bytes on the disk aren't a journal, if no call of the disk failed before that was known; nothing
 /// is read then. `Disk` comes only where a call of the disk failed, `Read` where a read failed, `Write` where a write did, and `TooLong`
-/// only where the script has over 67,108,864 bytes or over 1,000,000 lines: the answers to the lines before are written. Want of memory
-/// may come at any point; what was committed stays.
+/// only where the script has over 67,108,864 bytes or over 1,000,000 lines. At `Read` and `TooLong` the answers to the first lines are
+/// written; no clause says to how many. Want of memory may come at any point; what was committed stays.
 pub fn serve<S: Source, K: Sink, D: Disk>(
     alloc: Global,
     options: Options,
