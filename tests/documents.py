@@ -10,6 +10,7 @@ import subprocess
 
 import compare
 import definitions
+import edits
 import families
 import kinds
 import layers
@@ -261,6 +262,7 @@ def checks():
     yield from kinds.checks()
     yield from names.checks()
     yield from widths.checks()
+    yield from edits.checks()
     yield from families.checks()
     for name in program.crates():
         yield f"readme crates/{name}", lambda name=name: introduced(name)
