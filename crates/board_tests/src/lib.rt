@@ -1,12 +1,19 @@
 //! Tests of the board, by a repository and a board: on one thread, and with threads that look while another publishes.
+//! And of the running node: what its regenerations answer, one after another.
 #![tactic(auto)]
 
+#[cfg(test)]
+mod asked;
 #[cfg(test)]
 mod held;
 #[cfg(test)]
 mod looks;
 #[cfg(test)]
 mod reading;
+#[cfg(test)]
+mod regenerations;
+#[cfg(test)]
+mod running;
 #[cfg(test)]
 mod script;
 #[cfg(test)]

@@ -4,7 +4,7 @@ ghost use Rattle.pol_board.specs.Counts.{new_passes};
 ghost use Rattle.pol_history.specs.Meet.{has};
 
 use crate::asked::{commit, endpoint};
-use crate::stand::{config, open};
+use crate::running::{config, open};
 use pol_data::{Memory, Steps};
 use pol_model::{Mode, Request};
 use pol_node::{Config, NewBook, Node, NodeName, Pass, Regen};

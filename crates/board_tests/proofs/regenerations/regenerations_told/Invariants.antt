@@ -1,7 +1,7 @@
 use Rattle.std.proofs.Common.{◌+◌, Some, drop, map}
 use Rattle.pol_history.specs.Grows.{PassState}
 use Rattle.pol_board.specs.Counts.{new_passes}
-use Rattle.node_tests.proofs.regenerations.regenerations_told.Given as goal
+use Rattle.board_tests.proofs.regenerations.regenerations_told.Given as goal
 
 abbrev pub ghosts-regenerations_named : goal.ghosts-regenerations_named
 ghosts-regenerations_named g a = record {
