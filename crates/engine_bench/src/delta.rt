@@ -2,7 +2,7 @@
 ghost use Rattle.std.specs.Prelude.{◌≡◌, ◌<◌, ◌-◌, ◌^◌, IfOk};
 ghost use Rattle.std.specs.Arc.{arc_value};
 ghost use Rattle.pol_distill.specs.Sorted.{HaveSets};
-ghost use Rattle.engine_bench.specs.Turns.{AllAt, IsAt, RowAt, ten};
+ghost use Rattle.engine_bench.specs.Turns.{AllAt, AreNumbered, Extends, IsAt, RowAt, Turns, eleven, ten};
 
 mod inputs;
 mod turns;
@@ -13,7 +13,7 @@ use anyhow::Result;
 use pol_data::Memory;
 use pol_distill::{distill, have_sets};
 use pol_filters::Filters;
-use pol_kept_map::Work;
+use pol_kept_map::{Changes, Work};
 use pol_sets::Sets;
 use std::alloc::Global;
 use std::rt::Clock;
@@ -66,6 +66,74 @@ fn works_anew<R: Clock + AllocGlobal>(rt: &R, filters: &Arc<Filters>, count: u32
     Ok(nanos)
 }
 
+/// The shortest of the rounds in which the work goes there and back, in nanoseconds, and how many changes came last.
+fn best_of<R: Clock>(
+    rt: &R,
+    work: &mut Work,
+    there: &Changes,
+    back: &Changes,
+    count: u32,
+) -> Result<(usize, u128)>
+    requires at { IsAt ten (arc_value there.now.filters) work.old }
+    requires same { arc_value back.now.filters ≡ arc_value there.now.filters }
+    requires numbered { AreNumbered (arc_value there.now.filters) }
+    requires there { HaveSets there.now.sets (arc_value there.now.filters) }
+    requires back { HaveSets back.now.sets (arc_value back.now.filters) }
+    requires comes { Turns ten eleven count there.now }
+    requires goes { Turns eleven ten count back.now }
+{
+    let mut best = u128::MAX;
+    let mut changes = 0;
+    for _ in 0..ROUNDS {
+        let start = Instant::now(rt)?;
+        changes = turns(work, there, back, count)?;
+        best = best.min(start.elapsed(rt)?.as_nanos());
+    }
+    Ok((changes, best))
+}
+
+/// The same from the work before the identity comes.
+fn followed<R: Clock + AllocGlobal>(
+    rt: &R,
+    there: &Changes,
+    back: &Changes,
+    count: u32,
+) -> Result<(usize, u128)>
+    requires same { arc_value back.now.filters ≡ arc_value there.now.filters }
+    requires numbered { AreNumbered (arc_value there.now.filters) }
+    requires there { HaveSets there.now.sets (arc_value there.now.filters) }
+    requires back { HaveSets back.now.sets (arc_value back.now.filters) }
+    requires comes { Turns ten eleven count there.now }
+    requires goes { Turns eleven ten count back.now }
+{
+    let mut work = first_work(rt.alloc(), &there.filters, count)?;
+    best_of(rt, &mut work, there, back, count)
+}
+
+/// Tells how long that takes, and how long the maps and the works take anew.
+fn tell<R: Clock + Eprint + AllocGlobal>(
+    rt: &R,
+    there: &Changes,
+    back: &Changes,
+    count: u32,
+) -> Result<()>
+    requires same { arc_value back.now.filters ≡ arc_value there.now.filters }
+    requires numbered { AreNumbered (arc_value there.now.filters) }
+    requires there { HaveSets there.now.sets (arc_value there.now.filters) }
+    requires back { HaveSets back.now.sets (arc_value back.now.filters) }
+    requires comes { Turns ten eleven count there.now }
+    requires goes { Turns eleven ten count back.now }
+{
+    let maps = maps_anew(rt, &there.filters, &there.sets)? / 1000;
+    let works = works_anew(rt, &there.filters, count)? / 1000;
+    let (changes, best) = followed(rt, there, back, count)?;
+    let follow = best / 1000;
+    eprintln!(rt;
+        "an identity that {count} filters take comes or goes 256 times, {changes} changes each: {follow} us; from scratch the maps take {maps} us, with rows and tallies {works} us"
+    )?;
+    Ok(())
+}
+
 fn measure<R: Clock + Eprint + AllocGlobal>(rt: &R, count: u32) -> Result<()> {
     let alloc = rt.alloc();
     let given = Arc::new(alloc, filters(alloc, count)?)?;
@@ -75,21 +143,57 @@ fn measure<R: Clock + Eprint + AllocGlobal>(rt: &R, count: u32) -> Result<()> {
         eprintln!(rt; "a peer without a row")?;
         return Ok(());
     }
-    let maps = maps_anew(rt, &there.filters, &there.sets)? / 1000;
-    let works = works_anew(rt, &given, count)? / 1000;
-    let mut work = first_work(alloc, &given, count)?;
-    let mut best = u128::MAX;
+    tell(rt, &there, &back, count)
+}
+
+/// How many changes a filter made that came, and the shortest times in which it came and went, in nanoseconds.
+fn best_of_filter<R: Clock>(
+    rt: &R,
+    work: &mut Work,
+    few: &Changes,
+    many: &Changes,
+    count: u32,
+) -> Result<(usize, u128, u128)>
+    requires at { IsAt ten (arc_value few.now.filters) work.old }
+    requires few { AreNumbered (arc_value few.now.filters) }
+    requires many { AreNumbered (arc_value many.now.filters) }
+    requires extends { Extends (arc_value few.now.filters) (arc_value many.now.filters) }
+    requires have_few { HaveSets few.now.sets (arc_value few.now.filters) }
+    requires have_many { HaveSets many.now.sets (arc_value many.now.filters) }
+    requires back { Turns ten ten count few.now }
+    requires there { Turns ten ten count many.now }
+{
+    let mut coming = u128::MAX;
+    let mut going = u128::MAX;
     let mut changes = 0;
     for _ in 0..ROUNDS {
         let start = Instant::now(rt)?;
-        changes = turns(&mut work, &there, &back, count)?;
-        best = best.min(start.elapsed(rt)?.as_nanos());
+        changes = widen(work, few, many, count)?;
+        coming = coming.min(start.elapsed(rt)?.as_nanos());
+        let start = Instant::now(rt)?;
+        narrow(work, few, many, count)?;
+        going = going.min(start.elapsed(rt)?.as_nanos());
     }
-    let follow = best / 1000;
-    eprintln!(rt;
-        "an identity that {count} filters take comes or goes 256 times, {changes} changes each: {follow} us; from scratch the maps take {maps} us, with rows and tallies {works} us"
-    )?;
-    Ok(())
+    Ok((changes, coming, going))
+}
+
+/// The same from the work of the filters without it.
+fn followed_filter<R: Clock + AllocGlobal>(
+    rt: &R,
+    few: &Changes,
+    many: &Changes,
+    count: u32,
+) -> Result<(usize, u128, u128)>
+    requires few { AreNumbered (arc_value few.now.filters) }
+    requires many { AreNumbered (arc_value many.now.filters) }
+    requires extends { Extends (arc_value few.now.filters) (arc_value many.now.filters) }
+    requires have_few { HaveSets few.now.sets (arc_value few.now.filters) }
+    requires have_many { HaveSets many.now.sets (arc_value many.now.filters) }
+    requires back { Turns ten ten count few.now }
+    requires there { Turns ten ten count many.now }
+{
+    let mut work = first_work(rt.alloc(), &few.filters, count)?;
+    best_of_filter(rt, &mut work, few, many, count)
 }
 
 /// Times how a filter comes and goes beside others: one that allows so many ports, or, where they are none, denies every
@@ -106,18 +210,7 @@ fn measure_filter<R: Clock + Eprint + AllocGlobal>(rt: &R, count: u32, ports: u3
         eprintln!(rt; "a peer without a row")?;
         return Ok(());
     }
-    let mut work = first_work(alloc, &few.filters, count + 1)?;
-    let mut coming = u128::MAX;
-    let mut going = u128::MAX;
-    let mut changes = 0;
-    for _ in 0..ROUNDS {
-        let start = Instant::now(rt)?;
-        changes = widen(&mut work, &few, &many, count + 1)?;
-        coming = coming.min(start.elapsed(rt)?.as_nanos());
-        let start = Instant::now(rt)?;
-        narrow(&mut work, &few, &many, count + 1)?;
-        going = going.min(start.elapsed(rt)?.as_nanos());
-    }
+    let (changes, coming, going) = followed_filter(rt, &few, &many, count + 1)?;
     let (coming, going) = (coming / 1000, going / 1000);
     eprintln!(rt;
         "a filter of {ports} ports (0: one that denies every port) comes beside {count} filters of ten keys: {changes} changes in {coming} us, and goes in {going} us"

@@ -1,5 +1,6 @@
 //! Times the distiller at maps of 1,000, 4,000 and 16,000 entries, and reading them.
 ghost use Rattle.std.specs.Prelude.{◌≤◌, ◌^◌};
+ghost use Rattle.pol_distill.specs.Sorted.{HaveSets};
 
 use crate::filter::{enforced, filter, peer, port};
 use anyhow::Result;
@@ -76,6 +77,51 @@ fn allowed(table: &MapTable, identities: u32) -> u32
     count
 }
 
+/// How many microseconds it took to make the map, in the shortest of all rounds.
+fn making<R: Clock + AllocGlobal>(rt: &R, filters: &Filters, sets: &Sets) -> Result<u128>
+    requires { HaveSets sets.now filters.now }
+{
+    let mut best = u128::MAX;
+    for _ in 0..ROUNDS {
+        let start = Instant::now(rt)?;
+        let _table = distill(rt.alloc(), filters, sets)?;
+        best = best.min(start.elapsed(rt)?.as_nanos() / 1000);
+    }
+    Ok(best)
+}
+
+/// How many nanoseconds a look-up took, and how many packets were allowed.
+fn looking<R: Clock>(rt: &R, table: &MapTable, identities: u32) -> Result<(u128, u32)>
+    requires { 1 ≤ identities }
+{
+    let start = Instant::now(rt)?;
+    let found = allowed(table, identities);
+    let look = start.elapsed(rt)?.as_nanos() / u128::from(LOOK_UPS);
+    Ok((look, found))
+}
+
+/// Both of one map, and how many entries it has.
+fn tell<R: Clock + Eprint + AllocGlobal>(
+    rt: &R,
+    filters: &Filters,
+    sets: &Sets,
+    filter_count: u32,
+    count: u32,
+) -> Result<()>
+    requires some { 1 ≤ count }
+    requires sets { HaveSets sets.now filters.now }
+{
+    let best = making(rt, filters, sets)?;
+    let table = distill(rt.alloc(), filters, sets)?;
+    let (look, found) = looking(rt, &table, count)?;
+    let entries = table.count();
+    drop(table);
+    eprintln!(rt;
+        "{filter_count} filters of {count} identities: {entries} entries, made in {best} us, look {look} ns ({found} allowed)"
+    )?;
+    Ok(())
+}
+
 fn measure<R: Clock + Eprint + AllocGlobal>(rt: &R, filter_count: u32, count: u32) -> Result<()>
     requires some { 1 ≤ count }
     requires few { count ≤ 2 ^ 16 }
@@ -86,21 +132,7 @@ fn measure<R: Clock + Eprint + AllocGlobal>(rt: &R, filter_count: u32, count: u3
         eprintln!(rt; "a peer without a row")?;
         return Ok(());
     }
-    let mut best = u128::MAX;
-    for _ in 0..ROUNDS {
-        let start = Instant::now(rt)?;
-        let _table = distill(rt.alloc(), &given, &rows)?;
-        best = best.min(start.elapsed(rt)?.as_nanos() / 1000);
-    }
-    let table = distill(rt.alloc(), &given, &rows)?;
-    let start = Instant::now(rt)?;
-    let found = allowed(&table, count);
-    let look = start.elapsed(rt)?.as_nanos() / u128::from(LOOK_UPS);
-    let entries = table.count();
-    eprintln!(rt;
-        "{filter_count} filters of {count} identities: {entries} entries, made in {best} us, look {look} ns ({found} allowed)"
-    )?;
-    Ok(())
+    tell(rt, &given, &rows, filter_count, count)
 }
 
 /// Times maps of one filter and of many, and two at the limit of entries.
