@@ -1,12 +1,14 @@
 -- Which images there are while lines are answered.
-use Rattle.std.proofs.Common.{◌≡◌, ◌⊎◌, inl, inr, ⊎_elim, ℕ, ◌≤◌, List, [], ◌∷◌, ◌++◌, length, Option, None, refl, sym, ap, ◌∙◌, subst, arith, append-nil, append_assoc}
+use Rattle.std.proofs.Common.{◌≡◌, ◌⊎◌, inl, inr, ⊎_elim, ℕ, ◌≤◌, List, [], ◌∷◌, ◌++◌, length, Option, None, Result, Ok, Err, refl, sym, ap, ◌∙◌, subst, arith, append-nil, append_assoc}
 use mathlib.Core.List.{IsPrefix}
 use Rattle.pol_disk.specs.Images.{LeavesOnly}
 use Rattle.pol_disk.proofs.Moments.{joined, started, widened}
 use Rattle.pol_history.specs.Commits.{state_now}
 use Rattle.pol_history.specs.Machine.{Machine}
-use Rattle.pol_journal.specs.Journal.{IsJournal, IsJournalOrOneMore}
-use Rattle.pol_kept.specs.Keeps.{IsKept, requests_in}
+use Rattle.pol_journal.specs.Journal.{IsJournal, IsJournalOrOneMore, journal_of}
+use Rattle.pol_kept.specs.Keeps.{HoldsStill, HoldsUnlessFailed, IsKept, requests_in}
+use Rattle.pol_kept.specs.declared.error.OpenError.{OpenError}
+use Rattle.pol_kept.specs.declared.error.OpenError.TheVariants as opened
 use Rattle.pol_kept.proofs.Disks.{kept_images}
 use Rattle.pol_machine.specs.Stands.{Stored, options_in}
 use Rattle.pol_model.specs.Fault.{fault_of}
@@ -17,6 +19,7 @@ use Rattle.pol_run.specs.Spots.{Reading}
 use Rattle.pol_serial_run.specs.Accepted.{accepted_by, unless_fault}
 use Rattle.pol_play_kept.specs.Images.{AllAre, IsJournalOrMore, IsJournalWithin}
 use Rattle.pol_play_kept.specs.Answering.{IsAccepted}
+use Rattle.pol_play_kept.specs.Played.{IsDamaged}
 
 -- ---- beginnings
 
@@ -81,3 +84,21 @@ pub untouched : {D : Type 0} (moment : D → ℕ) (left_since : D → ℕ → Li
     → LeavesOnly moment left_since disk disk (IsJournalWithin options start accepted)
 untouched moment left_since may_leave disk options start accepted only_now were =
     started moment left_since disk (IsJournalWithin options start accepted) (λ c left. none_yet options start accepted c (were c (only_now c left)))
+
+-- nor does the disk change then
+pub still : {D : Type 0} (seen : D → List ℕ) (may_leave : D → List ℕ → Type 0) (moment : D → ℕ) (left_since : D → ℕ → List ℕ → Type 0) (disk : D)
+    → ((c : List ℕ) → left_since disk (moment disk) c → may_leave disk c) → HoldsStill seen may_leave moment left_since disk disk
+still seen may_leave moment left_since disk only_now = record { same = refl; any_moment = started moment left_since disk (may_leave disk) only_now }
+
+-- nor where an opening wanted memory
+pub still_unopened : {D : Type 0} (seen : D → List ℕ) (may_leave : D → List ℕ → Type 0) (moment : D → ℕ) (left_since : D → ℕ → List ℕ → Type 0) (old new : D) (why : OpenError)
+    → why ≡ opened.Memory → HoldsUnlessFailed seen may_leave moment left_since old why new → HoldsStill seen may_leave moment left_since old new
+still_unopened seen may_leave moment left_since old new why is holds =
+    subst (λ (e : OpenError). HoldsUnlessFailed seen may_leave moment left_since old e new) is holds
+
+one_result : (result : Result (List Request) ℕ) (requests : List Request) (gate : ℕ) → result ≡ Ok requests → result ≡ Err gate → ⊥
+one_result result requests gate one other = cc
+
+-- bytes that are damaged are no journal
+pub not_both : (options : Options) (bytes : List ℕ) (requests : List Request) → IsJournal options requests bytes → IsDamaged options bytes → ⊥
+not_both options bytes requests journal damaged = one_result (journal_of options bytes) requests damaged.gate journal damaged.damaged

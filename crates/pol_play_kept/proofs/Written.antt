@@ -4,12 +4,14 @@ use Rattle.std.specs.Io.KnownBytes.{Appends, Keeps}
 use Rattle.pol_model.specs.declared.options.Options.{Options}
 use Rattle.pol_model.specs.declared.request.Request.{Request}
 use Rattle.pol_run.specs.Run.{readings_of}
+use Rattle.pol_serial_run.specs.Accepted.{accepted}
 use Rattle.pol_status.specs.Ends.{is_answered, status_number}
 use Rattle.pol_status.specs.declared.status.Status.{Status}
 use Rattle.pol_status.specs.declared.status.Status.TheVariants.{Clean, Marked, Usage, Read, Write, Memory, TooLong, Disk, Damaged}
 use Rattle.pol_streams.specs.Bytes.{AppendsPart}
-use Rattle.pol_play_kept.specs.Images.{OfScript}
-use Rattle.pol_play_kept.specs.Played.{IsAllowed, IsPlayed, IsWhole, StopsAt}
+use Rattle.pol_play_kept.specs.Images.{AllAre, IsJournalWithin, OfScript}
+use Rattle.pol_play_kept.specs.Played.{IsAllowed, IsPlayed, IsWhole, Plays, StopsAt}
+use Rattle.pol_play_kept.proofs.Kept.{untouched}
 
 -- nothing was written
 pub keeps_same : (known : Option (List ℕ)) → Keeps known known
@@ -57,10 +59,6 @@ module _ (options : Options) (start : List Request) (script : List ℕ) (may_lea
 
 -- ---- scripts that may not be told
 
-pub if_known : (known : Option (List ℕ)) (bytes : List ℕ) (P : List ℕ → Type 0) → IfSome known (λ script. bytes ≡ script) → P bytes → IfSome known P
-if_known None bytes P is holds = tt
-if_known (Some script) bytes P is holds = subst P is holds
-
 pub if_any : {X : Type 0} (known : Option X) (P : X → Type 0) → ((x : X) → P x) → IfSome known P
 if_any None P holds = tt
 if_any (Some x) P holds = holds x
@@ -75,3 +73,25 @@ pub unread : (options : Options) (start : List Request) (script : List ℕ) (may
 unread options start script may_leave known status (inl is) = subst (λ (s : Status). IsPlayed options start script may_leave known known s) (sym is) (keeps_same known)
 unread options start script may_leave known status (inr (inl is)) = subst (λ (s : Status). IsPlayed options start script may_leave known known s) (sym is) (keeps_same known)
 unread options start script may_leave known status (inr (inr is)) = subst (λ (s : Status). IsPlayed options start script may_leave known known s) (sym is) (keeps_same known)
+
+-- ---- a script over a disk
+
+module _ {D : Type 0} (moment : D → ℕ) (left_since : D → ℕ → List ℕ → Type 0) (may_leave : D → List ℕ → Type 0) where
+  -- what is played with some options is played with the same ones
+  pub plays_as : (options same : Options) (script : List ℕ) (old_disk new_disk : D) (old new : Option (List ℕ)) (status : Status) → options ≡ same
+      → ((start : List Request) → AllAre options start (may_leave old_disk) → Plays moment left_since may_leave options start script old_disk new_disk old new status)
+      → (start : List Request) → AllAre same start (may_leave old_disk) → Plays moment left_since may_leave same start script old_disk new_disk old new status
+  plays_as options same script old_disk new_disk old new status are plays =
+      subst (λ (o : Options). (start : List Request) → AllAre o start (may_leave old_disk) → Plays moment left_since may_leave o start script old_disk new_disk old new status) are plays
+
+  -- the script wasn't read, and no call of the disk was made
+  pub unplayed : (left : Option (List ℕ)) (options : Options) (start : List Request) (disk : D) (known : Option (List ℕ)) (status : Status)
+      → ((c : List ℕ) → left_since disk (moment disk) c → may_leave disk c) → AllAre options start (may_leave disk)
+      → (status ≡ Read) ⊎ ((status ≡ TooLong) ⊎ (status ≡ Memory))
+      → OfScript left (λ script. Plays moment left_since may_leave options start script disk disk known known status)
+  unplayed left options start disk known status only_now were is =
+      of_any left (λ (script : List ℕ). Plays moment left_since may_leave options start script disk disk known known status)
+      (λ script. record {
+        played = unread options start script (may_leave disk) known status is;
+        any_moment = untouched moment left_since may_leave disk options start (accepted options start (readings_of script)) only_now were;
+      })

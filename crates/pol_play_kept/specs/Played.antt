@@ -3,6 +3,7 @@ use Rattle.std.specs.Prelude.{◌≡◌, ⊤, ◌⊎◌, ℕ, List, [], ◌∷�
 use Rattle.std.specs.Io.KnownBytes.{Appends, Keeps}
 use Rattle.pol_answer.specs.Text.{texts_of}
 use Rattle.pol_answer.specs.declared.answer.Answer.{Answer}
+use Rattle.pol_disk.specs.Images.{LeavesOnly}
 use Rattle.pol_journal.specs.Journal.{IsJournalOrOneMore, journal_of}
 use Rattle.pol_kept.specs.Keeps.{HoldsStill}
 use Rattle.pol_machine.specs.Serial.{machine_of}
@@ -17,7 +18,7 @@ use Rattle.pol_serial_run.specs.SerialRun.{IsSerial, machine_after_lines}
 use Rattle.pol_status.specs.declared.status.Status.{Status}
 use Rattle.pol_status.specs.declared.status.Status.TheVariants.{Clean, Marked, Usage, Read, Write, Memory, TooLong, Disk, Damaged}
 use Rattle.pol_streams.specs.Bytes.{AppendsPart}
-use Rattle.pol_play_kept.specs.Images.{AllAre}
+use Rattle.pol_play_kept.specs.Images.{AllAre, IsJournalWithin}
 use Rattle.pol_play_kept.specs.Answering.{IsAccepted}
 use Rattle.pol_play_kept.specs.declared.script.ScriptError.{ScriptError}
 use Rattle.pol_play_kept.specs.declared.script.ScriptError.TheVariants as error
@@ -114,3 +115,9 @@ IsPlayed options start script may_leave old new TooLong = Keeps old new
 IsPlayed options start script may_leave old new Disk =
     WritesNothing options start may_leave old new ⊎ WritesBefore options start script may_leave old new
 IsPlayed options start script may_leave old new Damaged = Keeps old new
+
+-- That, and at each moment since then an image was a journal of these requests and of a beginning of those that the script accepts.
+pub record Plays {D : Type 0} (moment : D → ℕ) (left_since : D → ℕ → List ℕ → Type 0) (may_leave : D → List ℕ → Type 0) (options : Options) (start : List Request)
+    (script : List ℕ) (old_disk new_disk : D) (old new : Option (List ℕ)) (status : Status) : Type 0 where
+  pub played : IsPlayed options start script (may_leave new_disk) old new status
+  pub any_moment : LeavesOnly moment left_since old_disk new_disk (IsJournalWithin options start (accepted options start (readings_of script)))

@@ -1,14 +1,11 @@
 //! Words, a source and a sink.
 ghost use Rattle.std.specs.Prelude.{◌≡◌, ◌≤◌, ◌⊎◌, List, IfSome, IsSomeAnd, IsTrue, None, false, if◌then◌else◌, map, string_bytes, true};
 ghost use Rattle.std.specs.Io.KnownBytes.{Appends, IsAtEnd, Keeps};
-ghost use Rattle.pol_disk.specs.Images.{LeavesOnly};
 ghost use Rattle.pol_kept.specs.Keeps.{HoldsStill, options_of};
 ghost use Rattle.pol_model.specs.declared.request.Request.{Request as AnyRequest};
-ghost use Rattle.pol_play_kept.specs.Images.{AllAre, IsJournalWithin, OfScript};
-ghost use Rattle.pol_play_kept.specs.Played.{IsDamaged, IsPlayed, IsSomeJournal};
+ghost use Rattle.pol_play_kept.specs.Images.{AllAre, OfScript};
+ghost use Rattle.pol_play_kept.specs.Played.{IsDamaged, IsSomeJournal, Plays};
 ghost use Rattle.pol_play_kept.specs.Words.{playing, plays_with};
-ghost use Rattle.pol_run.specs.Run.{readings_of};
-ghost use Rattle.pol_serial_run.specs.Accepted.{accepted};
 ghost use Rattle.pol_status.specs.Ends.{has_opened, has_read_all, is_answered, is_silent, status_number};
 ghost use Rattle.pol_status.specs.Limits.{fits_limits, is_too_long};
 ghost use Rattle.pol_streams.specs.Faults.{DidNotRise, Rose};
@@ -88,10 +85,8 @@ fn play_bytes<K: Sink, D: Disk>(
 
     // Where each image was a journal of the same requests.
     ensures played { (start : List AnyRequest) → AllAre options start (D.may_leave disk.old)
-        → IsPlayed options start script.now (D.may_leave disk.new) (K.written sink.old) (K.written sink.new) result }
-    ensures any_moment { (start : List AnyRequest)
-        → AllAre options start (D.may_leave disk.old) → LeavesOnly D.moment D.left_since disk.old disk.new
-        (IsJournalWithin options start (accepted options start (readings_of script.now))) }
+        → Plays D.moment D.left_since D.may_leave options start script.now disk.old disk.new
+        (K.written sink.old) (K.written sink.new) result }
 
     // Causes.
     ensures causes { (IsTrue (is_answered result) ⊎ (result ≡ Status.Write))
@@ -102,6 +97,8 @@ fn play_bytes<K: Sink, D: Disk>(
     ensures journal { IsTrue (has_opened result) → IsSomeJournal options (D.seen disk.old) }
     ensures silent { IsTrue (is_silent result) → Keeps (K.written sink.old) (K.written sink.new) }
     ensures damaged_stays { result ≡ Status.Damaged
+        → HoldsStill D.seen D.may_leave D.moment D.left_since disk.old disk.new }
+    ensures memory_stays { result ≡ Status.Memory → IsDamaged options (D.seen disk.old)
         → HoldsStill D.seen D.may_leave D.moment D.left_since disk.old disk.new }
     ensures never_falls { D.faults disk.old ≤ D.faults disk.new }
 {
@@ -125,12 +122,10 @@ fn play_source<S: Source, K: Sink, D: Disk>(
     requires limit { IsSomeAnd options.map_max (λ limit. limit ≤ 65536) }
 
     // Where each image was a journal of the same requests.
-    ensures played { (start : List AnyRequest)
-        → AllAre options start (D.may_leave disk.old) → IfSome (S.left source.old) (λ script.
-        IsPlayed options start script (D.may_leave disk.new) (K.written sink.old) (K.written sink.new) result) }
-    ensures any_moment { (start : List AnyRequest) → AllAre options start (D.may_leave disk.old)
-        → OfScript (S.left source.old) (λ script. LeavesOnly D.moment D.left_since disk.old disk.new
-        (IsJournalWithin options start (accepted options start (readings_of script)))) }
+    ensures played { (start : List AnyRequest) → AllAre options start (D.may_leave disk.old)
+        → OfScript (S.left source.old) (λ script.
+        Plays D.moment D.left_since D.may_leave options start script disk.old disk.new
+        (K.written sink.old) (K.written sink.new) result) }
 
     // Causes.
     ensures no_usage { result ≡ Status.Usage → ⊥ }
@@ -149,6 +144,8 @@ fn play_source<S: Source, K: Sink, D: Disk>(
     ensures untouched { (result ≡ Status.Read) ⊎ (result ≡ Status.TooLong) → disk.new ≡ disk.old }
     ensures damaged_stays { result ≡ Status.Damaged
         → HoldsStill D.seen D.may_leave D.moment D.left_since disk.old disk.new }
+    ensures memory_stays { result ≡ Status.Memory → IsDamaged options (D.seen disk.old)
+        → HoldsStill D.seen D.may_leave D.moment D.left_since disk.old disk.new }
     ensures never_falls { D.faults disk.old ≤ D.faults disk.new }
 {
     match read_script_bytes(alloc, source) {
@@ -163,9 +160,9 @@ fn play_source<S: Source, K: Sink, D: Disk>(
 ///
 /// Words that don't fit are status `Usage`, and nothing is read then. The whole source is read before the disk is opened (`Read`,
 /// `TooLong`), and each accepted request is on the disk before anything is written. `Damaged` comes exactly where the bytes on the disk
-/// aren't a journal, if no call of the disk failed before that was known. `Disk` comes only where a call of the disk failed: then the
-/// answers to the lines before are written. A write that fails after that is `Write`. Want of memory may come at any point before the
-/// first write.
+/// aren't a journal, want of memory aside, if no call of the disk failed before that was known. `Disk` comes only where a call of the
+/// disk failed: then the answers to the lines before are written. A write that fails after that is `Write`. Want of memory may come at
+/// any point before the first write; bytes that aren't a journal stay as they are then too.
 pub fn play_kept<S: Source, K: Sink, D: Disk>(
     alloc: Global,
     words: &[String],
@@ -174,14 +171,12 @@ pub fn play_kept<S: Source, K: Sink, D: Disk>(
     disk: &mut D,
 ) -> Status
     // Where each image that a crash might leave was a journal of the same requests: what was written and what a crash may leave, by the
-    // status, and at every moment. The moments speak of the script that was read, also where the source doesn't tell its bytes.
+    // status, and at every moment. This speaks of the script that was read, also where the source doesn't tell its bytes.
     ensures played { IfSome (plays_with (map string_bytes words.now)) (λ options.
-        (start : List AnyRequest) → AllAre options start (D.may_leave disk.old) → IfSome (S.left source.old) (λ script.
-        IsPlayed options start script (D.may_leave disk.new) (K.written sink.old) (K.written sink.new) result)) }
-    ensures any_moment { IfSome (plays_with (map string_bytes words.now)) (λ options.
         (start : List AnyRequest) → AllAre options start (D.may_leave disk.old)
-        → OfScript (S.left source.old) (λ script. LeavesOnly D.moment D.left_since disk.old disk.new
-        (IsJournalWithin options start (accepted options start (readings_of script))))) }
+        → OfScript (S.left source.old) (λ script.
+        Plays D.moment D.left_since D.may_leave options start script disk.old disk.new
+        (K.written sink.old) (K.written sink.new) result)) }
 
     // Causes.
     ensures usage { result ≡ Status.Usage → plays_with (map string_bytes words.now) ≡ None }
@@ -213,6 +208,8 @@ pub fn play_kept<S: Source, K: Sink, D: Disk>(
     ensures misfit_untouched { plays_with (map string_bytes words.now) ≡ None → disk.new ≡ disk.old }
     ensures damaged_stays { result ≡ Status.Damaged
         → HoldsStill D.seen D.may_leave D.moment D.left_since disk.old disk.new }
+    ensures memory_stays { result ≡ Status.Memory → IfSome (plays_with (map string_bytes words.now)) (λ options.
+        IsDamaged options (D.seen disk.old) → HoldsStill D.seen D.may_leave D.moment D.left_since disk.old disk.new) }
     ensures never_falls { D.faults disk.old ≤ D.faults disk.new }
 {
     match read_words(alloc, words) {

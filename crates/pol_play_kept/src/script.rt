@@ -1,13 +1,13 @@
 //! A script over a disk.
 ghost use Rattle.std.specs.Prelude.{◌≡◌, ◌+◌, ◌≤◌, List, IfErr, IfOk, IsErrOf, IsTrue, OnOk, false, true, if◌then◌else◌};
 ghost use Rattle.pol_disk.specs.Images.{LeavesOnly};
-ghost use Rattle.pol_kept.specs.Keeps.{IsKept, options_of, requests_in};
+ghost use Rattle.pol_kept.specs.Keeps.{HoldsStill, IsKept, options_of, requests_in};
 ghost use Rattle.pol_machine.specs.Serial.{machine_of};
 ghost use Rattle.pol_machine.specs.Stands.{Stands, options_in};
 ghost use Rattle.pol_model.specs.declared.request.Request.{Request as AnyRequest};
 ghost use Rattle.pol_play_kept.specs.Calls.{RunsFor, StopsAtCall, StopsInOpening, StopsOnceOpened, calls_to_keep, calls_to_open};
 ghost use Rattle.pol_play_kept.specs.Images.{AllAre, IsJournalWithin};
-ghost use Rattle.pol_play_kept.specs.Played.{HoldsAtGate, IsSomeJournal, IsWhole, StopsAt, TellsGate};
+ghost use Rattle.pol_play_kept.specs.Played.{HoldsAtGate, IsDamaged, IsSomeJournal, IsWhole, StopsAt, TellsGate};
 ghost use Rattle.pol_run.specs.Run.{readings_of};
 ghost use Rattle.pol_serial_run.specs.Accepted.{accepted};
 ghost use Rattle.pol_status.specs.Limits.{fits_limits};
@@ -102,8 +102,9 @@ fn play_opened<L: Ledger, D: Disk>(
 /// The journal on the disk is opened, and the lines of a script are answered in order after its requests: what is accepted is kept
 /// before it is told ('profile'). Where a call of the disk fails, the lines before are told.
 ///
-/// `Damaged` comes exactly where the bytes aren't a journal, if no call of the disk failed before that was known. `Disk` comes only at a
-/// fault of the disk, and so does a text that is `lost`. `Memory` is want of memory.
+/// `Damaged` comes exactly where the bytes aren't a journal, want of memory aside, if no call of the disk failed before that was known.
+/// `Disk` comes only at a fault of the disk, and so does a text that is `lost`. `Memory` is want of memory; bytes that aren't a journal
+/// stay as they are then too.
 pub fn play_script<D: Disk>(
     alloc: Global,
     disk: &mut D,
@@ -141,6 +142,8 @@ pub fn play_script<D: Disk>(
     ensures damaged { IfErr result (TellsGate (options_of config) (D.seen disk.old)) }
     ensures damaged_stays { IfErr result (λ why.
         HoldsAtGate D.seen D.may_leave D.moment D.left_since disk.old why disk.new) }
+    ensures memory_stays { IsErrOf result ScriptError.Memory → IsDamaged (options_of config) (D.seen disk.old)
+        → HoldsStill D.seen D.may_leave D.moment D.left_since disk.old disk.new }
 
     // The disk's faults.
     ensures failed { IsErrOf result ScriptError.Disk → Rose (D.faults disk.old) (D.faults disk.new) }

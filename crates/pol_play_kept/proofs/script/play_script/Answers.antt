@@ -12,6 +12,7 @@ use Rattle.pol_serial_run.specs.Accepted.{accepted}
 use Rattle.pol_play_kept.specs.Calls.{RunsFor, StopsAtCall, calls_to_keep, calls_to_open}
 use Rattle.pol_play_kept.specs.Images.{IsJournalWithin}
 use Rattle.pol_play_kept.specs.Played.{IsWhole, StopsAt}
+use Rattle.pol_play_kept.proofs.Kept.{not_both, still_unopened}
 use Rattle.pol_play_kept.proofs.Counted.{fails_to_open, opens_for, runs_more}
 use Rattle.pol_play_kept.proofs.Opened.{as_opened, opened_requests, opening_leaves, opening_moments}
 use Rattle.pol_play_kept.proofs.script.play_script.Goals as goal
@@ -124,3 +125,12 @@ pub returns-in-Err-Disk-clause-stops_opening : goal.returns-in-Err-Disk-clause-s
 returns-in-Err-Disk-clause-stops_opening g c is =
     let d = g.D.Disk in
     fails_to_open d.does d.fails d.seen c.args.disk.now c.open_over.new.disk _ c.in-Err-Disk.field-0-is c.in-Err-Disk.ensures.stops
+
+pub returns-in-Err-clause-memory_stays : goal.returns-in-Err-clause-memory_stays
+returns-in-Err-clause-memory_stays g c is damaged =
+    absurd (not_both (options_of c.args.config) (g.D.Disk.seen c.args.disk.now) (requests_in c.in-Ok.machine) c.in-Ok.ensures.journal damaged)
+
+pub returns-in-Err-Memory-clause-memory_stays : goal.returns-in-Err-Memory-clause-memory_stays
+returns-in-Err-Memory-clause-memory_stays g c is damaged =
+    let d = g.D.Disk in
+    still_unopened d.seen d.may_leave d.moment d.left_since c.args.disk.now c.open_over.new.disk _ c.in-Err-Memory.field-0-is c.in-Err-Memory.ensures.stays
