@@ -1,5 +1,5 @@
 -- How a run ends.
-use Rattle.std.specs.Prelude.{ℕ, Bool, true, false, List, codes, Option, None, Some}
+use Rattle.std.specs.Prelude.{ℕ, Bool, true, false, List, [], ◌∷◌, codes, Option, None, Some}
 use Rattle.std.specs.declared.io.ErrorKind.{ErrorKind}
 use Rattle.std.specs.declared.io.ErrorKind.TheVariants.{OutOfMemory}
 use Rattle.policyd.specs.declared.status.Status.{Status}
@@ -59,3 +59,7 @@ has_read_all Read = false
 has_read_all Write = true
 has_read_all Memory = false
 has_read_all TooLong = false
+
+-- all statuses, by their numbers
+abbrev pub statuses : List Status
+statuses = Clean ∷ Marked ∷ Usage ∷ Read ∷ Write ∷ Memory ∷ TooLong ∷ []

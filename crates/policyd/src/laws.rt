@@ -1,4 +1,4 @@
-//! What lacks a condition of what the program promises. Each function does nothing: its contract is the law.
+//! What lacks a condition of what the program promises, and what its statuses tell. Each function does nothing: its contract is the law.
 ghost use Rattle.std.specs.Prelude.{◌≡◌, ℕ, List, Option, [], ◌∷◌, codes, false, map, None, Some, true};
 ghost use Rattle.std.specs.Io.KnownBytes.{Appends};
 ghost use Rattle.pol_answer.specs.Text.{texts_of};
@@ -8,6 +8,7 @@ ghost use Rattle.pol_history.specs.ExampleEvents.{add_web, commit, open_map, pub
 ghost use Rattle.pol_map_dump.specs.AtEnd.{is_live};
 ghost use Rattle.pol_model.specs.declared.options.Options.{Options as AllOptions};
 ghost use Rattle.pol_streams.specs.Bytes.{AppendsPart};
+ghost use Rattle.policyd.specs.Ends.{has_read_all, is_answered, is_silent, status_number, statuses};
 ghost use Rattle.policyd.specs.Headline.{HoldsText, LeavesHistory, LeavesRounds, WritesDrill, WritesFinding, WritesMap, WritesPartOfDrill};
 
 /// A run of a script without lines leaves nothing: no history with a commit, or with a map of an endpoint that isn't there, no text,
@@ -40,4 +41,13 @@ pub(crate) fn statuses_are_told()
         → WritesDrill options 3 old new script status → (status ≡ 0) × Appends old new (codes "restart 0\n") }
     ensures part_not_opened { (options : AllOptions) (old new : Option (List ℕ)) (script : List ℕ)
         → WritesPartOfDrill options 3 old new script → AppendsPart old new (codes "restart 0\n") }
+{}
+
+/// What is told of each status: its number; at which all answers were written and at which nothing was; and at which the script was
+/// read whole ('profile').
+pub(crate) fn statuses_tell_ends()
+    ensures numbers { map status_number statuses ≡ 0 ∷ 1 ∷ 2 ∷ 3 ∷ 4 ∷ 5 ∷ 6 ∷ [] }
+    ensures answered { map is_answered statuses ≡ true ∷ true ∷ false ∷ false ∷ false ∷ false ∷ false ∷ [] }
+    ensures silent { map is_silent statuses ≡ false ∷ false ∷ true ∷ true ∷ false ∷ true ∷ true ∷ [] }
+    ensures read { map has_read_all statuses ≡ true ∷ true ∷ false ∷ false ∷ true ∷ false ∷ false ∷ [] }
 {}
