@@ -149,7 +149,16 @@ module _ (options : Options) (start : List Request) (script : List ℕ) (may_lea
     serial = serial;
     as_many = ok_as_many options (machine_of options start) 1 cut.before cut.answers serial;
     rest = take cut.part.count (text_of cut.told);
-    cut = inr (record { told = cut.told; count = cut.part.count; not_all = cut.part.not_all; is = refl });
+    cut = inr (record {
+      reading = cut.reading;
+      behind = cut.later;
+      next = refl;
+      told = cut.told;
+      serial = cut.serial;
+      count = cut.part.count;
+      not_all = cut.part.not_all;
+      is = refl;
+    });
     written = appends_more old cut.whole_lines new (texts_of cut.answers) (take cut.part.count (text_of cut.told)) cut.written cut.part.appended;
     there = λ c left.
         and_next cut.before cut.reading cut.later cut.split c

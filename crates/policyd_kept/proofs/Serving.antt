@@ -103,6 +103,16 @@ told_phase phase (answer.Traced revision trace) = omega arith
 told_phase phase (answer.BadLine fault) = omega arith
 told_phase phase (answer.Refused refused) = omega arith
 
+-- counts of lines, none of which is over the most that there may be
+one_more : (n after : ℕ) → n ≤ 1000000 → (n ≡ 1000000 → ⊥) → after ≡ n + 1 → after ≤ 1000000
+one_more n after few not_full more = omega (arith, few, not_full, more)
+
+as_many : (n after : ℕ) → n ≤ 1000000 → after ≡ n → after ≤ 1000000
+as_many n after few same = omega (arith, few, same)
+
+none_yet : (n : ℕ) → n ≡ 0 → n ≤ 1000000
+none_yet n none = omega (arith, none)
+
 pub ready_more : {D : Type 0} (seen : D → List ℕ) (may_leave : D → List ℕ → Type 0) (course : Course) (disk : D) (s : Stored) → IsReady seen may_leave course disk s
     → (told : Answer) (after : Course) (new : D) (t : Stored) → IsKept seen may_leave new t → (course.lines ≡ 1000000 → ⊥) → after.phase ≡ phase_told course.phase told
     → after.lines ≡ course.lines + 1 → after.begun.items ≡ [] → IsReady seen may_leave after new t
@@ -111,7 +121,7 @@ ready_more seen may_leave course disk s ready told after new t kept not_full pha
     record {
       kept = kept;
       phases = omega (arith, ready.phases, one, phase, lines);
-      lines = omega (arith, ready.lines, not_full, lines);
+      lines = one_more course.lines after.lines ready.lines not_full lines;
       one_line = subst (λ (bytes : List ℕ). IsTrue (is_one_line bytes)) (sym begun) refl;
     }
 
@@ -122,7 +132,7 @@ pub ready_on : {D : Type 0} (seen : D → List ℕ) (may_leave : D → List ℕ 
 ready_on seen may_leave course disk s ready bytes one after phase lines begun = record {
   kept = ready.kept;
   phases = omega (arith, ready.phases, phase, lines);
-  lines = omega (arith, ready.lines, lines);
+  lines = as_many course.lines after.lines ready.lines lines;
   one_line = subst (λ (b : List ℕ). IsTrue (is_one_line b)) (sym begun) (one_line_both course.begun.items bytes ready.one_line one);
 }
 
@@ -132,7 +142,7 @@ pub ready_first : {D : Type 0} (seen : D → List ℕ) (may_leave : D → List �
 ready_first seen may_leave course disk s kept first = record {
   kept = kept;
   phases = omega (arith, first.phase, first.lines);
-  lines = omega (arith, first.lines);
+  lines = none_yet course.lines first.lines;
   one_line = subst (λ (bytes : List ℕ). IsTrue (is_one_line bytes)) (sym first.begun) refl;
 }
 

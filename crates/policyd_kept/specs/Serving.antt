@@ -17,6 +17,7 @@ use Rattle.pol_script.specs.Lines.{is_one_line, lines_of}
 use Rattle.pol_script.specs.Reading.{reading_of}
 use Rattle.pol_serial_run.specs.Accepted.{accepted}
 use Rattle.pol_serial_run.specs.SerialRun.{IsSerial, machine_after_lines, phase_after_lines}
+use Rattle.pol_status.specs.Limits.{lines_max}
 use Rattle.pol_status.specs.declared.status.Status.{Status}
 use Rattle.pol_status.specs.declared.status.Status.TheVariants.{Write, Memory, TooLong, Disk}
 use Rattle.policyd_kept.specs.Served.{Serves}
@@ -58,7 +59,7 @@ module _ {D : Type 0} (moment : D → ℕ) (left_since : D → ℕ → List ℕ 
 pub record IsReady {D : Type 0} (seen : D → List ℕ) (may_leave : D → List ℕ → Type 0) (course : Course) (disk : D) (s : Stored) : Type 0 where
   pub kept : IsKept seen may_leave disk s
   pub phases : course.phase ≤ course.lines + 1
-  pub lines : course.lines ≤ 1000000
+  pub lines : course.lines ≤ lines_max
   pub one_line : IsTrue (is_one_line course.begun.items)
 
 -- why lines aren't answered on

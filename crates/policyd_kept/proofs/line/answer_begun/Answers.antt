@@ -1,4 +1,4 @@
-use Rattle.std.proofs.Common.{ℕ, List, map, Ok, Err, ap, subst, arith, rules}
+use Rattle.std.proofs.Common.{ℕ, ◌≤◌, List, map, Ok, Err, ap, subst, arith, rules}
 use Rattle.pol_machine.specs.Serial.{machine_of}
 use Rattle.pol_play_kept.specs.Answering.{PlaysLine}
 use Rattle.pol_script.specs.Reading.{reading_of}
@@ -14,10 +14,12 @@ returns-then-is_full-clause-serves g c story rest behind cut serving =
     c.args.course.now.begun.items behind cut (search rules)
 
 pub write_answer-requires-clause-phase : goal.write_answer-requires-clause-phase
-write_answer-requires-clause-phase g c = omega (arith, c.requires.ready.phases, c.requires.ready.lines)
+write_answer-requires-clause-phase g c =
+    let few : c.args.course.now.lines ≤ 1000000 = c.requires.ready.lines in omega (arith, c.requires.ready.phases, few)
 
 pub write_answer-requires-clause-lines : goal.write_answer-requires-clause-lines
-write_answer-requires-clause-lines g c = omega (arith, c.requires.ready.lines)
+write_answer-requires-clause-lines g c =
+    let few : c.args.course.now.lines ≤ 1000000 = c.requires.ready.lines in omega (arith, few)
 
 pub returns-in-Ok-write_answer-clause-ready : goal.returns-in-Ok-write_answer-clause-ready
 returns-in-Ok-write_answer-clause-ready g c =
