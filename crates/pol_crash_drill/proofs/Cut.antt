@@ -4,7 +4,7 @@ use Rattle.std.specs.List.{list_any}
 use Rattle.std.proofs.lemmas.Bool.{lt-ltb}
 use Rattle.std.proofs.lemmas.Bool.Decides.{nat_tests}
 use Rattle.pol_answer.specs.declared.answer.Answer.{Answer}
-use Rattle.pol_disk.specs.Calls.{Asked, Runs}
+use Rattle.pol_disk.specs.Calls.{Asked, Runs, StopsIn}
 use Rattle.pol_disk.specs.Images.{Only}
 use Rattle.pol_disk.specs.MemDisk.{DiskState, Does, Fails, bytes_in}
 use Rattle.pol_disk.specs.Record.{IsImage, held, kept_bytes}
@@ -31,7 +31,7 @@ use Rattle.pol_run.specs.Spots.{Reading}
 use Rattle.pol_serial_run.specs.Accepted.{accepted, accepted_by, accepted_from}
 use Rattle.pol_serial_run.specs.SerialRun.{IsSerial, machine_after_lines, machine_then}
 use Rattle.pol_serial_run.proofs.Going.{accepted_both, commits_after}
-use Rattle.pol_play_kept.specs.Calls.{RunsFor, StopsAtCall, StopsInOpening, StopsOnceOpened, calls_to_keep, calls_to_open}
+use Rattle.pol_play_kept.specs.Calls.{RunsFor, StopsAtCall, StopsOnceOpened, calls_to_keep, calls_to_open}
 use Rattle.pol_play_kept.specs.Images.{AllAre}
 use Rattle.pol_play_kept.specs.Played.{IsWhole}
 use Rattle.pol_play_kept.proofs.Kept.{accepts_one}
@@ -120,10 +120,10 @@ module _ (options : Options) (call : ℕ) (first : 1 ≤ call) (few : call < 2 ^
   old = empty_disk call
 
   -- a call failed while the journal was opened
-  pub cut_in_opening : StopsInOpening Does Fails bytes_in old new → AllAre options [] (IsImage (held new.past)) → new.calls ≡ call
+  pub cut_in_opening : StopsIn Does Fails old (calls_of_open (bytes_in old)) new → AllAre options [] (IsImage (held new.past)) → new.calls ≡ call
       → IsCut options call readings new.past [] false
   cut_in_opening stops are counted =
-      let has = has_failed call few (calls_of_open [] stops.end) old new refl (omega (arith, first)) stops.stops in
+      let has = has_failed call few (calls_of_open []) old new refl (omega (arith, first)) stops in
       let inside : has.place < 3 = has.inside in
       let last : new.calls ≡ 0 + has.place + 1 = has.counted in
       let early : call ≤ 3 = omega (arith, last, counted, inside) in
@@ -180,7 +180,7 @@ module _ (options : Options) (call : ℕ) (first : 1 ≤ call) (few : call < 2 ^
     one = accepts_one options m stops.at.reading stops.at.line
 
     opened : HasMade call 3 old opening.disk
-    opened = has_made call few (calls_of_open [] (length (bytes_in opening.disk))) old opening.disk refl (omega (arith, first)) opening.opened
+    opened = has_made call few (calls_of_open []) old opening.disk refl (omega (arith, first)) opening.opened
 
     played : HasMade call (length stops.ran.calls) opening.disk stops.disk
     played = has_made call few stops.ran.calls opening.disk stops.disk opened.from opened.below stops.ran.ran

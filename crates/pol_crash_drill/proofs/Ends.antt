@@ -1,14 +1,16 @@
 -- How a drill ends.
 use Rattle.std.proofs.Common.{◌≡◌, ◌⊎◌, inl, inr, ℕ, ◌+◌, ◌^◌, ◌<◌, ◌≤◌, Bool, true, false, if◌then◌else◌, List, [], ◌++◌, length, Result, Ok, Err, refl, sym, ap, ◌∙◌, subst}
+use Rattle.pol_disk.specs.Calls.{StopsIn}
 use Rattle.pol_disk.specs.MemDisk.{DiskState, Does, Fails, bytes_in}
 use Rattle.pol_disk.specs.Record.{IsImage, held}
 use Rattle.pol_disk.specs.declared.call.DiskCall.{DiskCall}
 use Rattle.pol_journal.specs.Journal.{IsJournal, journal_of}
+use Rattle.pol_kept.specs.Calls.{calls_of_open}
 use Rattle.pol_model.specs.declared.options.Options.{Options}
 use Rattle.pol_model.specs.declared.request.Request.{Request}
 use Rattle.pol_run.specs.Spots.{Reading}
 use Rattle.pol_serial_run.specs.Accepted.{accepted}
-use Rattle.pol_play_kept.specs.Calls.{RunsFor, StopsInOpening, StopsOnceOpened, calls_to_keep, calls_to_open}
+use Rattle.pol_play_kept.specs.Calls.{RunsFor, StopsOnceOpened, calls_to_keep, calls_to_open}
 use Rattle.pol_play_kept.specs.Images.{AllAre}
 use Rattle.pol_play_kept.specs.Played.{IsWhole}
 use Rattle.pol_crash_drill.specs.Crashed.{IsCut, empty_disk, left_by_crash}
@@ -34,10 +36,10 @@ module _ (options : Options) (call : ℕ) (first : 1 ≤ call) (few : call < 2 ^
   pub not_damaged : (at : ℕ) → journal_of options (bytes_in old) ≡ Err at → ⊥
   not_damaged at damaged = one_journal (journal_of options (bytes_in old)) at [] (subst (λ (d : DiskState). IsJournal options [] (bytes_in d)) (sym empty) refl) damaged
 
-  pub ends_in_opening : StopsInOpening Does Fails bytes_in old new → AllAre options [] (IsImage (held new.past)) → new.calls ≡ call
+  pub ends_in_opening : StopsIn Does Fails old (calls_of_open (bytes_in old)) new → AllAre options [] (IsImage (held new.past)) → new.calls ≡ call
       → IsCut options call readings new.past [] false
   ends_in_opening stops are counted =
-      cut_in_opening options call first few readings new (subst (λ (d : DiskState). StopsInOpening Does Fails bytes_in d new) empty stops) are counted
+      cut_in_opening options call first few readings new (subst (λ (d : DiskState). StopsIn Does Fails d (calls_of_open (bytes_in d)) new) empty stops) are counted
 
   pub ends_told : (text : List ℕ) (marked lost : Bool)
       → (lost ≡ false → IsWhole options [] readings (IsImage (held new.past)) text (if marked then 1 else 0))

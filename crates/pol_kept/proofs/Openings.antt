@@ -1,5 +1,5 @@
 -- What opening finds, for a machine before its first step.
-use Rattle.std.proofs.Common.{◌≡◌, ⊎_elim, ◌<◌, ◌≤◌, ◌+◌, ℕ, nat_le, Bool, true, if◌then◌else◌, List, [], ◌∷◌, length, take, slice_index, Ok, refl, sym, ap, ◌∙◌, subst, arith}
+use Rattle.std.proofs.Common.{◌≡◌, ⊎_elim, ◌<◌, ◌≤◌, ◌+◌, ℕ, nat_le, Bool, true, false, if◌then◌else◌, List, [], ◌∷◌, length, take, slice_index, Ok, refl, sym, ap, ◌∙◌, subst, arith}
 use Rattle.std.proofs.lemmas.Bool.Decides.{nat_tests}
 use Rattle.pol_disk.specs.Images.{CutShort, LeavesOnly, Only}
 use Rattle.pol_disk.proofs.Moments.{joined, started, widened}
@@ -9,18 +9,26 @@ use Rattle.pol_kept.specs.Keeps.{HoldsStill, HoldsUnlessFailed, IsKept, IsOpened
 use Rattle.pol_kept.specs.declared.error.OpenError.{OpenError}
 use Rattle.pol_kept.specs.declared.error.OpenError.TheVariants as opened
 use Rattle.pol_kept.proofs.Disks.{on_disk}
-use Rattle.pol_kept.proofs.Records.{closed_kept, ended, kept_journal}
+use Rattle.pol_kept.proofs.Records.{closed_kept, ended, ends_here, kept_journal}
 use Rattle.pol_machine.specs.Serial.{machine_of}
 use Rattle.pol_machine.specs.Stands.{Stands, Stored, options_in}
 use Rattle.pol_model.specs.After.{start}
 use Rattle.pol_model.specs.declared.options.Options.{Options}
 use Rattle.pol_model.specs.declared.request.Request.{Request}
-use Rattle.pol_record_log.specs.Log.{AreRecords, requests_in as log_requests}
-use Rattle.pol_record_log.specs.Steps.{IsOnDisk}
+use Rattle.pol_record_log.specs.Log.{AreRecords, last_gate, requests_in as log_requests}
+use Rattle.pol_record_log.specs.Steps.{IsOnDisk, cut_to_log}
 
 short_journal : (options : Options) (bytes : List ℕ) → length bytes ≤ 1 → journal_of options bytes ≡ Ok []
 short_journal options bytes short =
     ap (λ (b : Bool). if b then Ok [] else log_requests commits (length bytes) (start options) 0 bytes) (le_test (length bytes) 1 short)
+  where
+    le_test : (m n : ℕ) → m ≤ n → nat_le m n ≡ true
+    le_test m n le = grind (arith, nat_tests)
+
+-- an empty journal that is made over at most one byte
+pub short_cut : (bytes now : List ℕ) → length bytes ≤ 1 → now ≡ 0 ∷ [] → now ≡ cut_to_log bytes
+short_cut bytes now short made =
+    made ∙ sym (ap (λ (b : Bool). if b then (0 ∷ []) else take (last_gate bytes + 1) bytes) (le_test (length bytes) 1 short))
   where
     le_test : (m n : ℕ) → m ≤ n → nat_le m n ≡ true
     le_test m n le = grind (arith, nat_tests)
@@ -68,6 +76,18 @@ module _ (options : Options) (bytes : List ℕ) (end : ℕ) (new : Stored) (read
   cut_kept seen may_leave disk there =
       on_disk seen may_leave disk new options (requests_in new) (take (end + 1) bytes) (record { machine = machine_of options (requests_in new); stands = read.stands })
       read.options_are refl (ended options bytes end new read shut).1 there
+
+  -- the cut is made where the journal ends
+  pub cut_place : end + 1 ≡ last_gate bytes + 1
+  cut_place = ap (λ (n : ℕ). n + 1) (sym (ends_here options bytes end new read shut))
+
+  pub cut_read : take (end + 1) bytes ≡ cut_to_log bytes
+  cut_read =
+      ap (λ (n : ℕ). take n bytes) cut_place
+      ∙ sym (ap (λ (b : Bool). if b then (0 ∷ []) else take (last_gate bytes + 1) bytes) (not_le (length bytes) 1 read.long))
+    where
+      not_le : (m n : ℕ) → n < m → nat_le m n ≡ false
+      not_le m n less = grind (arith, nat_tests)
 
   pub while_cut : (c : List ℕ) → CutShort (end + 1) bytes c → SameJournal options bytes c
   while_cut c cut = ⊎_elim

@@ -13,9 +13,10 @@ use Rattle.pol_model.specs.State.{State}
 use Rattle.pol_model.specs.declared.answer.Fault.{Fault}
 use Rattle.pol_model.specs.declared.options.Options.{Options}
 use Rattle.pol_model.specs.declared.request.Request.{Request}
-use Rattle.pol_record_log.specs.Log.{AreRecords, after_all, request_at}
+use Rattle.pol_record_log.specs.Log.{AreRecords, after_all, last_gate, request_at}
 use Rattle.pol_record_log.specs.Records.{is_whole, line_in, next_in, record_of}
 use Rattle.pol_record_log.specs.Steps.{EndsClosed, IsAppended, before_gate}
+use Rattle.pol_record_log.proofs.Ends.{ends_behind}
 use Rattle.pol_record_log.proofs.Logs.{appended_log, log_closed, pushed, with_record}
 use Rattle.pol_record_log.proofs.Reading.{Read, asks_a_fault, asks_nothing, damaged_at, not_whole, read_on}
 
@@ -132,6 +133,12 @@ module _ (options : Options) (bytes : List ℕ) (at : ℕ) (old : Stored) (so_fa
       )
 
   -- a closed gate ends the journal
+  pub ends_here : slice_index bytes at ≡ 0 → last_gate bytes ≡ at
+  ends_here shut =
+      ap last_gate (sym (here bytes at so_far.inside) ∙ ap (λ (gate : ℕ). take at bytes ++ gate ∷ drop (at + 1) bytes) shut)
+      ∙ ends_behind commits (requests_in old) (start options) (take at bytes) (drop (at + 1) bytes) so_far.records
+      ∙ before
+
   pub ended : slice_index bytes at ≡ 0 → IsJournal options (requests_in old) bytes × AreKept options (requests_in old) (take (at + 1) bytes)
   ended shut = (
     ap (journal_of options) (sym (here bytes at so_far.inside) ∙ ap (λ (gate : ℕ). take at bytes ++ gate ∷ drop (at + 1) bytes) shut)

@@ -14,7 +14,7 @@ ghost use Rattle.pol_machine.specs.Serial.{LedTo, SaidTo, events_of};
 ghost use Rattle.pol_machine.specs.Stands.{Stands, StepsTo, options_in};
 ghost use Rattle.pol_model.specs.Endpoints.{endpoint_of};
 ghost use Rattle.pol_model.specs.Explain.{explain_of};
-ghost use Rattle.pol_record_log.specs.Steps.{calls_later};
+ghost use Rattle.pol_record_log.specs.Steps.{calls_later, cut_to_log};
 ghost use Rattle.pol_repo.specs.Repository.{state_in};
 ghost use Rattle.pol_streams.specs.Faults.{Rose};
 
@@ -71,10 +71,12 @@ impl<D: Disk> Kept<D> {
     pub fn open(alloc: Global, mut disk: D, config: KeptConfig) -> Result<Kept<D>, Closed<D>>
         requires limit { config.map_max ≤ 65536 }
 
-        // On success the machine is the one that committed the journal's requests, and a crash leaves their records alone.
+        // On success the machine is the one that committed the journal's requests, and a crash leaves their records alone, cut behind
+        // the closed gate that ends them.
         ensures opened { IfOk result (λ kept. IsOpened (options_of config) (requests_in kept.machine) kept.machine) }
         ensures journal { IfOk result (λ kept. IsJournal (options_of config) (requests_in kept.machine) (D.seen disk)) }
         ensures images { IfOk result (λ kept. IsKept D.seen D.may_leave kept.disk kept.machine) }
+        ensures cut { IfOk result (λ kept. D.seen kept.disk ≡ cut_to_log (D.seen disk)) }
         ensures lost { IfOk result (λ kept. kept.lost ≡ false) }
 
         // On failure. The disk holds what it held, unless one of its calls failed.
@@ -90,7 +92,7 @@ impl<D: Disk> Kept<D> {
 
         // The calls, and the counts.
         ensures calls { IfOk result
-            (λ kept. Runs D.does D.fails disk (calls_of_open (D.seen disk) (length (D.seen kept.disk))) kept.disk) }
+            (λ kept. Runs D.does D.fails disk (calls_of_open (D.seen disk)) kept.disk) }
         ensures stops { IfErr result (λ closed. StopsOpening D.does D.fails (D.seen disk) disk closed.why closed.disk) }
         ensures clock { length (D.seen disk) ≤ 1
             → IfOk result (λ kept. D.clock kept.disk ≡ calls_later 3 (D.clock disk)) }

@@ -1,5 +1,5 @@
 //! A journal is opened.
-ghost use Rattle.std.specs.Prelude.{◌≡◌, ◌<◌, ◌≤◌, ◌∷◌, ℕ, [], Err, IfErr, IfOk, IsErr, IsErrOf, OnErr, OnOk, length};
+ghost use Rattle.std.specs.Prelude.{◌≡◌, ◌+◌, ◌<◌, ◌≤◌, ◌∷◌, ℕ, [], Err, IfErr, IfOk, IsErr, IsErrOf, OnErr, OnOk, length};
 ghost use Rattle.pol_disk.specs.Calls.{Cuts, Makes, Reads, Runs, Syncs};
 ghost use Rattle.pol_disk.specs.Images.{LeavesOnly, Only};
 ghost use Rattle.pol_history.specs.Machine.{machine_start};
@@ -7,7 +7,8 @@ ghost use Rattle.pol_journal.specs.Journal.{IsJournal};
 ghost use Rattle.pol_kept.specs.Calls.{FailsToOpen, StopsOpening, calls_of_open, calls_of_synced};
 ghost use Rattle.pol_kept.specs.Keeps.{HoldsUnlessFailed, IsKept, IsOpened, KeepsJournal, SameJournal, TellsDamage, options_of, requests_in};
 ghost use Rattle.pol_machine.specs.Stands.{Stands, options_in};
-ghost use Rattle.pol_record_log.specs.Steps.{calls_later, calls_of_start};
+ghost use Rattle.pol_record_log.specs.Log.{last_gate};
+ghost use Rattle.pol_record_log.specs.Steps.{calls_later, calls_of_start, cut_to_log};
 ghost use Rattle.pol_streams.specs.Faults.{Rose};
 
 use crate::config::KeptConfig;
@@ -30,6 +31,7 @@ fn open_short<D: Disk>(disk: &mut D, machine: &Machine) -> Result<(), OpenError>
     ensures failed { IsErr result → Rose (D.faults disk.old) (D.faults disk.new) }
     ensures any_moment { LeavesOnly D.moment D.left_since disk.old disk.new
         (SameJournal (options_in machine.now) (D.seen disk.old)) }
+    ensures cut { OnOk result (D.seen disk.new ≡ cut_to_log (D.seen disk.old)) }
     ensures calls { Makes D.does D.fails calls_of_start disk.old result disk.new }
     ensures clock { OnOk result (D.clock disk.new ≡ calls_later 2 (D.clock disk.old)) }
     ensures never_falls { D.faults disk.old ≤ D.faults disk.new }
@@ -60,9 +62,11 @@ fn open_bytes<D: Disk>(
     ensures failed { IsErrOf result OpenError.Disk → Rose (D.faults disk.old) (D.faults disk.new) }
     ensures any_moment { LeavesOnly D.moment D.left_since disk.old disk.new
         (SameJournal (options_in machine.old) (D.seen disk.old)) }
-    ensures calls { OnOk result (Runs D.does D.fails disk.old (Cuts (length (D.seen disk.new)) ∷ Syncs ∷ []) disk.new) }
-    ensures stops { IfErr result (λ why.
-        FailsToOpen D.does D.fails [] (λ end. Cuts end ∷ Syncs ∷ []) disk.old why disk.new) }
+    ensures cut { OnOk result (D.seen disk.new ≡ cut_to_log (D.seen disk.old)) }
+    ensures calls { OnOk result (Runs D.does D.fails disk.old
+        (Cuts (last_gate (D.seen disk.old) + 1) ∷ Syncs ∷ []) disk.new) }
+    ensures stops { IfErr result (λ why. FailsToOpen D.does D.fails []
+        (Cuts (last_gate (D.seen disk.old) + 1) ∷ Syncs ∷ []) disk.old why disk.new) }
     ensures stays { IfErr result (λ why.
         HoldsUnlessFailed D.seen D.may_leave D.moment D.left_since disk.old why disk.new) }
     ensures never_falls { D.faults disk.old ≤ D.faults disk.new }
@@ -88,10 +92,12 @@ fn open_long<D: Disk>(alloc: Global, disk: &mut D, machine: &mut Machine) -> Res
     ensures failed { IsErrOf result OpenError.Disk → Rose (D.faults disk.old) (D.faults disk.new) }
     ensures any_moment { LeavesOnly D.moment D.left_since disk.old disk.new
         (SameJournal (options_in machine.old) (D.seen disk.old)) }
+    ensures cut { OnOk result (D.seen disk.new ≡ cut_to_log (D.seen disk.old)) }
     ensures calls { OnOk result (Runs D.does D.fails disk.old
-        (Reads 0 (length (D.seen disk.old)) ∷ Cuts (length (D.seen disk.new)) ∷ Syncs ∷ []) disk.new) }
+        (Reads 0 (length (D.seen disk.old)) ∷ Cuts (last_gate (D.seen disk.old) + 1) ∷ Syncs ∷ []) disk.new) }
     ensures stops { IfErr result (λ why. FailsToOpen D.does D.fails (Reads 0 (length (D.seen disk.old)) ∷ [])
-        (λ end. Reads 0 (length (D.seen disk.old)) ∷ Cuts end ∷ Syncs ∷ []) disk.old why disk.new) }
+        (Reads 0 (length (D.seen disk.old)) ∷ Cuts (last_gate (D.seen disk.old) + 1) ∷ Syncs ∷ [])
+        disk.old why disk.new) }
     ensures stays { IfErr result (λ why.
         HoldsUnlessFailed D.seen D.may_leave D.moment D.left_since disk.old why disk.new) }
     ensures never_falls { D.faults disk.old ≤ D.faults disk.new }
@@ -114,8 +120,8 @@ fn open_synced<D: Disk>(alloc: Global, disk: &mut D, machine: &mut Machine) -> R
     ensures failed { IsErrOf result OpenError.Disk → Rose (D.faults disk.old) (D.faults disk.new) }
     ensures any_moment { LeavesOnly D.moment D.left_since disk.old disk.new
         (SameJournal (options_in machine.old) (D.seen disk.old)) }
-    ensures calls { OnOk result
-        (Runs D.does D.fails disk.old (calls_of_synced (D.seen disk.old) (length (D.seen disk.new))) disk.new) }
+    ensures cut { OnOk result (D.seen disk.new ≡ cut_to_log (D.seen disk.old)) }
+    ensures calls { OnOk result (Runs D.does D.fails disk.old (calls_of_synced (D.seen disk.old)) disk.new) }
     ensures stops { IfErr result (λ why. FailsToOpen D.does D.fails (Reads 0 (length (D.seen disk.old)) ∷ [])
         (calls_of_synced (D.seen disk.old)) disk.old why disk.new) }
     ensures stays { IfErr result (λ why.
@@ -144,8 +150,8 @@ fn open_with<D: Disk>(
     ensures failed { IsErrOf result OpenError.Disk → Rose (D.faults disk.old) (D.faults disk.new) }
     ensures any_moment { LeavesOnly D.moment D.left_since disk.old disk.new
         (KeepsJournal (options_in machine) (D.seen disk.old) (D.may_leave disk.old)) }
-    ensures calls { OnOk result
-        (Runs D.does D.fails disk.old (calls_of_open (D.seen disk.old) (length (D.seen disk.new))) disk.new) }
+    ensures cut { OnOk result (D.seen disk.new ≡ cut_to_log (D.seen disk.old)) }
+    ensures calls { OnOk result (Runs D.does D.fails disk.old (calls_of_open (D.seen disk.old)) disk.new) }
     ensures stops { IfErr result (λ why. StopsOpening D.does D.fails (D.seen disk.old) disk.old why disk.new) }
     ensures stays { IfErr result (λ why.
         HoldsUnlessFailed D.seen D.may_leave D.moment D.left_since disk.old why disk.new) }
@@ -174,10 +180,12 @@ pub fn open_over<D: Disk>(
 ) -> Result<Machine, OpenError>
     requires limit { config.map_max ≤ 65536 }
 
-    // On success the machine is the one that committed the journal's requests, and a crash leaves their records alone.
+    // On success the machine is the one that committed the journal's requests, and a crash leaves their records alone, cut behind the
+    // closed gate that ends them.
     ensures opened { IfOk result (λ machine. IsOpened (options_of config) (requests_in machine) machine) }
     ensures journal { IfOk result (λ machine. IsJournal (options_of config) (requests_in machine) (D.seen disk.old)) }
     ensures kept { IfOk result (λ machine. IsKept D.seen D.may_leave disk.new machine) }
+    ensures cut { OnOk result (D.seen disk.new ≡ cut_to_log (D.seen disk.old)) }
 
     // On failure. The disk holds what it held, unless one of its calls failed.
     ensures damaged { IfErr result (TellsDamage (options_of config) (D.seen disk.old)) }
@@ -190,8 +198,7 @@ pub fn open_over<D: Disk>(
         (KeepsJournal (options_of config) (D.seen disk.old) (D.may_leave disk.old)) }
 
     // The calls, and the counts.
-    ensures calls { OnOk result
-        (Runs D.does D.fails disk.old (calls_of_open (D.seen disk.old) (length (D.seen disk.new))) disk.new) }
+    ensures calls { OnOk result (Runs D.does D.fails disk.old (calls_of_open (D.seen disk.old)) disk.new) }
     ensures stops { IfErr result (λ why. StopsOpening D.does D.fails (D.seen disk.old) disk.old why disk.new) }
     ensures clock { length (D.seen disk.old) ≤ 1 → OnOk result (D.clock disk.new ≡ calls_later 3 (D.clock disk.old)) }
     ensures never_falls { D.faults disk.old ≤ D.faults disk.new }

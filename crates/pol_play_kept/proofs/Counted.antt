@@ -16,11 +16,12 @@ use Rattle.pol_model.specs.declared.answer.Committed.{Committed}
 use Rattle.pol_model.specs.declared.answer.Refused.{Refused}
 use Rattle.pol_model.specs.declared.options.Options.{Options}
 use Rattle.pol_model.specs.declared.request.Request.{Request}
+use Rattle.pol_record_log.specs.Log.{last_gate}
 use Rattle.pol_record_log.specs.Steps.{calls_of_start}
 use Rattle.pol_run.specs.Spots.{Reading}
 use Rattle.pol_script.specs.declared.command.Command.TheVariants as command
 use Rattle.pol_serial_run.specs.Accepted.{accepted_by, unless_fault}
-use Rattle.pol_play_kept.specs.Calls.{RunsFor, StopsInOpening, StopsKeeping, calls_to_keep, calls_to_open}
+use Rattle.pol_play_kept.specs.Calls.{RunsFor, StopsKeeping, calls_to_keep, calls_to_open}
 use Rattle.pol_play_kept.proofs.Answered.{done_no_fault, refused_none}
 
 -- ---- counts
@@ -28,10 +29,10 @@ use Rattle.pol_play_kept.proofs.Answered.{done_no_fault, refused_none}
 pub keep_both : (front back : List Request) → calls_to_keep (front ++ back) ≡ calls_to_keep front + calls_to_keep back
 keep_both front back = omega (arith, length-append front back)
 
-open_many : (short : Bool) (bytes : List ℕ) (end : ℕ)
-    → length (Syncs ∷ (if short then calls_of_start else (Reads 0 (length bytes) ∷ Cuts end ∷ Syncs ∷ []))) ≡ (if short then 3 else 4)
-open_many true bytes end = refl
-open_many false bytes end = refl
+open_many : (short : Bool) (bytes : List ℕ)
+    → length (Syncs ∷ (if short then calls_of_start else (Reads 0 (length bytes) ∷ Cuts (last_gate bytes + 1) ∷ Syncs ∷ []))) ≡ (if short then 3 else 4)
+open_many true bytes = refl
+open_many false bytes = refl
 
 -- ---- a commit that failed
 
@@ -85,15 +86,14 @@ module _ {D : Type 0} (does fails : D → Asked → D → Type 0) where
 
   -- ---- opening
 
-  pub opens_for : (seen : D → List ℕ) (old new : D) → Runs does fails old (calls_of_open (seen old) (length (seen new))) new
+  pub opens_for : (seen : D → List ℕ) (old new : D) → Runs does fails old (calls_of_open (seen old)) new
       → RunsFor does fails (calls_to_open (seen old)) old new
   opens_for seen old new ran = record {
-    calls = calls_of_open (seen old) (length (seen new));
-    many = open_many (nat_le (length (seen old)) 1) (seen old) (length (seen new));
+    calls = calls_of_open (seen old);
+    many = open_many (nat_le (length (seen old)) 1) (seen old);
     ran = ran;
   }
 
-  pub fails_to_open : (seen : D → List ℕ) (old new : D) (why : OpenError) → why ≡ opened.Disk → StopsOpening does fails (seen old) old why new → StopsInOpening does fails seen old new
-  fails_to_open seen old new why disk stops =
-      let at : (end : ℕ) × StopsIn does fails old (calls_of_open (seen old) end) new = subst (λ (e : OpenError). StopsOpening does fails (seen old) old e new) disk stops in
-      record { end = at.0; stops = at.1 }
+  pub fails_to_open : (bytes : List ℕ) (old new : D) (why : OpenError) → why ≡ opened.Disk → StopsOpening does fails bytes old why new
+      → StopsIn does fails old (calls_of_open bytes) new
+  fails_to_open bytes old new why disk stops = subst (λ (e : OpenError). StopsOpening does fails bytes old e new) disk stops

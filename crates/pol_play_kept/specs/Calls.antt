@@ -58,10 +58,5 @@ module _ {D : Type 0} (does fails : D → Asked → D → Type 0) where
   pub record StopsOnceOpened (seen : D → List ℕ) (may_leave : D → List ℕ → Type 0) (options : Options) (start : List Request) (readings : List Reading) (marked : Bool)
       (text : List ℕ) (old new : D) : Type 0 where
     pub disk : D
-    pub opened : Runs does fails old (calls_of_open (seen old) (length (seen disk))) disk
+    pub opened : Runs does fails old (calls_of_open (seen old)) disk
     pub stops : StopsAtCall seen may_leave options start readings marked text disk new
-
-  -- of the calls that open a journal those up to one that failed were made
-  pub record StopsInOpening (seen : D → List ℕ) (old new : D) : Type 0 where
-    pub end : ℕ
-    pub stops : StopsIn does fails old (calls_of_open (seen old) end) new

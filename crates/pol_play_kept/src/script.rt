@@ -1,11 +1,13 @@
 //! A script over a disk.
 ghost use Rattle.std.specs.Prelude.{◌≡◌, ◌+◌, ◌≤◌, List, IfErr, IfOk, IsErrOf, IsTrue, OnOk, false, true, if◌then◌else◌};
+ghost use Rattle.pol_disk.specs.Calls.{StopsIn};
 ghost use Rattle.pol_disk.specs.Images.{LeavesOnly};
+ghost use Rattle.pol_kept.specs.Calls.{calls_of_open};
 ghost use Rattle.pol_kept.specs.Keeps.{HoldsStill, IsKept, options_of, requests_in};
 ghost use Rattle.pol_machine.specs.Serial.{machine_of};
 ghost use Rattle.pol_machine.specs.Stands.{Stands, options_in};
 ghost use Rattle.pol_model.specs.declared.request.Request.{Request as AnyRequest};
-ghost use Rattle.pol_play_kept.specs.Calls.{RunsFor, StopsAtCall, StopsInOpening, StopsOnceOpened, calls_to_keep, calls_to_open};
+ghost use Rattle.pol_play_kept.specs.Calls.{RunsFor, StopsAtCall, StopsOnceOpened, calls_to_keep, calls_to_open};
 ghost use Rattle.pol_play_kept.specs.Images.{AllAre, IsJournalWithin};
 ghost use Rattle.pol_play_kept.specs.Played.{HoldsAtGate, IsDamaged, IsSomeJournal, IsWhole, StopsAt, TellsGate};
 ghost use Rattle.pol_run.specs.Run.{readings_of};
@@ -135,7 +137,8 @@ pub fn play_script<D: Disk>(
     ensures stops_at_call { (start : List AnyRequest) → AllAre (options_of config) start (D.may_leave disk.old)
         → IfOk result (λ kept. kept.lost ≡ true → StopsOnceOpened D.does D.fails D.seen D.may_leave
         (options_of config) start (readings_of script.now) kept.marked kept.text.items disk.old disk.new) }
-    ensures stops_opening { IsErrOf result ScriptError.Disk → StopsInOpening D.does D.fails D.seen disk.old disk.new }
+    ensures stops_opening { IsErrOf result ScriptError.Disk
+        → StopsIn D.does D.fails disk.old (calls_of_open (D.seen disk.old)) disk.new }
 
     // Which bytes are opened. A damaged journal stays as it was.
     ensures journal { OnOk result (IsSomeJournal (options_of config) (D.seen disk.old)) }

@@ -1,3 +1,4 @@
 pub mod Gates
 pub mod Logs
+pub mod Ends
 pub mod Reading

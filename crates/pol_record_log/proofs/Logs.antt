@@ -52,7 +52,7 @@ module _ {S R : Type 0} (k : Meaning S R) where
     split : behind ≡ four ++ (line ++ tail)
     split = append_assoc four line tail
 
-    size_is : size behind ≡ length line
+    pub size_is : size behind ≡ length line
     size_is = ap (λ (b : List ℕ). from_be_bytes w32 (take 4 b)) split ∙ ap (from_be_bytes w32) (take_at four (line ++ tail) 4 is.four_bytes) ∙ is.sized
 
     line_is : line_in behind ≡ line
@@ -61,7 +61,7 @@ module _ {S R : Type 0} (k : Meaning S R) where
         ∙ ap (take (length line)) (ap (drop 4) split ∙ drop_at four (line ++ tail) 4 is.four_bytes)
         ∙ take_at line tail (length line) refl
 
-    next_is : next_in behind ≡ tail
+    pub next_is : next_in behind ≡ tail
     next_is = drop_at (four ++ line) tail (4 + size behind) (length-append four line ∙ omega (arith, is.four_bytes, size_is))
 
     whole : is_whole behind ≡ true

@@ -9,6 +9,16 @@ pub record Meaning (S R : Type 0) : Type 0 where
   pub has_fault : S → R → Bool
   pub after : S → R → S
 
+-- the place of the first closed gate, or of the gate behind so many records, the first gate of which stands at this place
+abbrev pub gate_from : ℕ → ℕ → List ℕ → ℕ
+gate_from records at [] = at
+gate_from zero at (gate ∷ behind) = at
+gate_from (suc records) at (gate ∷ behind) = if gate == 0 then at else gate_from records (at + 5 + size behind) (next_in behind)
+
+-- the place of the closed gate that ends a log
+abbrev pub last_gate : List ℕ → ℕ
+last_gate bytes = gate_from (length bytes) 0 bytes
+
 -- a request, and then those that follow it; the first place that is damaged comes before all
 abbrev pub onto : {R : Type 0} → R → Result (List R) ℕ → Result (List R) ℕ
 onto request (Ok requests) = Ok (request ∷ requests)

@@ -1,7 +1,8 @@
 -- What the steps of a log leave.
-use Rattle.std.specs.Prelude.{◌≡◌, ◌⊎◌, ℕ, ◌+◌, ◌-◌, ◌^◌, min, List, [], ◌∷◌, ◌++◌, length, take}
+use Rattle.std.specs.Prelude.{◌≡◌, ◌⊎◌, ℕ, ◌+◌, ◌-◌, ◌^◌, min, nat_le, if◌then◌else◌, List, [], ◌∷◌, ◌++◌, length, take}
 use Rattle.pol_disk.specs.Calls.{Asked, Writes, Syncs}
 use Rattle.pol_disk.specs.Images.{Only}
+use Rattle.pol_record_log.specs.Log.{last_gate}
 
 -- so many calls later, as far as a u64 goes
 abbrev pub calls_later : ℕ → ℕ → ℕ
@@ -19,6 +20,10 @@ before_gate bytes = take (length bytes - 1) bytes
 -- the last byte is a closed gate
 abbrev pub EndsClosed : List ℕ → Type 0
 EndsClosed bytes = bytes ≡ before_gate bytes ++ 0 ∷ []
+
+-- What an opened log on these bytes has: of at most one byte a closed gate, and of others those up to the closed gate that ends them.
+abbrev pub cut_to_log : List ℕ → List ℕ
+cut_to_log bytes = if nat_le (length bytes) 1 then (0 ∷ []) else take (last_gate bytes + 1) bytes
 
 -- the first of the bytes, and then a closed gate or any gate with this behind it
 abbrev pub IsAppended : List ℕ → List ℕ → List ℕ → Type 0

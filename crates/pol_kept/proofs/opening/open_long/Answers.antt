@@ -1,12 +1,15 @@
-use Rattle.std.proofs.Common.{◌<◌, ℕ, List, [], ◌∷◌, length, sym, ◌∙◌, subst}
-use Rattle.std.proofs.lemmas.Result.{IfErr-weaker}
+use Rattle.std.proofs.Common.{◌≡◌, ◌<◌, ◌+◌, ℕ, List, [], ◌∷◌, length, sym, ◌∙◌, subst}
+use Rattle.std.specs.Prelude.{OnOk}
+use Rattle.std.proofs.lemmas.Result.{IfErr-weaker, on_ok_weaker}
 use Rattle.pol_disk.proofs.Moments.{joined, widened}
 use Rattle.pol_kept.specs.Keeps.{SameJournal}
 use Rattle.pol_kept.proofs.Openings.{left_same}
 use Rattle.pol_machine.specs.Stands.{options_in}
-use Rattle.pol_disk.specs.Calls.{Cuts, Reads, Syncs}
+use Rattle.pol_disk.specs.Calls.{Cuts, Reads, Runs, Syncs}
 use Rattle.pol_kept.specs.Calls.{FailsToOpen}
-use Rattle.pol_kept.proofs.Plans.{fails_behind}
+use Rattle.pol_record_log.specs.Log.{last_gate}
+use Rattle.pol_record_log.specs.Steps.{cut_to_log}
+use Rattle.pol_kept.proofs.Plans.{fails_behind, runs_behind}
 use Rattle.pol_kept.proofs.opening.open_long.Goals as goal
 
 pub open_bytes-requires-clause-bytes : goal.open_bytes-requires-clause-bytes
@@ -49,10 +52,31 @@ returns-in-Err-Memory-clause-any_moment g c =
 pub returns-in-Ok-clause-stops : goal.returns-in-Ok-clause-stops
 returns-in-Ok-clause-stops g c =
     let d = g.D.Disk in
-    let all = length (d.seen c.args.disk.now) in
+    let bytes = d.seen c.args.disk.now in
+    let read = Reads 0 (length bytes) in
+    let cuts = Cuts (last_gate bytes + 1) ∷ Syncs ∷ [] in
+    let mid = c.read_bytes.new.disk in
     let last = c.open_bytes.new.disk in
     IfErr-weaker c.open_bytes.result
-    (λ why. FailsToOpen d.does d.fails [] (λ end. Cuts end ∷ Syncs ∷ []) c.read_bytes.new.disk why last)
-    (λ why. FailsToOpen d.does d.fails (Reads 0 all ∷ []) (λ end. Reads 0 all ∷ Cuts end ∷ Syncs ∷ []) c.args.disk.now why last)
-    (λ why. fails_behind d.does d.fails (Reads 0 all) [] (λ end. Cuts end ∷ Syncs ∷ []) why c.args.disk.now c.read_bytes.new.disk last c.in-Ok.ensures.calls)
+    (λ why. FailsToOpen d.does d.fails [] (Cuts (last_gate (d.seen mid) + 1) ∷ Syncs ∷ []) mid why last)
+    (λ why. FailsToOpen d.does d.fails (read ∷ []) (read ∷ cuts) c.args.disk.now why last)
+    (λ why fails. fails_behind d.does d.fails read [] cuts why c.args.disk.now mid last c.in-Ok.ensures.calls
+    (subst (λ (b : List ℕ). FailsToOpen d.does d.fails [] (Cuts (last_gate b + 1) ∷ Syncs ∷ []) mid why last) c.in-Ok.ensures.same fails))
     c.open_bytes.ensures.stops
+
+pub returns-in-Ok-clause-cut : goal.returns-in-Ok-clause-cut
+returns-in-Ok-clause-cut g c =
+    let d = g.D.Disk in
+    subst (λ (b : List ℕ). OnOk c.open_bytes.result (d.seen c.open_bytes.new.disk ≡ cut_to_log b)) c.in-Ok.ensures.same c.open_bytes.ensures.cut
+
+pub returns-in-Ok-clause-calls : goal.returns-in-Ok-clause-calls
+returns-in-Ok-clause-calls g c =
+    let d = g.D.Disk in
+    let bytes = d.seen c.args.disk.now in
+    let cuts = Cuts (last_gate bytes + 1) ∷ Syncs ∷ [] in
+    let mid = c.read_bytes.new.disk in
+    let last = c.open_bytes.new.disk in
+    let behind : Runs d.does d.fails mid cuts last → Runs d.does d.fails c.args.disk.now (Reads 0 (length bytes) ∷ cuts) last =
+    λ runs. runs_behind d.does d.fails (Reads 0 (length bytes)) cuts c.args.disk.now mid last c.in-Ok.ensures.calls runs in
+    on_ok_weaker c.open_bytes.result behind
+    (subst (λ (b : List ℕ). OnOk c.open_bytes.result (Runs d.does d.fails mid (Cuts (last_gate b + 1) ∷ Syncs ∷ []) last)) c.in-Ok.ensures.same c.open_bytes.ensures.calls)

@@ -1,7 +1,7 @@
 use Rattle.std.proofs.Common.{◌≤◌, ℕ, List, length}
 use Rattle.pol_disk.proofs.Moments.{widened}
 use Rattle.pol_kept.specs.Keeps.{SameJournal}
-use Rattle.pol_kept.proofs.Openings.{fresh_journal, fresh_kept, fresh_opened, short_same}
+use Rattle.pol_kept.proofs.Openings.{fresh_journal, fresh_kept, fresh_opened, short_cut, short_same}
 use Rattle.pol_machine.specs.Stands.{options_in}
 use Rattle.pol_kept.proofs.opening.open_short.Goals as goal
 
@@ -16,6 +16,11 @@ returns-in-Ok-clause-journal g c = fresh_journal c.args.machine.now c.requires.s
 
 pub returns-in-Err-clause-journal : goal.returns-in-Err-clause-journal
 returns-in-Err-clause-journal g c = fresh_journal c.args.machine.now c.requires.start (g.D.Disk.seen c.args.disk.now) c.requires.short
+
+pub returns-in-Ok-clause-cut : goal.returns-in-Ok-clause-cut
+returns-in-Ok-clause-cut g c =
+    let d = g.D.Disk in
+    short_cut (d.seen c.args.disk.now) (d.seen c.start.new.disk) c.requires.short c.in-Ok.ensures.ok.read
 
 pub returns-in-Ok-clause-kept : goal.returns-in-Ok-clause-kept
 returns-in-Ok-clause-kept g c =

@@ -124,7 +124,7 @@ returns-in-Ok-play_opened-clause-stops_at_call g c start were is =
 pub returns-in-Err-Disk-clause-stops_opening : goal.returns-in-Err-Disk-clause-stops_opening
 returns-in-Err-Disk-clause-stops_opening g c is =
     let d = g.D.Disk in
-    fails_to_open d.does d.fails d.seen c.args.disk.now c.open_over.new.disk _ c.in-Err-Disk.field-0-is c.in-Err-Disk.ensures.stops
+    fails_to_open d.does d.fails (d.seen c.args.disk.now) c.args.disk.now c.open_over.new.disk _ c.in-Err-Disk.field-0-is c.in-Err-Disk.ensures.stops
 
 pub returns-in-Err-clause-memory_stays : goal.returns-in-Err-clause-memory_stays
 returns-in-Err-clause-memory_stays g c is damaged =
