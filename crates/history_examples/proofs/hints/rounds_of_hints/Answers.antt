@@ -1,4 +1,4 @@
-use Rattle.std.proofs.Common.{◌≡◌, ◌+◌, ◌⊎◌, ℕ, [], ◌∷◌, length, refl, ap, inl, inr, ⊎_elim, arith}
+use Rattle.std.proofs.Common.{◌≡◌, ◌+◌, ◌⊎◌, [], ◌∷◌, length, refl, ap, inl, inr, ⊎_elim, arith}
 use Rattle.pol_hints.specs.Passes.{one_round}
 use Rattle.pol_hints.proofs.Below.{round_length}
 use Rattle.history_examples.proofs.hints.rounds_of_hints.Goals as goal
@@ -44,3 +44,10 @@ returns-clause-none_is_put c = λ queue share it.
     let slots : length (one_round it.first 2) ≡ 2 = round_length it.first 2 it.within in
     ⊎_elim (λ (same : it.put ≡ one_round it.first 2). let many : length it.put ≡ length (one_round it.first 2) = ap length same in omega (arith, own, slots, many))
     (λ (full : 0 ≡ 4). omega (arith, full)) it.all
+
+pub returns-clause-not_its_own : goal.returns-clause-not_its_own
+returns-clause-not_its_own c = λ queue share it.
+    let own : 0 ≡ 0 + length it.put = it.own in
+    let slots : length (one_round it.first 2) ≡ 2 = round_length it.first 2 it.within in
+    ⊎_elim (λ (same : it.put ≡ one_round it.first 2). let many : length it.put ≡ length (one_round it.first 2) = ap length same in omega (arith, own, slots, many))
+    (λ (full : 2 ≡ 4). omega (arith, full)) it.all
