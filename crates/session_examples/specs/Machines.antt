@@ -1,5 +1,5 @@
 -- Machines at small histories, rows of maps that are too large, and why a packet is allowed or denied.
-use Rattle.std.specs.Prelude.{List, [], ◌∷◌}
+use Rattle.std.specs.Prelude.{List, [], ◌∷◌, codes}
 use Rattle.pol_history.specs.Machine.{Machine, machine_start}
 use Rattle.pol_history.specs.declared.event.HistoryEvent.{HistoryEvent}
 use Rattle.pol_history.specs.declared.event.HistoryEvent.TheVariants as event
@@ -7,7 +7,12 @@ use Rattle.pol_history.specs.ExampleEvents.{blocked, commit, open_map, publish}
 use Rattle.pol_mapkey.specs.declared.Word.TheVariants.{Allowed, DeniedByDefault}
 use Rattle.pol_model.specs.declared.answer.FullSlot.{FullSlot}
 use Rattle.pol_model.specs.declared.answer.Trace.{Trace}
+use Rattle.pol_model.specs.After.{start}
+use Rattle.pol_model.specs.State.{State}
 use Rattle.pol_model.specs.declared.options.Mode.TheVariants.{Always}
+use Rattle.pol_model.specs.declared.options.Options.{Options}
+use Rattle.pol_model_laws.specs.WorkedMaps.{app_peer, ingress_policy}
+use Rattle.pol_rule.specs.declared.policy.Peers.TheVariants.{Listed}
 use Rattle.pol_run.specs.ExampleLines.{add_db, add_web, db, full, set, web}
 
 abbrev pub machine_at : List HistoryEvent → Machine
@@ -43,3 +48,10 @@ allowed_trace = record { word = Allowed; remote = 2; denies = []; allows = [] }
 
 abbrev pub denied_trace : Trace
 denied_trace = record { word = DeniedByDefault; remote = 2; denies = []; allows = [] }
+
+-- one policy, which lists one peer of labels
+abbrev pub with_a_peer : Options → State
+with_a_peer options = record (start options) {
+  policies =
+      record { policy = ingress_policy (codes "p") (record { peers = Listed (app_peer (codes "x") ∷ []); ports = [] } ∷ []) []; stamp = 1 } ∷ [];
+}

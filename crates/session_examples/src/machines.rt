@@ -14,7 +14,7 @@ ghost use Rattle.pol_model.specs.State.{State as OneState};
 ghost use Rattle.pol_model.specs.declared.options.Options.{Options as AllOptions};
 ghost use Rattle.pol_model.specs.declared.request.Query.{Query as OneQuery};
 ghost use Rattle.pol_run.specs.ExampleLines.{db, packet_to, web};
-ghost use Rattle.session_examples.specs.Machines.{added, allowed_trace, db_row, machine_at, one_full, row, two_full, web_row};
+ghost use Rattle.session_examples.specs.Machines.{added, allowed_trace, db_row, machine_at, one_full, row, two_full, web_row, with_a_peer};
 
 /// Rows are those of the live endpoints whose maps are too large, by name ('profile').
 pub fn rows_are_listed()
@@ -56,7 +56,7 @@ pub fn beginnings_are_left()
         → Stands new (machine_after (at_most 2) (step.Commit add_web ∷ [])) → ⊥ }
 {}
 
-/// A look-up costs 36 steps at most, a take and a finish none, and a commit where no policy has label peers none ('profile').
+/// A look-up costs 36 steps at most, a take and a finish none, and a commit one for each label peer that policies list ('profile').
 pub fn steps_cost()
     ensures look { (s : OneState) (query : OneQuery) → Costs s (step.Look query) 0 36 }
     ensures dear_look { (s : OneState) (query : OneQuery) → Costs s (step.Look query) 0 37 → ⊥ }
@@ -66,4 +66,7 @@ pub fn steps_cost()
     ensures dear_finish { (s : OneState) → Costs s (step.Finish 0) 5 6 → ⊥ }
     ensures commit { (options : AllOptions) → Costs (start options) (step.Commit add_web) 5 5 }
     ensures dear_commit { (options : AllOptions) → Costs (start options) (step.Commit add_web) 5 6 → ⊥ }
+    ensures commit_with_a_peer { (options : AllOptions) → Costs (with_a_peer options) (step.Commit add_web) 5 6 }
+    ensures dear_commit_with_a_peer { (options : AllOptions)
+        → Costs (with_a_peer options) (step.Commit add_web) 5 7 → ⊥ }
 {}

@@ -1,4 +1,4 @@
-use Rattle.std.proofs.Common.{◌≡◌, ◌≤◌, refl, arith}
+use Rattle.std.proofs.Common.{◌≡◌, ◌≤◌, ◌+◌, refl, arith}
 use Rattle.session_examples.proofs.machines.steps_cost.Goals as goal
 
 pub returns-clause-look : goal.returns-clause-look
@@ -24,3 +24,9 @@ returns-clause-commit c = λ options no_policy. omega arith
 
 pub returns-clause-dear_commit : goal.returns-clause-dear_commit
 returns-clause-dear_commit c = λ options it. let wrong : 6 ≤ 5 = it refl in omega (arith, wrong)
+
+pub returns-clause-commit_with_a_peer : goal.returns-clause-commit_with_a_peer
+returns-clause-commit_with_a_peer c = λ options no_policy. let within : 6 ≤ 5 + 1 = omega arith in within
+
+pub returns-clause-dear_commit_with_a_peer : goal.returns-clause-dear_commit_with_a_peer
+returns-clause-dear_commit_with_a_peer c = λ options it. let wrong : 7 ≤ 5 + 1 = it refl in omega (arith, wrong)
