@@ -12,7 +12,7 @@ use Rattle.pol_run.specs.Spots.{Reading}
 use Rattle.pol_script_commits.specs.declared.refusal.Refusal.{Refusal}
 use Rattle.pol_script_commits.specs.Left.{state_after}
 use Rattle.pol_script_commits.specs.Refused.{refusals_of}
-use Rattle.connections.specs.Told.{is_none, is_same, one_status, one_text, parts_status, parts_text, refusals_text, states_text, status_of, two_status, two_text}
+use Rattle.connections.specs.Told.{is_empty, is_same, one_status, one_text, parts_status, parts_text, refusals_text, states_text, status_of, two_status, two_text}
 
 -- ---- one script
 module _ (options now : Options) (s : State) (refused : List Refusal) (readings : List Reading) (same : now ≡ options) (left : s ≡ state_after options readings)
@@ -20,8 +20,8 @@ module _ (options now : Options) (s : State) (refused : List Refusal) (readings 
   pub one_told : (text : List ℕ) → text ≡ refusals_text None refused ++ connections_text (connections_of now s) → text ≡ one_text options readings
   one_told text told = told ∙ (λ i. refusals_text None (all i) ++ connections_text (connections_of (same i) (left i)))
 
-  pub one_ended : (status : ℕ) → status ≡ status_of (not (is_none refused)) false → status ≡ one_status options readings
-  one_ended status told = told ∙ (λ i. status_of (not (is_none (all i))) false)
+  pub one_ended : (status : ℕ) → status ≡ status_of (not (is_empty refused)) false → status ≡ one_status options readings
+  one_ended status told = told ∙ (λ i. status_of (not (is_empty (all i))) false)
 
 -- ---- two
 module _ (halves : Bool) (options now : Options) (s t : State) (refused_before refused_after : List Refusal) (one other : List Reading) (same : now ≡ options)
@@ -34,10 +34,10 @@ module _ (halves : Bool) (options now : Options) (s t : State) (refused_before r
       told ∙ (λ i. refusals_text (Some Before) (all_before i) ++ refusals_text (Some After) (all_after i) ++ states_text halves (same i) (before i) (after i))
 
   pub two_ended : (status : ℕ)
-      → status ≡ status_of (not (is_none refused_before && is_none refused_after)) (not (is_same halves now s t))
+      → status ≡ status_of (not (is_empty refused_before && is_empty refused_after)) (not (is_same halves now s t))
       → status ≡ two_status halves options one other
   two_ended status told =
-      told ∙ (λ i. status_of (not (is_none (all_before i) && is_none (all_after i))) (not (is_same halves (same i) (before i) (after i))))
+      told ∙ (λ i. status_of (not (is_empty (all_before i) && is_empty (all_after i))) (not (is_same halves (same i) (before i) (after i))))
 
 -- ---- the parts of the input
 module _ (asked : ConnectionWords) (parts : Parts) (front : List ℕ) (first : front ≡ parts.front) where

@@ -1,5 +1,5 @@
 -- How a run ends.
-use Rattle.std.specs.Prelude.{ℕ, Bool, true, false, List, codes, Option, None, Some}
+use Rattle.std.specs.Prelude.{ℕ, Bool, true, false, List, [], ◌∷◌, codes, Option, None, Some}
 use Rattle.std.specs.declared.io.ErrorKind.{ErrorKind}
 use Rattle.std.specs.declared.io.ErrorKind.TheVariants.{OutOfMemory}
 use Rattle.connections.specs.declared.status.RunEnd.{RunEnd}
@@ -64,3 +64,7 @@ has_read_all Write = true
 has_read_all Memory = false
 has_read_all TooLong = false
 has_read_all Read = false
+
+-- all statuses, by their numbers
+abbrev pub statuses : List RunEnd
+statuses = Same ∷ Refused ∷ Usage ∷ Changes ∷ Write ∷ Memory ∷ TooLong ∷ Read ∷ []

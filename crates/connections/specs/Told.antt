@@ -19,8 +19,8 @@ use Rattle.pol_script_commits.specs.Refused.{refusals_of}
 abbrev pub refusals_text : Option ChangeSide → List Refusal → List ℕ
 refusals_text side refusals = flat_map (λ refusal. refusal_text side refusal.line refusal.answer) refusals
 
-abbrev pub is_none : {A : Type 0} → List A → Bool
-is_none xs = length xs == 0
+abbrev pub is_empty : {A : Type 0} → List A → Bool
+is_empty xs = length xs == 0
 
 -- 1 where a line was refused, else 3 where something changes, else 0
 abbrev pub status_of : Bool → Bool → ℕ
@@ -32,7 +32,7 @@ one_text options readings =
     refusals_text None (refusals_of options readings) ++ connections_text (connections_of options (state_after options readings))
 
 abbrev pub one_status : Options → List Reading → ℕ
-one_status options readings = status_of (not (is_none (refusals_of options readings))) false
+one_status options readings = status_of (not (is_empty (refusals_of options readings))) false
 
 -- ---- two: what is refused of each, and what changes from the end of the first to the end of the second, of connections or of
 -- halves of them
@@ -47,11 +47,11 @@ two_text halves options before after =
 -- whether nothing changes: no name comes or goes, and no connection opens or shuts, nor has a half of one another word where
 -- halves are told
 abbrev pub is_same : Bool → Options → State → State → Bool
-is_same halves options s t = is_none (ends_alone t s) && is_none (ends_alone s t) && is_none (changes_of halves options s t)
+is_same halves options s t = is_empty (ends_alone t s) && is_empty (ends_alone s t) && is_empty (changes_of halves options s t)
 
 abbrev pub two_status : Bool → Options → List Reading → List Reading → ℕ
 two_status halves options before after =
-    status_of (not (is_none (refusals_of options before) && is_none (refusals_of options after)))
+    status_of (not (is_empty (refusals_of options before) && is_empty (refusals_of options after)))
     (not (is_same halves options (state_after options before) (state_after options after)))
 
 -- ---- the input: one script, where no line divides it

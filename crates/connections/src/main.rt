@@ -10,6 +10,7 @@ ghost use Rattle.std.specs.Prelude.{◌≡◌};
 ghost use Rattle.std.specs.IoError.{error_kind};
 ghost use Rattle.connections.specs.Ends.{status_without_words};
 
+mod laws;
 mod play;
 mod source;
 mod states;

@@ -4,7 +4,7 @@ ghost use Rattle.pol_connections.specs.Connections.{connections_of};
 ghost use Rattle.pol_connection_text.specs.Text.{connections_text};
 ghost use Rattle.pol_repo.specs.Repository.{state_in};
 ghost use Rattle.connections.specs.Ends.{is_answered, status_number};
-ghost use Rattle.connections.specs.Told.{is_none, is_same, refusals_text, states_text, status_of};
+ghost use Rattle.connections.specs.Told.{is_empty, is_same, refusals_text, states_text, status_of};
 
 use crate::status::RunEnd;
 use crate::tell::Told;
@@ -49,7 +49,7 @@ pub(crate) fn one_state(alloc: Global, repo: &Repo, refused: &[Refusal]) -> Resu
     requires { repo.now.prepared ≡ None }
     ensures text { IfOk result (λ told. told.text.items
         ≡ refusals_text None refused.now ++ connections_text (connections_of repo.now.options (state_in repo.now))) }
-    ensures status { IfOk result (λ told. status_number told.status ≡ status_of (not (is_none refused.now)) false) }
+    ensures status { IfOk result (λ told. status_number told.status ≡ status_of (not (is_empty refused.now)) false) }
     ensures answered { IfOk result (λ told. IsTrue (is_answered told.status)) }
 {
     let text = with_refusals(alloc, Vec::new(alloc), None, refused)?;
@@ -116,7 +116,7 @@ pub(crate) fn two_states(
         ++ refusals_text (Some ChangeSide.After) refused_after.now
         ++ states_text halves after.now.options (state_in before.now) (state_in after.now)) }
     ensures status { IfOk result (λ told. status_number told.status
-        ≡ status_of (not (is_none refused_before.now && is_none refused_after.now))
+        ≡ status_of (not (is_empty refused_before.now && is_empty refused_after.now))
         (not (is_same halves after.now.options (state_in before.now) (state_in after.now)))) }
     ensures answered { IfOk result (λ told. IsTrue (is_answered told.status)) }
 {
