@@ -1,4 +1,5 @@
 pub mod Answered
+pub mod Hinted
 pub mod Lines
 pub mod NewNode
 pub mod Seats

@@ -1,6 +1,6 @@
--- One line more of a session, and where it stops.
-use Rattle.std.proofs.Common.{◌≡◌, ℕ, ◌+◌, List, [], ◌∷◌, ◌++◌, length, Result, Ok, Err, OnErr, refl, sym, ap, ◌∙◌, subst, append_assoc, append-nil, length-append, arith}
-use Rattle.std.specs.List.{filter_map, zip}
+-- One line more of a session, and where it stops: what was played, and which hints were put.
+use Rattle.std.proofs.Common.{◌≡◌, ℕ, ◌+◌, List, [], ◌∷◌, ◌++◌, length, Result, Ok, Err, OnErr, refl, sym, ap, ◌∙◌, subst, append_assoc, length-append, arith}
+use Rattle.std.specs.List.{zip}
 use Rattle.std.proofs.lemmas.List.Elements.{filter_map-append}
 use Rattle.pol_answer.specs.declared.answer.Answer.{Answer}
 use Rattle.pol_model.specs.declared.options.Options.{Options}
@@ -9,11 +9,14 @@ use Rattle.pol_script.specs.declared.command.Command.{Command}
 use Rattle.pol_history.specs.Grows.{PassGrows, PassState}
 use Rattle.pol_history.specs.Legal.{IsLegal}
 use Rattle.pol_history.proofs.Meetings.{grows-same, passes-grow}
+use Rattle.pol_hints.specs.Passes.{Pass as HintState}
 use Rattle.pol_run_laws.specs.Placed.{Allows}
 use Rattle.pol_run_laws.specs.Seats.{HasGoneOn}
 use Rattle.pol_run_laws.specs.Session.{PlaysOn, request_done, requests_done}
 use Rattle.pol_run_laws.proofs.PlayingOn.{plays_more}
-use Rattle.pol_sessions.specs.Sessions.{GoesOn, HasStopped}
+use Rattle.pol_sessions.specs.Hinting.{HasHinted, HasHintedUntil, HaveHinted}
+use Rattle.pol_sessions.specs.Sessions.{GoesOn}
+use Rattle.pol_sessions.proofs.Hinted.{hinted_later, hinted_more}
 
 pub zip-more : {A B : Type 0} (xs : List A) (ys : List B) (x : A) (y : B) → length ys ≡ length xs → zip (xs ++ x ∷ []) (ys ++ y ∷ []) ≡ zip xs ys ++ (x, y) ∷ []
 zip-more [] [] x y same = refl
@@ -51,40 +54,53 @@ gone-more options old then new done answers line answer gone on =
       grows = all.grows;
     }
 
--- These lines were played so far, and those are left.
-pub record IsHalfway (options : Options) (old : PassState) (lines left : List Command) (answers : List Answer) (then : PassState) : Type 0 where
+-- These lines were played so far, and those are left; each commit that was played has put its hints.
+pub record IsHalfway (options : Options) (room : ℕ) (old : PassState) (lines left : List Command) (answers : List Answer) (then : PassState) (before now : HintState) : Type 0 where
   pub played : List Command
   pub cut : played ++ left ≡ lines
   pub gone_on : HasGoneOn options old played answers then
+  pub hinted : HaveHinted options room then.has.history (zip played answers) before now
 
-pub halfway-first : (options : Options) (pass : PassState) (lines : List Command) → IsLegal options pass.has.history → IsHalfway options pass lines lines [] pass
-halfway-first options pass lines legal = record { played = []; cut = refl; gone_on = gone-first options pass legal }
+pub halfway-first : (options : Options) (room : ℕ) (pass : PassState) (lines : List Command) (hint : HintState) → IsLegal options pass.has.history
+    → IsHalfway options room pass lines lines [] pass hint hint
+halfway-first options room pass lines hint legal = record { played = []; cut = refl; gone_on = gone-first options pass legal; hinted = refl }
 
-pub halfway-more : (options : Options) (old then new : PassState) (lines left rest : List Command) (answers more : List Answer) (line : Command) (answer : Answer)
-    → left ≡ line ∷ rest → more ≡ answers ++ answer ∷ [] → GoesOn options then line answer new → IsHalfway options old lines left answers then
-    → IsHalfway options old lines rest more new
-halfway-more options old then new lines left rest answers more line answer is told on so_far = record {
-  played = so_far.played ++ line ∷ [];
-  cut = append_assoc so_far.played (line ∷ []) rest ∙ ap (λ (ls : List Command). so_far.played ++ ls) (sym is) ∙ so_far.cut;
-  gone_on = subst (λ (told_so : List Answer). HasGoneOn options old (so_far.played ++ line ∷ []) told_so new) (sym told) (gone-more options old then new so_far.played answers line answer so_far.gone_on on);
-}
+module _ (options : Options) (room : ℕ) (old then : PassState) (lines left : List Command) (answers : List Answer) (before now : HintState) (so_far : IsHalfway options room old lines left answers then before now) where
+  pub halfway-more : (new : PassState) (rest : List Command) (more : List Answer) (line : Command) (answer : Answer) (after : HintState)
+      → left ≡ line ∷ rest → more ≡ answers ++ answer ∷ [] → GoesOn options then line answer new → HasHinted options room new.has.history (line, answer) now after
+      → IsHalfway options room old lines rest more new before after
+  halfway-more new rest more line answer after is told on hints =
+      let played = so_far.played in
+      let history = new.has.history in
+      let pairs : zip (played ++ line ∷ []) more ≡ zip played answers ++ (line, answer) ∷ [] =
+      ap (zip (played ++ line ∷ [])) told ∙ zip-more played answers line answer so_far.gone_on.played.one_each
+      in record {
+        played = played ++ line ∷ [];
+        cut = append_assoc played (line ∷ []) rest ∙ ap (λ (ls : List Command). played ++ ls) (sym is) ∙ so_far.cut;
+        gone_on = subst (λ (told_so : List Answer). HasGoneOn options old (played ++ line ∷ []) told_so new) (sym told)
+            (gone-more options old then new played answers line answer so_far.gone_on on);
+        hinted = subst (λ (ps : List (Command × Answer)). HaveHinted options room history ps before after) (sym pairs)
+            (hinted_more options room history (zip played answers) (line, answer) before now after
+            (hinted_later options room then.has.history history on.grows.grows.goes_on (zip played answers) before now so_far.hinted) hints);
+      }
 
-pub halfway-stopped : (options : Options) (old then new : PassState) (lines left : List Command) (answers : List Answer) → IsHalfway options old lines left answers then
-    → PassGrows options then new [] → HasStopped options old lines new
-halfway-stopped options old then new lines left answers so_far nothing = record {
-  played = so_far.played;
-  left = left;
-  cut = so_far.cut;
-  answers = answers;
-  then = then;
-  gone_on = so_far.gone_on;
-  nothing = nothing;
-}
-
-pub halfway-all : (options : Options) (old then : PassState) (lines left : List Command) (answers : List Answer) → left ≡ [] → IsHalfway options old lines left answers then
-    → HasGoneOn options old lines answers then
-halfway-all options old then lines left answers none so_far =
-    subst (λ (ls : List Command). HasGoneOn options old ls answers then) (sym (append-nil so_far.played) ∙ ap (λ (ls : List Command). so_far.played ++ ls) (sym none) ∙ so_far.cut) so_far.gone_on
+  -- memory was wanting, and nothing was committed or put since
+  pub halfway-until : (new : PassState) (after : HintState) → PassGrows options then new [] → after ≡ now → HasHintedUntil options room old lines new before after
+  halfway-until new after nothing same = record {
+    stopped = record {
+      played = so_far.played;
+      left = left;
+      cut = so_far.cut;
+      answers = answers;
+      then = then;
+      gone_on = so_far.gone_on;
+      nothing = nothing;
+    };
+    hinted =
+        (let pairs = zip so_far.played answers in
+        subst (λ (hint : HintState). HaveHinted options room new.has.history pairs before hint) (sym same)
+        (hinted_later options room then.has.history new.has.history nothing.grows.goes_on pairs before now so_far.hinted));
+  }
 
 pub on_err : {A E : Type 0} (P : Type 0) (r : Result A E) → P → OnErr r P
 on_err P (Ok x) holds = tt

@@ -4,6 +4,7 @@ ghost use Rattle.pol_history.specs.Grows.{PassGrows};
 ghost use Rattle.pol_history.specs.Meet.{has};
 ghost use Rattle.pol_script.specs.declared.command.Command.TheVariants as command;
 ghost use Rattle.pol_phases.specs.Marks.{IsOfSession};
+ghost use Rattle.pol_sessions.specs.Hinting.{HasHinted};
 ghost use Rattle.pol_sessions.specs.Sessions.{GoesOn};
 
 use pol_answer::Answer;
@@ -32,9 +33,16 @@ pub(crate) fn play_line<N: NodeName, W: Wait, R: Wait + Drop, L: Ledger>(
     requires handed_out { has N.passes pass.old.number ≡ true }
     requires of_session { IsOfSession line }
     requires hints { hint_pass.old.queue ≡ hints.now.name }
+
+    // What was answered and committed.
     ensures answered { IfOk result (λ answer. GoesOn N.options pass.old line answer pass.new) }
     ensures nothing { OnErr result (PassGrows N.options pass.old pass.new []) }
+
+    // Which hints were put.
     ensures hints { hint_pass.new.queue ≡ hints.now.name }
+    ensures hinted { IfOk result (λ answer.
+        HasHinted N.options hints.now.room pass.new.has.history (line, answer) hint_pass.old hint_pass.new) }
+    ensures no_hint { OnErr result (hint_pass.new ≡ hint_pass.old) }
 {
     match line {
         Command::Commit {
@@ -64,10 +72,17 @@ fn commit<N: NodeName, W: Wait, R: Wait + Drop, L: Ledger>(
 ) -> Result<Answer, Memory>
     requires handed_out { has N.passes pass.old.number ≡ true }
     requires hints { hint_pass.old.queue ≡ hints.now.name }
+
+    // What was answered and committed.
     ensures answered { IfOk result (λ answer.
         (session : ℕ) → GoesOn N.options pass.old (command.Commit session request) answer pass.new) }
     ensures nothing { OnErr result (PassGrows N.options pass.old pass.new []) }
+
+    // Which hints were put.
     ensures hints { hint_pass.new.queue ≡ hints.now.name }
+    ensures hinted { IfOk result (λ answer. (session : ℕ) → HasHinted N.options hints.now.room pass.new.has.history
+        (command.Commit session request, answer) hint_pass.old hint_pass.new) }
+    ensures no_hint { OnErr result (hint_pass.new ≡ hint_pass.old) }
 {
     pass.fits_together();
     // A place has no numbers for a list so long.

@@ -95,13 +95,18 @@ fn play_named<N: NodeName + Send + Sync, W: Threads + Wait + Sync, G: Gate + Syn
     gate: &G,
     phases: Vec<Items<Commands>>,
 ) -> Result<PlayedScript, Stopped>
+    // What the name says.
     requires book { book ≡ N.book }
     requires options { N.options
         ≡ record { mode = config.mode; localhost = config.localhost; map_max = Some config.map_max } }
     requires passes { N.passes ≡ map (λ pass. pass.number) (drop 257 (new_passes (257 + config.passes))) }
+
+    // What is to be played.
     requires limit { config.map_max ≤ 65536 }
     requires sessions { (0 < config.passes) × (config.passes ≤ 40) }
     requires one_each { AllByRecursion (λ lines. length lines ≡ config.passes) phases.items }
+
+    // It was played, or is given back.
     ensures played { IfOk result (λ played.
         IsScriptPlayed N.options config.passes phases.items played.told.items played.last) }
     ensures again { IfErr result (IsAgain phases.items) }

@@ -1,7 +1,9 @@
 //! What one session has in a phase.
 ghost use Rattle.std.specs.Prelude.{◌≡◌, IfOk, OnErr, true};
+ghost use Rattle.std.specs.List.{zip};
 ghost use Rattle.pol_history.specs.Meet.{has};
 ghost use Rattle.pol_run_laws.specs.Seats.{HasGoneOn};
+ghost use Rattle.pol_sessions.specs.Hinting.{HasHintedUntil, HaveHinted};
 ghost use Rattle.pol_sessions.specs.Sessions.{HasStopped};
 
 use crate::line::play_line;
@@ -16,7 +18,7 @@ use std::sync::Wait;
 use std::sync::ledger::{Blank, Ledger};
 
 /// Plays the lines of one session within one phase, in order, by the calls of the node that handed out the pass. A look that
-/// had no guard is asked again. After a commit it puts a hint for each slot in use.
+/// had no guard is asked again. After a commit it puts a hint for each slot in use, until the queue is full.
 ///
 /// The one error is want of memory: what was committed and published and the hints that were put before it stand, and the
 /// board's writer may be spent.
@@ -31,9 +33,17 @@ pub fn play_session<N: NodeName, W: Wait, R: Wait + Drop>(
 ) -> Result<Answers, Memory>
     requires handed_out { has N.passes pass.old.number ≡ true }
     requires hints { hint_pass.old.queue ≡ hints.now.name }
+
+    // What was played and committed.
     ensures played { IfOk result (λ answers. HasGoneOn N.options pass.old lines answers pass.new) }
     ensures stopped { OnErr result (HasStopped N.options pass.old lines pass.new) }
+
+    // Which hints were put.
     ensures hints { hint_pass.new.queue ≡ hints.now.name }
+    ensures hinted { IfOk result (λ answers.
+        HaveHinted N.options hints.now.room pass.new.has.history (zip lines answers) hint_pass.old hint_pass.new) }
+    ensures hinted_until { OnErr result
+        (HasHintedUntil N.options hints.now.room pass.old lines pass.new hint_pass.old hint_pass.new) }
 {
     play_counted::<N, W, R, Brand>(
         Blank::new(1),
@@ -58,14 +68,25 @@ fn play_counted<N: NodeName, W: Wait, R: Wait + Drop, L: Ledger>(
     hint_pass: &mut HintPass,
     lines: Commands,
 ) -> Result<Answers, Memory>
+    // A new count of steps.
     requires name { blank.name ≡ L.name }
     requires parts { blank.parts ≡ L.parts }
     requires some { blank.parts ≡ 1 }
+
+    // Passes of the node and of the queue.
     requires handed_out { has N.passes pass.old.number ≡ true }
     requires hints { hint_pass.old.queue ≡ hints.now.name }
+
+    // What was played and committed.
     ensures played { IfOk result (λ answers. HasGoneOn N.options pass.old lines answers pass.new) }
     ensures stopped { OnErr result (HasStopped N.options pass.old lines pass.new) }
+
+    // Which hints were put.
     ensures hints { hint_pass.new.queue ≡ hints.now.name }
+    ensures hinted { IfOk result (λ answers.
+        HaveHinted N.options hints.now.room pass.new.has.history (zip lines answers) hint_pass.old hint_pass.new) }
+    ensures hinted_until { OnErr result
+        (HasHintedUntil N.options hints.now.room pass.old lines pass.new hint_pass.old hint_pass.new) }
 {
     let mut steps = Steps::<L>::new(blank);
     let mut left = lines;

@@ -1,29 +1,68 @@
-use Rattle.std.proofs.Common.{List, [], ◌∷◌, ◌++◌, refl}
-use Rattle.pol_sessions.proofs.Lines.{halfway-first, halfway-more, halfway-stopped, on_err, pass-same}
+use Rattle.std.proofs.Common.{[], ◌∷◌, ◌++◌, refl}
+use Rattle.pol_sessions.proofs.Lines.{halfway-first, halfway-more, halfway-until, on_err, pass-same}
 use Rattle.pol_sessions.proofs.session.play_counted.Goals as goal
 
 pub loop-line-init : goal.loop-line-init
 loop-line-init g c =
     let options = g.N.NodeName.options in
     let legal = c.fits_together.ensures.legal in record {
-      halfway = rw c.new-answers.ensures (halfway-first options c.args.pass.now c.args.lines legal);
+      halfway = rw c.new-answers.ensures (halfway-first options c.args.hints.now.room c.args.pass.now c.args.lines c.args.hint_pass.now legal);
       hints = c.requires.hints;
     }
 
 pub loop-line-preserved : goal.loop-line-preserved
 loop-line-preserved g c = record {
-  halfway = halfway-more g.N.NodeName.options c.args.pass.now c.loop-line.pass c.play_line.new.pass c.args.lines c.loop-line.left c.next.new.self c.loop-line.answers c.push.new.self
-      c.in-Some.line c.in_ok-answer.answer c.in-Some.ensures.first c.in_ok-push.ensures.pushed c.in_ok-answer.ensures.answered c.loop-line.invariant.halfway;
+  halfway = halfway-more g.N.NodeName.options c.args.hints.now.room c.args.pass.now c.loop-line.pass c.args.lines c.loop-line.left c.loop-line.answers
+      c.args.hint_pass.now c.loop-line.hint_pass c.loop-line.invariant.halfway c.play_line.new.pass c.next.new.self c.push.new.self c.in-Some.line
+      c.in_ok-answer.answer c.play_line.new.hint_pass c.in-Some.ensures.first c.in_ok-push.ensures.pushed c.in_ok-answer.ensures.answered
+      c.in_ok-answer.ensures.hinted;
   hints = c.play_line.ensures.hints;
 }
+
+-- ---- memory was wanting at a line
+
+pub returns-in_err-answer-clause-stopped : goal.returns-in_err-answer-clause-stopped
+returns-in_err-answer-clause-stopped g c =
+    let until = halfway-until g.N.NodeName.options c.args.hints.now.room c.args.pass.now c.loop-line.pass c.args.lines c.loop-line.left c.loop-line.answers
+    c.args.hint_pass.now c.loop-line.hint_pass c.loop-line.invariant.halfway c.play_line.new.pass c.play_line.new.hint_pass
+    c.in_err-answer.ensures.nothing c.in_err-answer.ensures.no_hint in
+    on_err _ c.from_residual.result until.stopped
+
+pub returns-in_err-answer-clause-hinted_until : goal.returns-in_err-answer-clause-hinted_until
+returns-in_err-answer-clause-hinted_until g c =
+    let until = halfway-until g.N.NodeName.options c.args.hints.now.room c.args.pass.now c.loop-line.pass c.args.lines c.loop-line.left c.loop-line.answers
+    c.args.hint_pass.now c.loop-line.hint_pass c.loop-line.invariant.halfway c.play_line.new.pass c.play_line.new.hint_pass
+    c.in_err-answer.ensures.nothing c.in_err-answer.ensures.no_hint in
+    on_err _ c.from_residual.result until
+
+-- ---- it was wanting behind a line, for its answer
 
 pub returns-in_err-push-clause-stopped : goal.returns-in_err-push-clause-stopped
 returns-in_err-push-clause-stopped g c =
     let options = g.N.NodeName.options in
+    let room = c.args.hints.now.room in
+    let hint = c.play_line.new.hint_pass in
     let new = c.play_line.new.pass in
     let on = c.in_ok-answer.ensures.answered in
     let more = c.loop-line.answers ++ c.in_ok-answer.answer ∷ [] in
-    let halfway = halfway-more options c.args.pass.now c.loop-line.pass new c.args.lines c.loop-line.left c.next.new.self c.loop-line.answers more
-    c.in-Some.line c.in_ok-answer.answer c.in-Some.ensures.first refl on c.loop-line.invariant.halfway in
+    let halfway = halfway-more options room c.args.pass.now c.loop-line.pass c.args.lines c.loop-line.left c.loop-line.answers c.args.hint_pass.now
+    c.loop-line.hint_pass c.loop-line.invariant.halfway new c.next.new.self more c.in-Some.line c.in_ok-answer.answer hint c.in-Some.ensures.first refl on
+    c.in_ok-answer.ensures.hinted in
+    let until = halfway-until options room c.args.pass.now new c.args.lines c.next.new.self more c.args.hint_pass.now hint halfway new hint
+    (pass-same options new on.grows.grows.legal) refl in
+    on_err _ c.from_residual-in_err-push.result until.stopped
+
+pub returns-in_err-push-clause-hinted_until : goal.returns-in_err-push-clause-hinted_until
+returns-in_err-push-clause-hinted_until g c =
+    let options = g.N.NodeName.options in
+    let room = c.args.hints.now.room in
+    let hint = c.play_line.new.hint_pass in
+    let new = c.play_line.new.pass in
+    let on = c.in_ok-answer.ensures.answered in
+    let more = c.loop-line.answers ++ c.in_ok-answer.answer ∷ [] in
+    let halfway = halfway-more options room c.args.pass.now c.loop-line.pass c.args.lines c.loop-line.left c.loop-line.answers c.args.hint_pass.now
+    c.loop-line.hint_pass c.loop-line.invariant.halfway new c.next.new.self more c.in-Some.line c.in_ok-answer.answer hint c.in-Some.ensures.first refl on
+    c.in_ok-answer.ensures.hinted in
     on_err _ c.from_residual-in_err-push.result
-    (halfway-stopped options c.args.pass.now new new c.args.lines c.next.new.self more halfway (pass-same options new on.grows.grows.legal))
+    (halfway-until options room c.args.pass.now new c.args.lines c.next.new.self more c.args.hint_pass.now hint halfway new hint
+    (pass-same options new on.grows.grows.legal) refl)

@@ -4,7 +4,7 @@ use Rattle.pol_sessions.proofs.session.play_counted.Given as goal
 
 abbrev pub invariant-loop-line : goal.invariant-loop-line
 invariant-loop-line g l = record {
-  halfway : IsHalfway g.N.NodeName.options l.fn.pass l.fn.lines l.left l.answers l.pass;
+  halfway : IsHalfway g.N.NodeName.options l.hints.room l.fn.pass l.fn.lines l.left l.answers l.pass l.fn.hint_pass l.hint_pass;
   hints : l.hint_pass.queue ≡ l.hints.name;
 }
 
