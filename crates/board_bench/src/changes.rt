@@ -71,7 +71,9 @@ fn time_change<N: NodeName, W: Clock + Wait, R: Wait + Drop, L: Ledger>(
     let committed = watch.nanos(rt);
     publish(rt, alloc, desk, &mut seats.slot, 0)?;
     let published = watch.nanos(rt);
-    seats.slot.regenerate_over(rt, alloc, desk, 0)?;
+    if seats.slot.regenerate_over(rt, alloc, desk, 0).is_err() {
+        return Err(Memory);
+    }
     let over = watch.nanos(rt);
     Ok(Spent {
         commit: committed.wrapping_sub(start),

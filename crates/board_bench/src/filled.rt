@@ -52,8 +52,8 @@ pub(crate) fn publish<N: NodeName, W: Wait, R: Wait + Drop>(
     slot: &mut Slot<N>,
     number: u32,
 ) -> Result<u64, Memory> {
-    match slot.regenerate_over(rt, alloc, desk, number)? {
-        Regen::Published(revision) => Ok(revision),
+    match slot.regenerate_over(rt, alloc, desk, number) {
+        Ok(Regen::Published(revision)) => Ok(revision),
         _ => Err(Memory),
     }
 }

@@ -252,8 +252,8 @@ pub(crate) fn turn<N: NodeName, W: Wait, R: Wait + Drop, L: Ledger>(
     ensures number { pass.new.number ≡ pass.old.number }
 {
     commit(rt, alloc, desk, pass, request, steps)?;
-    match slot.regenerate_over(rt, alloc, desk, 0)? {
-        Regen::Published(revision) => Ok(revision),
+    match slot.regenerate_over(rt, alloc, desk, 0) {
+        Ok(Regen::Published(revision)) => Ok(revision),
         _ => Err(Memory),
     }
 }

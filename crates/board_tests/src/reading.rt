@@ -85,8 +85,8 @@ fn sync<N: NodeName, W: Wait, R: Wait + Drop>(
     desk: &Mutex<Desk<N, R>>,
     slot: &mut Slot<N>,
 ) -> Result<Answer, Memory> {
-    match slot.regenerate_over(rt, alloc, desk, 0)? {
-        Regen::Published(revision) => Ok(Answer::Synced {
+    match slot.regenerate_over(rt, alloc, desk, 0) {
+        Ok(Regen::Published(revision)) => Ok(Answer::Synced {
             revision,
             full: Items::empty(alloc),
         }),

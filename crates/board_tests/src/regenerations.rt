@@ -21,6 +21,19 @@ static TOLD: [Regen; 4] = [
     Regen::Gone,
 ];
 
+/// What a regeneration of the slot tells. An error is want of memory here.
+fn regenerated<N: NodeName, W: Wait, R: Wait + Drop>(
+    rt: &W,
+    alloc: Global,
+    node: &Node<N, R>,
+    slot: u32,
+) -> Result<Regen, Memory> {
+    match node.regenerate(rt, alloc, slot) {
+        Ok(regen) => Ok(regen),
+        Err(_) => Err(Memory),
+    }
+}
+
 /// What is told of the slot of an endpoint, once more, after another commit, and of the slot behind it.
 fn regenerations<N: NodeName, W: Wait, R: Wait + Drop, L: Ledger>(
     blank: Blank,
@@ -38,12 +51,12 @@ fn regenerations<N: NodeName, W: Wait, R: Wait + Drop, L: Ledger>(
     let mut pass = pass;
     let mut told = Vec::new(alloc);
     commit(rt, alloc, node, &mut pass, endpoint(alloc)?, &mut steps)?;
-    told.push(node.regenerate(rt, alloc, 0)?)?;
-    told.push(node.regenerate(rt, alloc, 0)?)?;
+    told.push(regenerated(rt, alloc, node, 0)?)?;
+    told.push(regenerated(rt, alloc, node, 0)?)?;
     let always = Request::SetMode(Mode::Always);
     commit(rt, alloc, node, &mut pass, always, &mut steps)?;
-    told.push(node.regenerate(rt, alloc, 0)?)?;
-    told.push(node.regenerate(rt, alloc, 1)?)?;
+    told.push(regenerated(rt, alloc, node, 0)?)?;
+    told.push(regenerated(rt, alloc, node, 1)?)?;
     Ok(told)
 }
 

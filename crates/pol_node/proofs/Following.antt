@@ -1,9 +1,8 @@
 -- What a slot keeps, beside what was taken at its history.
-use Rattle.std.proofs.Common.{◌≡◌, ℕ, ◌==◌, ◌≤◌, ◌⊎◌, inl, inr, List, Option, None, Some, IfSome, option_map, sym, ap, ◌∙◌, subst}
+use Rattle.std.proofs.Common.{◌≡◌, ℕ, ◌==◌, ◌⊎◌, inl, inr, List, Some, option_map, sym, ap, ◌∙◌, subst}
 use Rattle.std.specs.Arc.{arc_value}
 use Rattle.std.proofs.lemmas.Bool.{eqb-true}
 use Rattle.std.proofs.lemmas.Option.{same_Some}
-use mathlib.Core.List.{IsPrefix}
 use Rattle.pol_model.specs.declared.options.Options.{Options}
 use Rattle.pol_model.specs.declared.row.Endpoint.{Endpoint}
 use Rattle.pol_model.specs.PolicyMap.{policy_map}
@@ -12,7 +11,7 @@ use Rattle.pol_model_laws.proofs.Membership.{find-In}
 use Rattle.pol_map_changes.specs.Changes.{changed, table_of}
 use Rattle.pol_kept_map.specs.Work.{map_of}
 use Rattle.pol_history.specs.declared.event.HistoryEvent.{HistoryEvent}
-use Rattle.pol_history.specs.Commits.{commits_in, live_endpoint, revision_of, state_after, state_now}
+use Rattle.pol_history.specs.Commits.{commits_in, live_endpoint, state_after, state_now}
 use Rattle.pol_history.specs.Machine.{endpoint_id}
 use Rattle.pol_history.proofs.Cuts.{state-now}
 use Rattle.pol_history.proofs.Names.{slot-live}
@@ -21,19 +20,8 @@ use Rattle.pol_slot_map.specs.declared.follow.Followed.{Followed}
 use Rattle.pol_slot_map.specs.Follow.{GoesOn, MayApply, Stays, changed_by, led}
 use Rattle.pol_slot_map.specs.Followed.{Follows, id_in, table_then}
 use Rattle.pol_slot_map.proofs.Applying.{may_apply}
-use Rattle.pol_slot_map.proofs.Keeping.{follows-later, follows-on, follows-stays}
-use Rattle.pol_node.specs.Slot.{IsMade, IsTakenAt, TellsMovesFrom, kept_of}
-
-pub some_later : (options : Options) (old new : List HistoryEvent) (followed : Option Followed) → IsPrefix old new
-    → IfSome followed (Follows options old) → IfSome followed (Follows options new)
-some_later options old new None begins is = tt
-some_later options old new (Some f) begins is = follows-later options old new f begins is
-
--- the revision that is kept is one of the history
-pub kept_within : (options : Options) (history : List HistoryEvent) (followed : Option Followed) → IfSome followed (Follows options history)
-    → IfSome (kept_of followed) (λ revision. revision ≤ revision_of history)
-kept_within options history None is = tt
-kept_within options history (Some f) is = is.within
+use Rattle.pol_slot_map.proofs.Keeping.{follows-on, follows-stays}
+use Rattle.pol_node.specs.Slot.{IsMade, IsTakenAt, TellsMovesFrom}
 
 module _ (options : Options) (history : List HistoryEvent) (slot : ℕ) (taken : Taken) (is : IsTakenAt options history slot taken) where
   pub own_slot : taken.endpoint.slot ≡ slot
@@ -46,7 +34,7 @@ module _ (options : Options) (history : List HistoryEvent) (slot : ℕ) (taken :
 
   module _ (f : Followed) (follows : Follows options history f) where
     -- it may be applied to what is kept
-    pub applies : TellsMovesFrom options history (kept_of (Some f)) taken → MayApply f.work (arc_value taken.filters) taken.sets taken.moves
+    pub applies : TellsMovesFrom options history (Some f.kept) taken → MayApply f.work (arc_value taken.filters) taken.sets taken.moves
     applies told =
         may_apply options (commits_in history) f.kept follows.within f.work follows.row slot taken follows.filters follows.sets is.is told
 

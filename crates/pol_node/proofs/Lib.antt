@@ -9,3 +9,6 @@ pub mod Places
 pub mod Reporting
 pub mod Turning
 pub mod Turns
+pub mod Keeping
+pub mod Lasting
+pub mod Taking

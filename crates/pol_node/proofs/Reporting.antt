@@ -1,10 +1,10 @@
 -- What was taken of an endpoint at a beginning of the history may be reported behind the history, and is found there.
-use Rattle.std.proofs.Common.{◌≡◌, ℕ, ◌-◌, ◌==◌, ◌<◌, ◌≤◌, not, Bool, true, List, [], ◌∷◌, ◌++◌, length, Option, None, Some, IfSome, IsTrue, OnErr, OnOk, Result, Ok, Err, option_map, refl, sym, ap, subst, ◌∙◌, arith}
+use Rattle.std.proofs.Common.{◌≡◌, ℕ, ◌-◌, ◌==◌, ◌<◌, ◌≤◌, not, Bool, true, List, [], ◌∷◌, ◌++◌, length, Option, None, Some, IfErr, IfSome, IsErrAnd, IsTrue, OnErr, OnOk, Result, Ok, Err, option_map, refl, sym, ap, subst, ◌∙◌, arith}
 use Rattle.std.specs.FinMap as finite
 use Rattle.std.specs.List.{slice_get}
 use Rattle.std.specs.List.Sorted.{IsStrictlySortedBy}
 use Rattle.std.proofs.lemmas.Bool.{eqb-true, false≢true}
-use Rattle.std.proofs.lemmas.Option.{slice_get_within}
+use Rattle.std.proofs.lemmas.Option.{same_Some, slice_get_within}
 use mathlib.Core.List.{IsPrefix}
 use Rattle.pol_data.proofs.Members.{Contains-from_In}
 use Rattle.pol_mapkey.specs.Entries.{Entry as MapEntry}
@@ -29,7 +29,7 @@ use Rattle.pol_history.specs.Commits.{Lives, commits_in, live_endpoint, revision
 use Rattle.pol_history.specs.Content.{BoardRow, PublishedMap, content_of}
 use Rattle.pol_history.specs.Held.{ShowsMap, ShowsRow}
 use Rattle.pol_history.specs.Legal.{IsLegal}
-use Rattle.pol_history.specs.Machine.{endpoint_id, is_reported}
+use Rattle.pol_history.specs.Machine.{endpoint_id, endpoint_in, is_reported}
 use Rattle.pol_history.specs.MayFollow.{BlockedMayFollow, PublishMayFollow, ReportMayFollow}
 use Rattle.pol_history.specs.Reports.{last_published, last_report, map_at, published_before}
 use Rattle.pol_history.proofs.Beginnings.{prefix_length, prefix_more}
@@ -37,7 +37,7 @@ use Rattle.pol_history.proofs.Contents.{content-rows}
 use Rattle.pol_history.proofs.Cuts.{state-now}
 use Rattle.pol_history.proofs.Lists.{get_seam, no_element}
 use Rattle.pol_history.proofs.Lives.{lives-then}
-use Rattle.pol_history.proofs.Names.{live-id, slot-live}
+use Rattle.pol_history.proofs.Names.{live-id, live-in, slot-found, slot-live}
 use Rattle.pol_history.proofs.Own.{legal_prefix, map-prefix, revision-prefix, state-prefix}
 use Rattle.pol_history.proofs.Same.{live-parts}
 use Rattle.pol_history_log.specs.Asked.{or_none, table_at}
@@ -46,6 +46,9 @@ use Rattle.pol_board_view.specs.Rows.{Leads, table_in}
 use Rattle.pol_taken.specs.OfState.{IsTakenOf}
 use Rattle.pol_taken.specs.declared.taken.Taken.{Taken}
 use Rattle.pol_slot_map.specs.Followed.{table_then}
+use Rattle.pol_node.specs.declared.report.RegenError.{RegenError}
+use Rattle.pol_node.specs.declared.report.RegenError.TheVariants as error
+use Rattle.pol_node.specs.Kept.{IsLastNoMore, IsLastNow, IsOvertaken, IsStill, KeptReport, known}
 use Rattle.pol_node.specs.Finish.{TellsPublished, WasBlocked, WasPublished, WasReportedAs}
 
 -- ---- tables by their entries
@@ -137,6 +140,11 @@ pub either_way : {T E : Type 0} (P : List HistoryEvent → Type 0) (result : Res
 either_way P (Ok x) history new e ok err same more = subst P (sym ok) more
 either_way P (Err x) history new e ok err same more = subst P (sym err) same
 
+-- want of memory is handed on
+pub memory_fails : {T : Type 0} (P : RegenError → Type 0) (result : Result T RegenError) → IsErrAnd result (λ why. why ≡ error.Memory) → P error.Memory → IfErr result P
+memory_fails P (Ok x) told is = tt
+memory_fails P (Err why) told is = subst P (sym told) is
+
 -- ---- what was taken
 
 -- it was taken after a beginning of the history
@@ -185,6 +193,29 @@ module _ (options : Options) (old history : List HistoryEvent) (taken : Taken) (
       let by = added-by options (commits_in old) taken.endpoint (Contains-from_In rows taken.endpoint there) in
       let below = slice_get_within (commits_in old) (taken.endpoint.added - 1) _ by.1 in
       omega (arith, by.0, below, was.revision)
+
+  -- ---- where it lives, its slot and its last report
+
+  row_now : (row : Endpoint) → live_endpoint (endpoint_id taken.endpoint) (state_now options history) ≡ Some row → row ≡ taken.endpoint
+  row_now row live =
+      let then = lives-then options history (endpoint_id taken.endpoint) row taken.revision within since_added live in
+      same_Some row taken.endpoint (sym then ∙ live_then)
+
+  in_slot : Lives (state_now options history) (endpoint_id taken.endpoint)
+      → endpoint_in taken.endpoint.slot (state_now options history).endpoints ≡ Some taken.endpoint
+  in_slot lives =
+      subst (λ (row : Endpoint). endpoint_in row.slot (state_now options history).endpoints ≡ Some row) (row_now lives.row lives.found)
+      (slot-found options history lives.row (live-in options history (endpoint_id taken.endpoint) lives.row lives.found))
+
+  pub still_then : (kept : Option KeptReport) (last : Option LastReport) → known kept (endpoint_id taken.endpoint) ≡ last
+      → IsLastNow options history (endpoint_id taken.endpoint) last → IsStill options history taken.endpoint.slot kept
+  still_then kept last is now row there =
+      let same : row ≡ taken.endpoint = same_Some row taken.endpoint (sym there ∙ in_slot now.live) in
+      subst (λ (r : Endpoint). last_report (endpoint_id r) history ≡ known kept (endpoint_id r)) (sym same) (now.is ∙ sym is)
+
+  pub overtaken_then : (kept : Option KeptReport) (last : Option LastReport) → known kept (endpoint_id taken.endpoint) ≡ last
+      → IsLastNoMore options history (endpoint_id taken.endpoint) last → IsOvertaken options history taken.endpoint.slot kept
+  overtaken_then kept last is more = record { row = taken.endpoint; there = in_slot more.live; other = λ same. more.other (same ∙ is) }
 
   -- ---- it may be reported
 

@@ -1,5 +1,5 @@
 -- What a finish of a take tells of the slot's regeneration, and what a sync learns of that.
-use Rattle.std.proofs.Common.{◌≡◌, ℕ, ◌==◌, Bool, true, false, List, length, None, Some, option_map, inl, inr, refl, ap, ◌∙◌, arith}
+use Rattle.std.proofs.Common.{◌≡◌, ℕ, ◌==◌, Bool, true, false, List, [], length, None, Some, Result, Ok, Err, IfOk, option_map, inl, inr, refl, ap, ◌∙◌, arith}
 use Rattle.std.proofs.lemmas.Bool.{eqb-true}
 use mathlib.Core.List.{IsPrefix}
 use Rattle.pol_model.specs.declared.answer.FullSlot.{FullSlot}
@@ -12,6 +12,7 @@ use Rattle.pol_history.specs.declared.event.EndpointId.{EndpointId}
 use Rattle.pol_history.specs.declared.event.HistoryEvent.{HistoryEvent}
 use Rattle.pol_history.specs.declared.turn.SlotTurn.{SlotTurn}
 use Rattle.pol_history.specs.Commits.{live_endpoint, revision_of, state_after, state_now}
+use Rattle.pol_history.specs.Grows.{PassGrowsWhole, PassState}
 use Rattle.pol_history.specs.Legal.{IsLegal}
 use Rattle.pol_history.specs.Machine.{endpoint_id, endpoint_in}
 use Rattle.pol_history.specs.Regenerate.{IsAlready, IsFull, IsGone, IsPublished, WasTaken}
@@ -28,7 +29,7 @@ use Rattle.pol_node.specs.declared.report.Finished.{Finished}
 use Rattle.pol_node.specs.declared.report.Finished.TheVariants as done
 use Rattle.pol_node.specs.declared.report.Regen.{Regen}
 use Rattle.pol_node.specs.declared.report.Regen.TheVariants as regen
-use Rattle.pol_node.specs.Finish.{Finishes, Regenerates}
+use Rattle.pol_node.specs.Finish.{Finishes, HasRegenerated, Regenerates}
 use Rattle.pol_node.specs.Slot.{IsTakenAt, TellsAnyTurn, regen_of, turn_of}
 
 -- ---- what was taken at the earlier history
@@ -152,3 +153,11 @@ pub told_around : (options : Options) (slot : ℕ) (first old new last : List Hi
     → TellsAnyTurn options slot old new told → TellsTurn options slot first last (revision_of first) told
 told_around options slot first old new last told less more tells =
     turn-kept options slot (revision_of first) first old new last told less more (tells (revision_of first) (revision-prefix first old less))
+
+-- ---- behind the slot's lock
+
+pub has_regenerated : {E : Type 0} (options : Options) (slot : ℕ) (old new : PassState) (result : Result Regen E) → PassGrowsWhole options old new []
+    → IfOk result (Regenerates options slot old.has.history new.has.history) → IfOk result (HasRegenerated options slot)
+has_regenerated options slot old new (Ok answer) grows is =
+    record { old = old.has.history; new = new.has.history; begins = grows.whole.grows.goes_on; legal = grows.whole.grows.legal; is = is }
+has_regenerated options slot old new (Err error) grows is = tt

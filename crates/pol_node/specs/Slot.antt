@@ -1,5 +1,5 @@
 -- What a slot does with what was taken at a history, and what it tells of how that was finished.
-use Rattle.std.specs.Prelude.{◌≡◌, ℕ, ◌≤◌, List, true, false, Option, None, option_map}
+use Rattle.std.specs.Prelude.{◌≡◌, ℕ, ◌≤◌, true, false, List, Option, None}
 use Rattle.std.specs.Arc.{arc_value}
 use Rattle.pol_set_moves.specs.Moves.{TellsMovesSince}
 use Rattle.pol_distill.specs.Distilled.{distilled}
@@ -22,14 +22,12 @@ use Rattle.pol_node.specs.declared.report.Finished.{Finished}
 use Rattle.pol_node.specs.declared.report.Finished.TheVariants as done
 use Rattle.pol_node.specs.declared.report.Regen.{Regen}
 use Rattle.pol_node.specs.declared.report.Regen.TheVariants as regen
+use Rattle.pol_node.specs.Kept.{KeptReport}
 
--- a slot: what its pass has
+-- a slot: what its pass has, and what is kept of its endpoint's reports
 pub record SlotState : Type 0 where
   pub pass : PassState
-
--- the revision of the map that was made last
-abbrev pub kept_of : Option Followed → Option ℕ
-kept_of followed = option_map (λ f. f.kept) followed
+  pub kept : Option KeptReport
 
 -- It was taken for the slot of the state after all commits of the history, which is legal; its filters and sets make the
 -- endpoint's canonical map.

@@ -1,5 +1,5 @@
 //! What lies under the desk's lock.
-ghost use Rattle.std.specs.Prelude.{◌≡◌, ◌↔◌, ◌+◌, ◌<◌, ◌≤◌, ◌∷◌, [], IfErr, IfOk, IfSome, IsErrOf, IsTrue, MatchBool, None, OnErr, OnOk, Some, false, length, map, true};
+ghost use Rattle.std.specs.Prelude.{◌≡◌, ◌↔◌, ◌+◌, ◌<◌, ◌≤◌, ◌∷◌, [], IfErr, IfOk, IfSome, IsErrOf, MatchBool, None, OnErr, OnOk, Some, false, length, map, true};
 ghost use Rattle.std.specs.Arc.{arc_value};
 ghost use Rattle.pol_set_moves.specs.Moves.{TellsMovesSince};
 ghost use Rattle.pol_distill.specs.Distilled.{distilled};
@@ -8,9 +8,10 @@ ghost use Rattle.pol_slot_map.specs.Followed.{table_then};
 ghost use Rattle.pol_history.specs.Calls.{IsAccepted, IsTraced};
 ghost use Rattle.pol_history.specs.Commits.{Lives, commits_in, revision_of, state_now};
 ghost use Rattle.pol_history.specs.Grows.{PassGrowsWhole};
+ghost use Rattle.pol_history.specs.Legal.{IsLegal};
 ghost use Rattle.pol_history.specs.Machine.{endpoint_id, endpoint_in, is_reported};
 ghost use Rattle.pol_history.specs.Meet.{AreOf, HaveMet, has, meetings_of};
-ghost use Rattle.pol_history.specs.Reports.{published_before};
+ghost use Rattle.pol_history.specs.Reports.{last_report, published_before};
 ghost use Rattle.pol_model.specs.Ascending.{Ascends};
 ghost use Rattle.pol_model.specs.Committed.{slots_of};
 ghost use Rattle.pol_model.specs.PolicyMap.{policy_map};
@@ -21,12 +22,17 @@ ghost use Rattle.pol_taken.specs.OfState.{IsTakenOf};
 ghost use Rattle.pol_repo_history.specs.AtHistory.{IsAt};
 ghost use Rattle.pol_node.specs.Desk.{IsCauseOf, IsNotTraced};
 ghost use Rattle.pol_node.specs.Finish.{Finishes, TellsPublished};
+ghost use Rattle.pol_node.specs.Kept.{Finds, IsKeptOf, NotReported, ReportsOn, blocked_now, published_now};
+ghost use Rattle.pol_node.specs.TakenFor.{TakesFor};
 
-use crate::report::{Finished, TraceError, Traced};
+use crate::kept::{
+    Found, KeptEndpoint, NotTaken, is_other, is_same_report, last_kept, let_go, since, told,
+};
+use crate::report::{Finished, RegenError, Reported, TraceError, Traced};
 use left_right::Absorb;
 use pol_board::{BoardWriter, NodeName, Pass};
 use pol_board_view::{Face, FaceOp};
-use pol_data::{Memory, Steps};
+use pol_data::Steps;
 use pol_history::LastReport;
 use pol_map_changes::ChangeList;
 use pol_model::{CommitError, Committed, Query, Request};
@@ -186,11 +192,37 @@ impl<N: NodeName, R: Wait + Drop> Desk<N, R> {
         self.repo.take(alloc, slot, since)
     }
 
-    /// Reports the map of what was taken: publishes it where it fits the limit. It has `count` entries, and the changes lead
-    /// to it from the map at the revision that was shown last, from an empty one where none was. Nothing is reported where
-    /// the endpoint is gone, or where its last report is of the taken revision.
+    /// The same, by what is kept of the slot's endpoint. What is kept of another endpoint is let go.
     ///
-    /// The one error is want of memory: then nothing was reported, and the board's writer may be spent.
+    /// `Gone` comes where no live endpoint has the slot. `Overtaken` comes where the last report of the slot's endpoint is
+    /// another one than is kept, or one and none is kept. `Memory` is want of memory.
+    pub(crate) fn take_for<W: Wait>(
+        &mut self,
+        rt: &W,
+        alloc: Global,
+        pass: &mut Pass<N>,
+        slot: u32,
+        kept: &mut Option<KeptEndpoint>,
+    ) -> Result<Taken, NotTaken>
+        requires kept { IfSome kept.old (IsKeptOf N.options pass.old.has.history) }
+        ensures grows { PassGrowsWhole N.options pass.old pass.new [] }
+        ensures takes { TakesFor N.options pass.new.has.history slot kept.old kept.new result }
+    {
+        self.writer.show(rt, pass);
+        match self.finds(pass, slot, kept) {
+            Found::Gone => Err(NotTaken::Gone),
+            Found::Overtaken => Err(NotTaken::Overtaken),
+            Found::Still => told(self.take(rt, alloc, pass, slot, since(kept))),
+        }
+    }
+
+    /// Reports the map of what was taken: publishes it where it fits the limit. It has `count` entries, and `last` is the
+    /// endpoint's last report where it was taken. The changes lead to the map from the one that was published last, from an
+    /// empty one where none was. Nothing is reported where the endpoint is gone, or where its last report is of the taken
+    /// revision.
+    ///
+    /// `Memory` is want of memory: then nothing was reported, and the board's writer may be spent. `Overtaken` comes where the
+    /// endpoint's last report is no longer `last`: another has reported it since the take.
     pub fn finish<W: Wait>(
         &mut self,
         rt: &W,
@@ -198,43 +230,65 @@ impl<N: NodeName, R: Wait + Drop> Desk<N, R> {
         pass: &mut Pass<N>,
         taken: &Taken,
         count: u64,
-        last: Option<u64>,
+        last: Option<LastReport>,
         changes: &ChangeList,
-    ) -> Result<Finished, Memory>
+    ) -> Result<Reported, RegenError>
         requires revision { taken.now.revision ≡ revision_of pass.old.has.history }
         requires taken { IsTakenOf N.options
             (state_now N.options pass.old.has.history) taken.now.endpoint.slot taken.now }
         requires count { count
             ≡ length (policy_map N.options (state_now N.options pass.old.has.history) taken.now.endpoint) }
-        requires last { IfSome last (λ revision. revision ≤ revision_of pass.old.has.history) }
+        requires last { last_report (endpoint_id taken.now.endpoint) pass.old.has.history ≡ last }
+        requires shown { IfSome (published_before last) (λ revision. revision ≤ revision_of pass.old.has.history) }
         requires leads { changed changes.now
-            (table_then N.options pass.old.has.history (endpoint_id taken.now.endpoint) last)
+            (table_then N.options pass.old.has.history (endpoint_id taken.now.endpoint) (published_before last))
             ≡ table_of (policy_map N.options (state_now N.options pass.old.has.history) taken.now.endpoint) }
         ensures grows { PassGrowsWhole N.options pass.old pass.new [] }
-        ensures finished { IfOk result (Finishes N.options
-            (endpoint_id taken.now.endpoint) taken.now.revision count pass.old.has.history pass.new.has.history) }
+        ensures finished { IfOk result (λ done.
+            Finishes N.options (endpoint_id taken.now.endpoint) taken.now.revision count pass.old.has.history
+            pass.new.has.history done.finished) }
+        ensures reported { IfOk result (λ done.
+            ReportsOn N.options pass.new.has.history (endpoint_id taken.now.endpoint) taken.now.revision last
+            done.finished done.last) }
+        ensures cause { IfErr result
+            (NotReported N.options pass.new.has.history (endpoint_id taken.now.endpoint) last) }
         ensures nothing { OnErr result (self.new.writer.seen ≡ self.old.writer.seen) }
         ensures shown { pass.new.has.history ≡ self.new.writer.seen }
     {
         self.writer.show(rt, pass);
         if !self.is_live(taken) {
-            return Ok(Finished::Gone);
+            return Ok(Reported {
+                finished: Finished::Gone,
+                last,
+            });
         }
         let report = self
             .writer
             .last_report(&taken.endpoint.name, taken.endpoint.added);
-        if is_of(report, taken.revision) {
-            return Ok(Finished::Already {
-                published: is_published(report, taken.revision),
+        if !is_same_report(report, last) {
+            return Err(RegenError::Overtaken);
+        }
+        if is_of(last, taken.revision) {
+            return Ok(Reported {
+                finished: Finished::Already {
+                    published: is_published(last, taken.revision),
+                },
+                last,
             });
         }
-        until_next(rt, report, taken.revision, last);
+        let commits = self.repo.revision();
         if count <= self.limit as u64 {
             self.writer.publish(rt, alloc, pass, taken, changes)?;
-            Ok(Finished::Published)
+            Ok(Reported {
+                finished: Finished::Published,
+                last: published(taken.revision, commits),
+            })
         } else {
             self.writer.block(rt, alloc, pass, taken, count)?;
-            Ok(Finished::Full)
+            Ok(Reported {
+                finished: Finished::Full,
+                last: blocked(taken.revision, commits, last),
+            })
         }
     }
 
@@ -259,6 +313,48 @@ impl<N: NodeName, R: Wait + Drop> Desk<N, R> {
         match self.repo.endpoint(taken.endpoint.name.as_str()) {
             Some(row) => row.added == taken.endpoint.added,
             None => false,
+        }
+    }
+}
+
+impl<N: NodeName, R: Wait + Drop> Desk<N, R> {
+    // What is found of the slot's endpoint, beside what is kept. Where its last report is the one that is kept, what is kept
+    // of another endpoint is let go.
+    fn finds(&self, pass: &Pass<N>, slot: u32, kept: &mut Option<KeptEndpoint>) -> Found
+        requires shown { pass.now.has.history ≡ self.now.writer.seen }
+        requires legal { IsLegal N.options pass.now.has.history }
+        requires kept { IfSome kept.old (IsKeptOf N.options pass.now.has.history) }
+        ensures { Finds N.options pass.now.has.history slot kept.old kept.new result }
+    {
+        match self.repo.endpoint_at(slot) {
+            None => Found::Gone,
+            Some(row) => self.finds_at(pass, slot, row, kept),
+        }
+    }
+
+    // The same of the row of the slot.
+    fn finds_at(
+        &self,
+        pass: &Pass<N>,
+        slot: u32,
+        row: &EndpointRow,
+        kept: &mut Option<KeptEndpoint>,
+    ) -> Found
+        requires shown { pass.now.has.history ≡ self.now.writer.seen }
+        requires legal { IsLegal N.options pass.now.has.history }
+        requires there { endpoint_in slot (state_now N.options pass.now.has.history).endpoints ≡ Some row.now }
+        requires kept { IfSome kept.old (IsKeptOf N.options pass.now.has.history) }
+        ensures { Finds N.options pass.now.has.history slot kept.old kept.new result }
+    {
+        let _ = pass;
+        let _ = slot;
+        let last = self.writer.last_report(&row.name, row.added);
+        if is_same_report(last, last_kept(kept, row)) {
+            let other = is_other(kept, row);
+            let_go(kept, other);
+            Found::Still
+        } else {
+            Found::Overtaken
         }
     }
 }
@@ -294,32 +390,34 @@ fn is_published(last: Option<LastReport>, revision: u64) -> bool
     }
 }
 
-// Whether a report at this revision may come next, where the map at `shown` was published last.
-fn is_next(last: Option<LastReport>, revision: u64, shown: Option<u64>) -> bool
-    ensures newer { IsTrue result → IfSome last (λ report. report.revision < revision) }
-    ensures commits { IsTrue result → IfSome last (λ report. report.commits ≤ revision) }
-    ensures shown { IsTrue result → published_before last ≡ shown }
+// The report that the map at the revision was published, behind so many commits.
+fn published(revision: u64, commits: u64) -> Option<LastReport>
+    ensures { result ≡ published_now revision commits }
 {
-    match last {
-        None => shown.is_none(),
-        Some(report) => {
-            report.revision < revision && report.commits <= revision && report.published == shown
-        }
-    }
+    Some(LastReport {
+        revision,
+        commits,
+        published: Some(revision),
+    })
 }
 
-// Waits until that is so. In every run it is so at once: nobody but the slot reports its endpoint, and its last report is
-// older than what it took since, which has all commits of that report; what it keeps leads from the map that it published
-// last.
-fn until_next<W: Wait>(rt: &W, last: Option<LastReport>, revision: u64, shown: Option<u64>)
-    ensures newer { IfSome last (λ report. report.revision < revision) }
-    ensures commits { IfSome last (λ report. report.commits ≤ revision) }
-    ensures shown { published_before last ≡ shown }
+// The report that the map at the revision is too large, behind so many commits and this report.
+fn blocked(revision: u64, commits: u64, last: Option<LastReport>) -> Option<LastReport>
+    ensures { result ≡ blocked_now revision commits last }
 {
-    for _ in rt.forever() {
-        if is_next(last, revision, shown) {
-            return;
-        }
+    Some(LastReport {
+        revision,
+        commits,
+        published: last_shown(last),
+    })
+}
+
+// The revision of the map that was published last.
+fn last_shown(last: Option<LastReport>) -> Option<u64>
+    ensures { result ≡ published_before last }
+{
+    match last {
+        Some(report) => report.published,
+        None => None,
     }
-    unreachable!()
 }

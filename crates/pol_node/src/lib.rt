@@ -6,6 +6,7 @@
 #![tactic(auto)]
 
 mod desk;
+mod kept;
 mod last;
 mod node;
 mod report;
@@ -17,5 +18,5 @@ pub use node::Node;
 pub use pol_board::{
     Board, BoardError, BoardWriter, LookError, NewBook, NodeName, Pass, SeenHistory, Verdict,
 };
-pub use report::{Config, Finished, Regen, SyncReport, TraceError, Traced};
+pub use report::{Config, Finished, Regen, RegenError, Reported, SyncReport, TraceError, Traced};
 pub use slot::Slot;

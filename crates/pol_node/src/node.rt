@@ -1,5 +1,5 @@
 //! The calls of the node.
-ghost use Rattle.std.specs.Prelude.{◌≡◌, ◌+◌, ◌<◌, ◌≤◌, ◌∷◌, [], false, IfErr, IfOk, IsErrOf, List, Ok, OnErr, OnOk, Some, drop, length, map, slice_get, true, ℕ};
+ghost use Rattle.std.specs.Prelude.{◌≡◌, ◌+◌, ◌<◌, ◌≤◌, ◌∷◌, ◌++◌, [], false, IfErr, IfOk, IsErrOf, List, Ok, OnErr, OnOk, Some, drop, length, map, slice_get, true, ℕ};
 ghost use mathlib.Core.List.{IsPrefix};
 ghost use Rattle.pol_history.specs.declared.event.HistoryEvent.{HistoryEvent as OneEvent};
 ghost use Rattle.std.specs.List.{AllByRecursion};
@@ -21,7 +21,7 @@ ghost use Rattle.pol_node.specs.Finish.{HasRegenerated};
 
 use crate::desk::Desk;
 use crate::last::{LastSync, keep, told_last};
-use crate::report::{Config, Regen, SyncReport, TraceError, Traced};
+use crate::report::{Config, Regen, RegenError, SyncReport, TraceError, Traced};
 use crate::rows::rows_in;
 use crate::slot::Slot;
 use left_right::Absorb;
@@ -94,6 +94,14 @@ fn show<N: NodeName, W: Wait, R: Wait + Drop>(
     shown
 }
 
+/// One turn more.
+fn push_turn(turns: &mut Vec<SlotTurn>, turn: SlotTurn) -> Result<(), Memory>
+    ensures { OnOk result (turns.new.items ≡ turns.old.items ++ turn ∷ []) }
+{
+    turns.push(turn)?;
+    Ok(())
+}
+
 /// The turn of each of these slots, one after another.
 fn turns_of<N: NodeName, W: Wait, R: Wait + Drop>(
     rt: &W,
@@ -101,7 +109,7 @@ fn turns_of<N: NodeName, W: Wait, R: Wait + Drop>(
     desk: &Mutex<Desk<N, R>>,
     slots: &[Mutex<Slot<N>>],
     pass: &mut Pass<N>,
-) -> Result<Vec<SlotTurn>, Memory>
+) -> Result<Vec<SlotTurn>, RegenError>
     requires few { length slots.now ≤ 256 }
     requires legal { IsLegal N.options pass.old.has.history }
     ensures grows { PassGrows N.options pass.old pass.new [] }
@@ -112,7 +120,8 @@ fn turns_of<N: NodeName, W: Wait, R: Wait + Drop>(
     let mut turns = Vec::new(alloc);
     for number in 0..slots.len() {
         let mut slot = slots[number].lock(rt);
-        turns.push(slot.turn_for(rt, alloc, desk, number as u32, pass)?)?;
+        let turn = slot.turn_for(rt, alloc, desk, number as u32, pass)?;
+        push_turn(&mut turns, turn)?;
     }
     Ok(turns)
 }
@@ -127,7 +136,7 @@ fn sync_slots<N: NodeName, W: Wait, R: Wait + Drop>(
     last: &Mutex<Option<LastSync<N>>>,
     pass: &mut Pass<N>,
     revision: u64,
-) -> Result<SyncReport, Memory>
+) -> Result<SyncReport, RegenError>
     requires few { length slots.now ≤ 256 }
     requires all { slots_of (state_now N.options pass.old.has.history).endpoints ≤ length slots.now }
     requires legal { IsLegal N.options pass.old.has.history }
@@ -270,8 +279,9 @@ impl<N: NodeName, R: Wait + Drop> Node<N, R> {
     /// Regenerates the slot: `Slot::regenerate_over` of that number, under the slot's lock. What was done, the slot's pass has
     /// seen. There are slots from 0 to 255; of another number it is `Gone`.
     ///
-    /// `Memory` is want of memory: no event was added, but the board's writer may be spent.
-    pub fn regenerate<W: Wait>(&self, rt: &W, alloc: Global, slot: u32) -> Result<Regen, Memory>
+    /// `Memory` is want of memory: no event was added, but the board's writer may be spent. `Overtaken` comes where another than
+    /// the slot has reported its endpoint, as in no run of a node.
+    pub fn regenerate<W: Wait>(&self, rt: &W, alloc: Global, slot: u32) -> Result<Regen, RegenError>
         ensures regen { slot < 256 → IfOk result (HasRegenerated N.options slot) }
         ensures gone { 256 ≤ slot → result ≡ Ok Regen.Gone }
     {
@@ -287,13 +297,14 @@ impl<N: NodeName, R: Wait + Drop> Node<N, R> {
     /// Brings the map of every live endpoint up to date, and shows all that to the pass. Where nothing has happened since the
     /// last sync, it tells what that told, and asks no slot.
     ///
-    /// `Memory` is want of memory: some slots may have been reported, and the board's writer may be spent.
+    /// `Memory` is want of memory: some slots may have been reported, and the board's writer may be spent. `Overtaken` comes where
+    /// another than a slot has reported its endpoint, as in no run of a node.
     pub fn sync<W: Wait>(
         &self,
         rt: &W,
         alloc: Global,
         pass: &mut Pass<N>,
-    ) -> Result<SyncReport, Memory>
+    ) -> Result<SyncReport, RegenError>
         ensures grows { PassGrows N.options pass.old pass.new [] }
         ensures whole { OnOk result (PassGrowsWhole N.options pass.old pass.new []) }
         ensures synced { IfOk result (λ report.

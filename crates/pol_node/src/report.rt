@@ -1,8 +1,10 @@
 //! What calls of the node answer.
 ghost use Rattle.std.specs.Prelude.{◌≡◌, IfOk};
+ghost use Rattle.pol_node.specs.declared.report.RegenError.TheVariants.{Memory as WantOfMemory};
 
 use crate::rows::rows_copy;
 use pol_data::Memory;
+use pol_history::LastReport;
 use pol_model::{FullList, Mode, Trace};
 use std::alloc::Global;
 
@@ -37,6 +39,24 @@ pub enum Regen {
     Gone,
 }
 
+/// Why a regeneration reported nothing.
+#[derive(Clone, Copy, Debug, PartialEq, Eq)]
+pub enum RegenError {
+    /// Want of memory.
+    Memory,
+    /// The last report of the slot's endpoint is another one than the slot keeps. In every run it is that one, since nobody
+    /// but the slot reports its endpoint.
+    Overtaken,
+}
+
+impl From<Memory> for RegenError {
+    ghost from_gives = { λ _ error. error ≡ WantOfMemory };
+
+    fn from(_error: Memory) -> RegenError {
+        RegenError::Memory
+    }
+}
+
 /// How what was taken was finished.
 #[derive(Clone, Copy, Debug, PartialEq, Eq)]
 pub enum Finished {
@@ -51,6 +71,15 @@ pub enum Finished {
     Full,
     /// The endpoint is gone.
     Gone,
+}
+
+/// How what was taken was finished, and the endpoint's last report after that.
+#[derive(Clone, Copy, Debug, PartialEq, Eq)]
+pub struct Reported {
+    /// How it was finished.
+    pub finished: Finished,
+    /// The last report of the endpoint, if there is one. Of an endpoint that is gone it is the one of before.
+    pub last: Option<LastReport>,
 }
 
 /// What a sync tells: every endpoint that was live at the revision, and still is, was published or reported at it or later.

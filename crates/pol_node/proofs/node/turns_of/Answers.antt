@@ -16,12 +16,12 @@ loop-number-preserved g c =
     let was = c.loop-number.invariant in
     let grew = c.turn_for.ensures.grows in
     let turns = c.loop-number.turns.items in
-    let pushed = c.in_ok-push.ensures.items in
-    let more = one_turn_more options first.has.history mid.has.history new.has.history c.loop-number.number turns c.in_ok-turn_for.field-0
-    was.grows.grows.goes_on grew.grows.goes_on was.long was.tell c.in_ok-turn_for.ensures.turn in
+    let pushed = c.in_ok-push_turn.ensures in
+    let more = one_turn_more options first.has.history mid.has.history new.has.history c.loop-number.number turns c.in_ok-turn.turn
+    was.grows.grows.goes_on grew.grows.goes_on was.long was.tell c.in_ok-turn.ensures.turn in
     record {
-      long = omega (arith, ap length pushed, length-append turns (c.in_ok-turn_for.field-0 ∷ []), was.long);
+      long = omega (arith, ap length pushed, length-append turns (c.in_ok-turn.turn ∷ []), was.long);
       grows = passes-grow options first mid new [] [] was.grows grew;
       tell = subst (λ (ts : List SlotTurn). EachTells options first.has.history new.has.history (revision_of first.has.history) 0 ts)
-          {x = turns ++ c.in_ok-turn_for.field-0 ∷ []} {y = c.push.new.self.items} (sym pushed) more;
+          {x = turns ++ c.in_ok-turn.turn ∷ []} {y = c.push_turn.new.turns.items} (sym pushed) more;
     }
