@@ -3,6 +3,7 @@
 #![tactic(auto)]
 
 mod drill;
+mod laws;
 mod questions;
 
 ghost use Rattle.std.specs.Prelude.{◌≡◌};
