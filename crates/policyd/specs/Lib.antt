@@ -2,3 +2,4 @@ pub mod Script
 pub mod Ends
 pub mod Headline
 pub mod Task
+pub mod PlayEnds

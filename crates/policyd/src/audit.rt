@@ -17,6 +17,14 @@ use std::alloc::Global;
 
 /// Reads the whole text of two tables, and writes what is found of them.
 pub fn play_audit<S: Source, K: Sink>(alloc: Global, source: &mut S, sink: &mut K) -> Status
+    // What was written.
+    ensures audit { IsTrue (is_answered result) → IfSome (S.left source.old)
+        (λ text. WritesFinding (K.written sink.old) (K.written sink.new) text (status_number result)) }
+    ensures part { result ≡ Status.Write → IfSome (S.left source.old)
+        (λ text. WritesPartOfFinding (K.written sink.old) (K.written sink.new) text) }
+    ensures silent { IsTrue (is_silent result) → Keeps (K.written sink.old) (K.written sink.new) }
+
+    // Causes.
     ensures no_usage { result ≡ Status.Usage → ⊥ }
     ensures read { result ≡ Status.Read → Rose (S.faults source.old) (S.faults source.new) }
     ensures write { result ≡ Status.Write → Rose (K.faults sink.old) (K.faults sink.new) }
@@ -24,17 +32,14 @@ pub fn play_audit<S: Source, K: Sink>(alloc: Global, source: &mut S, sink: &mut 
         → IfSome (S.left source.old) (λ script. IsTrue (is_too_long script)) }
     ensures within { IsTrue (has_read_all result)
         → IfSome (S.left source.old) (λ script. IsTrue (fits_limits script)) }
-    ensures taken { ConsumesSome (S.left source.old) (S.left source.new) }
-    ensures at_end { IsTrue (has_read_all result) → IsAtEnd (S.left source.new) }
-    ensures silent { IsTrue (is_silent result) → Keeps (K.written sink.old) (K.written sink.new) }
-    ensures audit { IsTrue (is_answered result) → IfSome (S.left source.old)
-        (λ text. WritesFinding (K.written sink.old) (K.written sink.new) text (status_number result)) }
-    ensures part { result ≡ Status.Write → IfSome (S.left source.old)
-        (λ text. WritesPartOfFinding (K.written sink.old) (K.written sink.new) text) }
     ensures complete { DidNotRise (S.faults source.old) (S.faults source.new)
         → DidNotRise (K.faults sink.old) (K.faults sink.new)
         → IsSomeAnd (S.left source.old) (λ script. IsTrue (fits_limits script))
         → IsTrue (is_answered result) ⊎ (result ≡ Status.Memory) }
+
+    // What was read.
+    ensures taken { ConsumesSome (S.left source.old) (S.left source.new) }
+    ensures at_end { IsTrue (has_read_all result) → IsAtEnd (S.left source.new) }
 {
     match script_of(alloc, source) {
         Ok(text) => write_finding(alloc, text.as_slice(), sink),

@@ -26,6 +26,15 @@ pub fn play_map<S: Source, K: Sink>(
     sink: &mut K,
 ) -> Status
     requires { options.map_max ≡ None }
+
+    // What was written.
+    ensures map { IsTrue (is_answered result) → IfSome (S.left source.old)
+        (λ script. WritesMap options name.now (K.written sink.old) (K.written sink.new) script (status_number result)) }
+    ensures part { result ≡ Status.Write → IfSome (S.left source.old)
+        (λ script. AppendsPart (K.written sink.old) (K.written sink.new) (map_text options name.now script)) }
+    ensures silent { IsTrue (is_silent result) → Keeps (K.written sink.old) (K.written sink.new) }
+
+    // Causes.
     ensures no_usage { result ≡ Status.Usage → ⊥ }
     ensures read { result ≡ Status.Read → Rose (S.faults source.old) (S.faults source.new) }
     ensures write { result ≡ Status.Write → Rose (K.faults sink.old) (K.faults sink.new) }
@@ -33,17 +42,14 @@ pub fn play_map<S: Source, K: Sink>(
         → IfSome (S.left source.old) (λ script. IsTrue (is_too_long script)) }
     ensures within { IsTrue (has_read_all result)
         → IfSome (S.left source.old) (λ script. IsTrue (fits_limits script)) }
-    ensures taken { ConsumesSome (S.left source.old) (S.left source.new) }
-    ensures at_end { IsTrue (has_read_all result) → IsAtEnd (S.left source.new) }
-    ensures silent { IsTrue (is_silent result) → Keeps (K.written sink.old) (K.written sink.new) }
-    ensures map { IsTrue (is_answered result) → IfSome (S.left source.old)
-        (λ script. WritesMap options name.now (K.written sink.old) (K.written sink.new) script (status_number result)) }
-    ensures part { result ≡ Status.Write → IfSome (S.left source.old)
-        (λ script. AppendsPart (K.written sink.old) (K.written sink.new) (map_text options name.now script)) }
     ensures complete { DidNotRise (S.faults source.old) (S.faults source.new)
         → DidNotRise (K.faults sink.old) (K.faults sink.new)
         → IsSomeAnd (S.left source.old) (λ script. IsTrue (fits_limits script))
         → IsTrue (is_answered result) ⊎ (result ≡ Status.Memory) }
+
+    // What was read.
+    ensures taken { ConsumesSome (S.left source.old) (S.left source.new) }
+    ensures at_end { IsTrue (has_read_all result) → IsAtEnd (S.left source.new) }
 {
     match script_of(alloc, source) {
         Ok(script) => write_map(alloc, options, name, script.as_slice(), sink),

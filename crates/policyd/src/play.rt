@@ -1,15 +1,9 @@
 //! All that the program does, over any source and sink.
-ghost use Rattle.std.specs.Prelude.{◌≡◌, ◌⊎◌, map, string_bytes, None, IfSome, IsSomeAnd, IsTrue, true, false, is_some};
-ghost use Rattle.std.specs.Io.KnownBytes.{Appends, IsAtEnd, Keeps};
-ghost use Rattle.pol_streams.specs.Faults.{Rose, DidNotRise};
-ghost use Rattle.pol_streams.specs.Bytes.{AppendsPart, ConsumesSome};
-ghost use Rattle.pol_command_line.specs.Given.{words_given};
-ghost use Rattle.pol_map_dump.specs.AtEnd.{map_text};
-ghost use Rattle.pol_summary.specs.Summary.{summary};
-ghost use Rattle.policyd.specs.Script.{is_too_long, fits_limits};
-ghost use Rattle.policyd.specs.Headline.{LeavesHistory, LeavesRounds, WritesDrill, WritesFinding, WritesMap, WritesPartOfDrill, WritesPartOfFinding, WritesPartOfRun, WritesRun};
-ghost use Rattle.policyd.specs.Ends.{is_answered, has_read_all, is_silent, status_number};
-ghost use Rattle.policyd.specs.Task.{audits, drills, generates, maps, reads_source, reads_with, without_limit};
+ghost use Rattle.std.specs.Prelude.{◌≡◌, map, string_bytes, IfSome, IsTrue};
+ghost use Rattle.policyd.specs.Headline.{LeavesHistory, WritesRun};
+ghost use Rattle.policyd.specs.Ends.{is_answered, status_number};
+ghost use Rattle.policyd.specs.PlayEnds.{PlayEnds, PlayLeaves, PlayReads, PlayWrites};
+ghost use Rattle.policyd.specs.Task.{reads_with, without_limit};
 
 use crate::audit::play_audit;
 use crate::crash::play_crash;
@@ -45,67 +39,27 @@ pub fn play<R: Threads + Wait + Sync, S: Source, K: Sink>(
     source: &mut S,
     sink: &mut K,
 ) -> Played
-    ensures usage { result.status ≡ Status.Usage → words_given (map string_bytes words.now) ≡ None }
-    ensures misfit { words_given (map string_bytes words.now) ≡ None
-        → (result.status ≡ Status.Usage) ⊎ (result.status ≡ Status.Memory) }
-    ensures unread { result.status ≡ Status.Usage → source.new ≡ source.old }
-    ensures not_read { IsTrue (is_some (generates (map string_bytes words.now))) → source.new ≡ source.old }
-    ensures read { result.status ≡ Status.Read → Rose (S.faults source.old) (S.faults source.new) }
-    ensures write { result.status ≡ Status.Write → Rose (K.faults sink.old) (K.faults sink.new) }
-    ensures too_long { result.status ≡ Status.TooLong → IsTrue (reads_source (map string_bytes words.now))
-        × IfSome (S.left source.old) (λ script. IsTrue (is_too_long script)) }
-    ensures within { IsTrue (has_read_all result.status) → IsTrue (reads_source (map string_bytes words.now))
-        → IfSome (S.left source.old) (λ script. IsTrue (fits_limits script)) }
-    ensures taken { ConsumesSome (S.left source.old) (S.left source.new) }
-    ensures at_end { IsTrue (has_read_all result.status) → IsTrue (reads_source (map string_bytes words.now))
-        → IsAtEnd (S.left source.new) }
-    ensures silent { IsTrue (is_silent result.status) → Keeps (K.written sink.old) (K.written sink.new) }
+    // The headline: at 0 and 1, where the words ask for a script to be played, what was written is the text of a run of the
+    // policy machine, and the history that is given back holds that text.
     ensures run { IsTrue (is_answered result.status) → IfSome (reads_with (map string_bytes words.now)) (λ options.
         IfSome (S.left source.old) (λ script.
         WritesRun options (K.written sink.old) (K.written sink.new) script (status_number result.status))) }
-    ensures part { result.status ≡ Status.Write → IfSome (reads_with (map string_bytes words.now)) (λ options.
-        IfSome (S.left source.old) (λ script.
-        WritesPartOfRun options (K.written sink.old) (K.written sink.new) script)) }
     ensures last { IsTrue (is_answered result.status) → IfSome (reads_with (map string_bytes words.now)) (λ options.
         IfSome (S.left source.old) (λ script.
         LeavesHistory options (K.written sink.old) (K.written sink.new) script result.last)) }
-    ensures last_generated { IsTrue (is_answered result.status)
-        → IfSome (generates (map string_bytes words.now)) (λ task. LeavesRounds task.options task.rounds result.last) }
-    ensures no_last { is_answered result.status ≡ false → result.last ≡ None }
-    ensures summary { IsTrue (is_answered result.status) → IfSome (generates (map string_bytes words.now)) (λ task.
-        (result.status ≡ Status.Clean)
-        × Appends (K.written sink.old) (K.written sink.new) (summary task.options task.rounds)) }
-    ensures summary_part { result.status ≡ Status.Write → IfSome (generates (map string_bytes words.now)) (λ task.
-        AppendsPart (K.written sink.old) (K.written sink.new) (summary task.options task.rounds)) }
-    ensures map { IsTrue (is_answered result.status) → IfSome (maps (map string_bytes words.now)) (λ task.
-        IfSome (S.left source.old) (λ script. WritesMap task.options task.name
-        (K.written sink.old) (K.written sink.new) script (status_number result.status))) }
-    ensures map_part { result.status ≡ Status.Write → IfSome (maps (map string_bytes words.now)) (λ task.
-        IfSome (S.left source.old) (λ script.
-        AppendsPart (K.written sink.old) (K.written sink.new) (map_text task.options task.name script))) }
-    ensures audit { IsTrue (is_answered result.status) → IsTrue (audits (map string_bytes words.now))
-        → IfSome (S.left source.old) (λ text.
-        WritesFinding (K.written sink.old) (K.written sink.new) text (status_number result.status)) }
-    ensures audit_part { result.status ≡ Status.Write → IsTrue (audits (map string_bytes words.now))
-        → IfSome (S.left source.old) (λ text.
-        WritesPartOfFinding (K.written sink.old) (K.written sink.new) text) }
-    ensures drill { IsTrue (is_answered result.status) → IfSome (drills (map string_bytes words.now)) (λ task.
-        IfSome (S.left source.old) (λ script. WritesDrill task.options task.call
-        (K.written sink.old) (K.written sink.new) script (status_number result.status))) }
-    ensures drill_part { result.status ≡ Status.Write → IfSome (drills (map string_bytes words.now)) (λ task.
-        IfSome (S.left source.old) (λ script.
-        WritesPartOfDrill task.options task.call (K.written sink.old) (K.written sink.new) script)) }
-    ensures no_last_map { IsTrue (is_some (maps (map string_bytes words.now))) → result.last ≡ None }
-    ensures no_last_audit { IsTrue (audits (map string_bytes words.now)) → result.last ≡ None }
-    ensures no_last_drill { IsTrue (is_some (drills (map string_bytes words.now))) → result.last ≡ None }
-    ensures complete { IsTrue (reads_source (map string_bytes words.now))
-        → DidNotRise (S.faults source.old) (S.faults source.new)
-        → DidNotRise (K.faults sink.old) (K.faults sink.new)
-        → IsSomeAnd (S.left source.old) (λ script. IsTrue (fits_limits script))
-        → IsTrue (is_answered result.status) ⊎ (result.status ≡ Status.Memory) }
-    ensures complete_generated { IsTrue (is_some (generates (map string_bytes words.now)))
-        → DidNotRise (K.faults sink.old) (K.faults sink.new)
-        → (result.status ≡ Status.Clean) ⊎ (result.status ≡ Status.Memory) }
+
+    // What else it wrote and left: a part of such a text at 4, what other words ask for, and nothing at 2, 3, 5 and 6.
+    ensures writes { PlayWrites (map string_bytes words.now)
+        (S.left source.old) (K.written sink.old) (K.written sink.new) result.status }
+    ensures leaves { PlayLeaves (map string_bytes words.now) result.status result.last }
+
+    // What it read.
+    ensures reads { PlayReads (map string_bytes words.now)
+        source.old source.new (S.left source.old) (S.left source.new) result.status }
+
+    // Why it ended so.
+    ensures ends { PlayEnds (map string_bytes words.now) (S.left source.old)
+        (S.faults source.old) (S.faults source.new) (K.faults sink.old) (K.faults sink.new) result.status }
 {
     play_gated(rt, alloc, words, source, sink, &OpenGate)
 }
@@ -120,67 +74,27 @@ pub fn play_gated<R: Threads + Wait + Sync, S: Source, K: Sink, G: Gate + Sync>(
     sink: &mut K,
     gate: &G,
 ) -> Played
-    ensures usage { result.status ≡ Status.Usage → words_given (map string_bytes words.now) ≡ None }
-    ensures misfit { words_given (map string_bytes words.now) ≡ None
-        → (result.status ≡ Status.Usage) ⊎ (result.status ≡ Status.Memory) }
-    ensures unread { result.status ≡ Status.Usage → source.new ≡ source.old }
-    ensures not_read { IsTrue (is_some (generates (map string_bytes words.now))) → source.new ≡ source.old }
-    ensures read { result.status ≡ Status.Read → Rose (S.faults source.old) (S.faults source.new) }
-    ensures write { result.status ≡ Status.Write → Rose (K.faults sink.old) (K.faults sink.new) }
-    ensures too_long { result.status ≡ Status.TooLong → IsTrue (reads_source (map string_bytes words.now))
-        × IfSome (S.left source.old) (λ script. IsTrue (is_too_long script)) }
-    ensures within { IsTrue (has_read_all result.status) → IsTrue (reads_source (map string_bytes words.now))
-        → IfSome (S.left source.old) (λ script. IsTrue (fits_limits script)) }
-    ensures taken { ConsumesSome (S.left source.old) (S.left source.new) }
-    ensures at_end { IsTrue (has_read_all result.status) → IsTrue (reads_source (map string_bytes words.now))
-        → IsAtEnd (S.left source.new) }
-    ensures silent { IsTrue (is_silent result.status) → Keeps (K.written sink.old) (K.written sink.new) }
+    // The headline: at 0 and 1, where the words ask for a script to be played, what was written is the text of a run of the
+    // policy machine, and the history that is given back holds that text.
     ensures run { IsTrue (is_answered result.status) → IfSome (reads_with (map string_bytes words.now)) (λ options.
         IfSome (S.left source.old) (λ script.
         WritesRun options (K.written sink.old) (K.written sink.new) script (status_number result.status))) }
-    ensures part { result.status ≡ Status.Write → IfSome (reads_with (map string_bytes words.now)) (λ options.
-        IfSome (S.left source.old) (λ script.
-        WritesPartOfRun options (K.written sink.old) (K.written sink.new) script)) }
     ensures last { IsTrue (is_answered result.status) → IfSome (reads_with (map string_bytes words.now)) (λ options.
         IfSome (S.left source.old) (λ script.
         LeavesHistory options (K.written sink.old) (K.written sink.new) script result.last)) }
-    ensures last_generated { IsTrue (is_answered result.status)
-        → IfSome (generates (map string_bytes words.now)) (λ task. LeavesRounds task.options task.rounds result.last) }
-    ensures no_last { is_answered result.status ≡ false → result.last ≡ None }
-    ensures summary { IsTrue (is_answered result.status) → IfSome (generates (map string_bytes words.now)) (λ task.
-        (result.status ≡ Status.Clean)
-        × Appends (K.written sink.old) (K.written sink.new) (summary task.options task.rounds)) }
-    ensures summary_part { result.status ≡ Status.Write → IfSome (generates (map string_bytes words.now)) (λ task.
-        AppendsPart (K.written sink.old) (K.written sink.new) (summary task.options task.rounds)) }
-    ensures map { IsTrue (is_answered result.status) → IfSome (maps (map string_bytes words.now)) (λ task.
-        IfSome (S.left source.old) (λ script. WritesMap task.options task.name
-        (K.written sink.old) (K.written sink.new) script (status_number result.status))) }
-    ensures map_part { result.status ≡ Status.Write → IfSome (maps (map string_bytes words.now)) (λ task.
-        IfSome (S.left source.old) (λ script.
-        AppendsPart (K.written sink.old) (K.written sink.new) (map_text task.options task.name script))) }
-    ensures audit { IsTrue (is_answered result.status) → IsTrue (audits (map string_bytes words.now))
-        → IfSome (S.left source.old) (λ text.
-        WritesFinding (K.written sink.old) (K.written sink.new) text (status_number result.status)) }
-    ensures audit_part { result.status ≡ Status.Write → IsTrue (audits (map string_bytes words.now))
-        → IfSome (S.left source.old) (λ text.
-        WritesPartOfFinding (K.written sink.old) (K.written sink.new) text) }
-    ensures drill { IsTrue (is_answered result.status) → IfSome (drills (map string_bytes words.now)) (λ task.
-        IfSome (S.left source.old) (λ script. WritesDrill task.options task.call
-        (K.written sink.old) (K.written sink.new) script (status_number result.status))) }
-    ensures drill_part { result.status ≡ Status.Write → IfSome (drills (map string_bytes words.now)) (λ task.
-        IfSome (S.left source.old) (λ script.
-        WritesPartOfDrill task.options task.call (K.written sink.old) (K.written sink.new) script)) }
-    ensures no_last_map { IsTrue (is_some (maps (map string_bytes words.now))) → result.last ≡ None }
-    ensures no_last_audit { IsTrue (audits (map string_bytes words.now)) → result.last ≡ None }
-    ensures no_last_drill { IsTrue (is_some (drills (map string_bytes words.now))) → result.last ≡ None }
-    ensures complete { IsTrue (reads_source (map string_bytes words.now))
-        → DidNotRise (S.faults source.old) (S.faults source.new)
-        → DidNotRise (K.faults sink.old) (K.faults sink.new)
-        → IsSomeAnd (S.left source.old) (λ script. IsTrue (fits_limits script))
-        → IsTrue (is_answered result.status) ⊎ (result.status ≡ Status.Memory) }
-    ensures complete_generated { IsTrue (is_some (generates (map string_bytes words.now)))
-        → DidNotRise (K.faults sink.old) (K.faults sink.new)
-        → (result.status ≡ Status.Clean) ⊎ (result.status ≡ Status.Memory) }
+
+    // What else it wrote and left: a part of such a text at 4, what other words ask for, and nothing at 2, 3, 5 and 6.
+    ensures writes { PlayWrites (map string_bytes words.now)
+        (S.left source.old) (K.written sink.old) (K.written sink.new) result.status }
+    ensures leaves { PlayLeaves (map string_bytes words.now) result.status result.last }
+
+    // What it read.
+    ensures reads { PlayReads (map string_bytes words.now)
+        source.old source.new (S.left source.old) (S.left source.new) result.status }
+
+    // Why it ended so.
+    ensures ends { PlayEnds (map string_bytes words.now) (S.left source.old)
+        (S.faults source.old) (S.faults source.new) (K.faults sink.old) (K.faults sink.new) result.status }
 {
     match read_words(alloc, words) {
         Err(WordsError::Misfit) => Played::only(Status::Usage),

@@ -39,6 +39,18 @@ pub fn play_source<R: Threads + Wait + Sync, S: Source, K: Sink, G: Gate + Sync>
     sink: &mut K,
 ) -> Played
     requires { IsSomeAnd options.map_max (λ limit. limit ≤ 65536) }
+
+    // What was written and left.
+    ensures run { IsTrue (is_answered result.status) → IfSome (S.left source.old)
+        (λ script. WritesRun options (K.written sink.old) (K.written sink.new) script (status_number result.status)) }
+    ensures part { result.status ≡ Status.Write → IfSome (S.left source.old)
+        (λ script. WritesPartOfRun options (K.written sink.old) (K.written sink.new) script) }
+    ensures silent { IsTrue (is_silent result.status) → Keeps (K.written sink.old) (K.written sink.new) }
+    ensures last { IsTrue (is_answered result.status) → IfSome (S.left source.old)
+        (λ script. LeavesHistory options (K.written sink.old) (K.written sink.new) script result.last) }
+    ensures no_last { is_answered result.status ≡ false → result.last ≡ None }
+
+    // Causes.
     ensures no_usage { result.status ≡ Status.Usage → ⊥ }
     ensures read { result.status ≡ Status.Read → Rose (S.faults source.old) (S.faults source.new) }
     ensures write { result.status ≡ Status.Write → Rose (K.faults sink.old) (K.faults sink.new) }
@@ -46,20 +58,14 @@ pub fn play_source<R: Threads + Wait + Sync, S: Source, K: Sink, G: Gate + Sync>
         → IfSome (S.left source.old) (λ script. IsTrue (is_too_long script)) }
     ensures within { IsTrue (has_read_all result.status)
         → IfSome (S.left source.old) (λ script. IsTrue (fits_limits script)) }
-    ensures taken { ConsumesSome (S.left source.old) (S.left source.new) }
-    ensures at_end { IsTrue (has_read_all result.status) → IsAtEnd (S.left source.new) }
-    ensures silent { IsTrue (is_silent result.status) → Keeps (K.written sink.old) (K.written sink.new) }
-    ensures run { IsTrue (is_answered result.status) → IfSome (S.left source.old)
-        (λ script. WritesRun options (K.written sink.old) (K.written sink.new) script (status_number result.status)) }
-    ensures part { result.status ≡ Status.Write → IfSome (S.left source.old)
-        (λ script. WritesPartOfRun options (K.written sink.old) (K.written sink.new) script) }
-    ensures last { IsTrue (is_answered result.status) → IfSome (S.left source.old)
-        (λ script. LeavesHistory options (K.written sink.old) (K.written sink.new) script result.last) }
-    ensures no_last { is_answered result.status ≡ false → result.last ≡ None }
     ensures complete { DidNotRise (S.faults source.old) (S.faults source.new)
         → DidNotRise (K.faults sink.old) (K.faults sink.new)
         → IsSomeAnd (S.left source.old) (λ script. IsTrue (fits_limits script))
         → IsTrue (is_answered result.status) ⊎ (result.status ≡ Status.Memory) }
+
+    // What was read.
+    ensures taken { ConsumesSome (S.left source.old) (S.left source.new) }
+    ensures at_end { IsTrue (has_read_all result.status) → IsAtEnd (S.left source.new) }
 {
     match script_of(alloc, source) {
         Ok(script) => answer_script(rt, alloc, options, workers, gate, script.as_slice(), sink),
@@ -69,16 +75,21 @@ pub fn play_source<R: Threads + Wait + Sync, S: Source, K: Sink, G: Gate + Sync>
 
 /// All that the source gives, within the limits.
 pub(crate) fn script_of<S: Source>(alloc: Global, source: &mut S) -> Result<Vec<u8>, Status>
+    // What it gives.
+    ensures script { IfOk result
+        (λ bytes. IfSome (S.left source.old) (λ script. bytes.items ≡ script)) }
+    ensures within { IfOk result (λ bytes. IsTrue (fits_limits bytes.items)) }
+
+    // Causes.
     ensures no_usage { IsErrOf result Status.Usage → ⊥ }
     ensures read { IsErrOf result Status.Read → Rose (S.faults source.old) (S.faults source.new) }
     ensures too_long { IsErrOf result Status.TooLong
         → IfSome (S.left source.old) (λ script. IsTrue (is_too_long script)) }
-    ensures script { IfOk result
-        (λ bytes. IfSome (S.left source.old) (λ script. bytes.items ≡ script)) }
-    ensures within { IfOk result (λ bytes. IsTrue (fits_limits bytes.items)) }
+    ensures silent { IfErr result (λ status. IsTrue (is_silent status)) }
+
+    // What was read.
     ensures taken { ConsumesSome (S.left source.old) (S.left source.new) }
     ensures at_end { OnOk result (IsAtEnd (S.left source.new)) }
-    ensures silent { IfErr result (λ status. IsTrue (is_silent status)) }
 {
     let script = match read_all(alloc, source, INPUT_MAX) {
         Ok(script) => script,
