@@ -1,3 +1,4 @@
 pub mod Machines
 pub mod Serial
 pub mod Stopped
+pub mod Hints

@@ -5,6 +5,7 @@
 #![tactic(auto)]
 
 pub mod bases;
+pub mod hints;
 pub mod machines;
 pub mod serial;
 pub mod sessions;
