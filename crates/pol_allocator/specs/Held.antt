@@ -1,7 +1,5 @@
 -- What a contract sees of `Allocator`, and what its calls prepare and do.
 use Rattle.std.specs.Prelude.{ℕ, ◌≡◌, ◌<◌, ◌⊎◌, true, List, []}
-use Rattle.pol_rule.specs.declared.policy.Peer.{Peer}
-use Rattle.pol_peers.specs.References.{IsMoreBy}
 use Rattle.pol_labels.specs.declared.label.Label.{Label}
 use Rattle.pol_model.specs.declared.row.IdentityRow.{IdentityRow}
 use Rattle.pol_addr.specs.declared.network.Prefix.{Prefix}
@@ -49,9 +47,3 @@ abbrev pub AreApart : List Prefix → List Prefix → List IdentityRow → Type 
 AreApart taken given_up rows =
     (number : ℕ) → has_row number (prefixes_held taken rows) ≡ true
     → (has_row number rows ≡ true) ⊎ (has_row number (prefixes_released given_up (prefixes_held taken rows)) ≡ true)
-
--- Each of these peers has one reference more. The sets are exact over these rows as before, and no change was made.
-pub record RefersTo (peers : List Peer) (rows : List IdentityRow) (old new : Cache) : Type 0 where
-  pub more : IsMoreBy peers old.live new.live
-  pub exact : AreExact rows new.live
-  pub unchanged : newest new.log ≡ newest old.log

@@ -1,11 +1,9 @@
 //! The selectors that the peers of policies refer to.
-ghost use Rattle.std.specs.Prelude.{◌≡◌, ◌+◌, ◌≤◌, List, [], OnOk, OnErr, length};
-ghost use Rattle.pol_model.specs.declared.row.IdentityRow.{IdentityRow as OneRow};
+ghost use Rattle.std.specs.Prelude.{◌≡◌, ◌+◌, ◌≤◌, [], OnOk, OnErr, length};
 ghost use Rattle.pol_selcache.specs.Live.{AreExact};
-ghost use Rattle.pol_peers.specs.Numbering.{TakesFreshNumbers};
 ghost use Rattle.pol_rule.specs.Listed.{listed_peers};
-ghost use Rattle.pol_peers.specs.References.{HasRefs, IsMoreBy, KeepsNumbers, steps_to_hold};
-ghost use Rattle.pol_allocator.specs.Held.{RefersTo};
+ghost use Rattle.pol_peers.specs.Numbering.{GainsRefs, LosesRefs};
+ghost use Rattle.pol_peers.specs.References.{HasRefs, IsMoreBy, steps_to_hold};
 
 use crate::Allocator;
 use pol_data::{Memory, Steps};
@@ -18,12 +16,12 @@ impl Allocator {
     /// peer selects; the sets of the others stay as they are. `Memory` is want of memory, or a count at its end.
     pub fn refer<L: Ledger>(&mut self, policy: &Policy, steps: &mut Steps<L>) -> Result<(), Memory>
         requires exact { AreExact self.old.rows self.old.cache.live }
+        // On success, and on failure.
+        ensures ok { OnOk result (IsMoreBy (listed_peers policy.now) self.old.cache.live self.new.cache.live) }
+        ensures err { OnErr result (IsMoreBy [] self.old.cache.live self.new.cache.live) }
+        // In both cases.
         ensures rows { self.new.rows ≡ self.old.rows }
-        ensures ok { OnOk result (RefersTo (listed_peers policy.now) self.old.rows self.old.cache self.new.cache) }
-        ensures err { OnErr result (RefersTo [] self.old.rows self.old.cache self.new.cache) }
-        ensures kept { KeepsNumbers self.old.cache.live self.new.cache.live }
-        ensures log { self.new.cache.log ≡ self.old.cache.log }
-        ensures fresh { TakesFreshNumbers self.old.cache self.new.cache }
+        ensures gains { GainsRefs self.old.rows self.old.cache self.new.cache }
         ensures cost { steps.new ≤ steps.old + steps_to_hold (listed_peers policy.now) (length self.old.rows) }
     {
         hold_peers(
@@ -32,8 +30,7 @@ impl Allocator {
             policy,
             &self.identities,
             steps,
-        )?;
-        Ok(())
+        )
     }
 
     /// One reference less for each peer that the policy lists; a selector goes with its last one. It takes no memory.
@@ -41,10 +38,7 @@ impl Allocator {
         requires referred { HasRefs (listed_peers policy.now) self.old.cache.live }
         ensures rows { self.new.rows ≡ self.old.rows }
         ensures peers { IsMoreBy (listed_peers policy.now) self.new.cache.live self.old.cache.live }
-        ensures kept { KeepsNumbers self.new.cache.live self.old.cache.live }
-        ensures exact { (rows : List OneRow) → AreExact rows self.old.cache.live → AreExact rows self.new.cache.live }
-        ensures log { self.new.cache.log ≡ self.old.cache.log }
-        ensures next { self.new.cache.next ≡ self.old.cache.next }
+        ensures loses { LosesRefs self.old.cache self.new.cache }
     {
         let _ = &self.identities;
         drop_peers(&mut self.selectors, policy);

@@ -32,14 +32,17 @@ impl Allocator {
         requires settled { IsSettled revision self.old }
         requires once { IsDistinct same_prefix given_up.now }
         requires apart { AreApart taken.now given_up.now self.old.rows }
+        // On success.
         ensures rows { OnOk result (self.new.rows ≡ prefixes_held taken.now self.old.rows) }
         ensures plan { IfOk result (λ plan. Prepares revision
             (prefixes_released given_up.now (prefixes_held taken.now self.old.rows)) self.new.cache plan) }
         ensures within { OnOk result (AllByRecursion IsPrefix taken.now) }
-        ensures sets { self.new.cache ≡ with_room self.new.cache.log.spare self.old.cache }
+        // On failure.
         ensures err { OnErr result (self.new ≡ self.old) }
         ensures exhausted { IsErrOf result IdentError.Exhausted
             ↔ (MOST < locals_held self.old.rows + locals_wanted self.old.rows taken.now) }
+        // In both cases.
+        ensures sets { self.new.cache ≡ with_room self.new.cache.log.spare self.old.cache }
     {
         let come = self.take(taken)?;
         match self.plan_moves(revision, come.as_slice(), given_up, steps) {

@@ -5,4 +5,5 @@ pub mod Walks
 pub mod Kept
 pub mod Costs
 pub mod Numbering
+pub mod Refs
 pub mod Equality

@@ -1,11 +1,9 @@
 //! References given back.
-ghost use Rattle.std.specs.Prelude.{◌≡◌, [], ◌∷◌, List};
+ghost use Rattle.std.specs.Prelude.{[], ◌∷◌};
 ghost use Rattle.std.specs.List.{flat_map};
-ghost use Rattle.pol_model.specs.declared.row.IdentityRow.{IdentityRow as OneRow};
-ghost use Rattle.pol_selcache.specs.Cache.{IsSound};
-ghost use Rattle.pol_selcache.specs.Live.{AreExact};
 ghost use Rattle.pol_rule.specs.Listed.{listed_peers, peers_in, rule_peers, section_peers};
-ghost use Rattle.pol_peers.specs.References.{HasRefs, IsMoreBy, KeepsNumbers};
+ghost use Rattle.pol_peers.specs.Numbering.{LosesRefs};
+ghost use Rattle.pol_peers.specs.References.{HasRefs, IsMoreBy};
 
 use pol_rule::{Entry, Peer, Peers, Policy, Rule};
 use pol_selcache::SelectorCache;
@@ -14,11 +12,7 @@ use pol_selcache::SelectorCache;
 pub(crate) fn drop_peer(cache: &mut SelectorCache, peer: &Peer)
     requires held { HasRefs (peer.now ∷ []) cache.old.live }
     ensures dropped { IsMoreBy (peer.now ∷ []) cache.new.live cache.old.live }
-    ensures kept { KeepsNumbers cache.new.live cache.old.live }
-    ensures exact { (rows : List OneRow) → AreExact rows cache.old.live → AreExact rows cache.new.live }
-    ensures log { cache.new.log ≡ cache.old.log }
-    ensures next { cache.new.next ≡ cache.old.next }
-    ensures sound { IsSound cache.new }
+    ensures loses { LosesRefs cache.old cache.new }
 {
     match cache.selector_of(peer) {
         Some(selector) => cache.drop_ref(selector),
@@ -29,10 +23,7 @@ pub(crate) fn drop_peer(cache: &mut SelectorCache, peer: &Peer)
 fn drop_list(cache: &mut SelectorCache, peers: &[Peer])
     requires held { HasRefs peers.now cache.old.live }
     ensures dropped { IsMoreBy peers.now cache.new.live cache.old.live }
-    ensures kept { KeepsNumbers cache.new.live cache.old.live }
-    ensures exact { (rows : List OneRow) → AreExact rows cache.old.live → AreExact rows cache.new.live }
-    ensures log { cache.new.log ≡ cache.old.log }
-    ensures next { cache.new.next ≡ cache.old.next }
+    ensures loses { LosesRefs cache.old cache.new }
 {
     for peer in peers {
         drop_peer(cache, peer);
@@ -42,10 +33,7 @@ fn drop_list(cache: &mut SelectorCache, peers: &[Peer])
 fn drop_entry(cache: &mut SelectorCache, entry: &Entry)
     requires held { HasRefs (peers_in entry.now.peers) cache.old.live }
     ensures dropped { IsMoreBy (peers_in entry.now.peers) cache.new.live cache.old.live }
-    ensures kept { KeepsNumbers cache.new.live cache.old.live }
-    ensures exact { (rows : List OneRow) → AreExact rows cache.old.live → AreExact rows cache.new.live }
-    ensures log { cache.new.log ≡ cache.old.log }
-    ensures next { cache.new.next ≡ cache.old.next }
+    ensures loses { LosesRefs cache.old cache.new }
 {
     match &entry.peers {
         Peers::Every => (),
@@ -56,10 +44,7 @@ fn drop_entry(cache: &mut SelectorCache, entry: &Entry)
 fn drop_section(cache: &mut SelectorCache, entries: &[Entry])
     requires held { HasRefs (section_peers entries.now) cache.old.live }
     ensures dropped { IsMoreBy (section_peers entries.now) cache.new.live cache.old.live }
-    ensures kept { KeepsNumbers cache.new.live cache.old.live }
-    ensures exact { (rows : List OneRow) → AreExact rows cache.old.live → AreExact rows cache.new.live }
-    ensures log { cache.new.log ≡ cache.old.log }
-    ensures next { cache.new.next ≡ cache.old.next }
+    ensures loses { LosesRefs cache.old cache.new }
 {
     for entry in entries {
         drop_entry(cache, entry);
@@ -69,10 +54,7 @@ fn drop_section(cache: &mut SelectorCache, entries: &[Entry])
 fn drop_rule(cache: &mut SelectorCache, rule: &Rule)
     requires held { HasRefs (rule_peers rule.now) cache.old.live }
     ensures dropped { IsMoreBy (rule_peers rule.now) cache.new.live cache.old.live }
-    ensures kept { KeepsNumbers cache.new.live cache.old.live }
-    ensures exact { (rows : List OneRow) → AreExact rows cache.old.live → AreExact rows cache.new.live }
-    ensures log { cache.new.log ≡ cache.old.log }
-    ensures next { cache.new.next ≡ cache.old.next }
+    ensures loses { LosesRefs cache.old cache.new }
 {
     drop_section(cache, rule.ingress.as_slice());
     drop_section(cache, rule.ingress_deny.as_slice());
@@ -83,10 +65,7 @@ fn drop_rule(cache: &mut SelectorCache, rule: &Rule)
 fn drop_rules(cache: &mut SelectorCache, rules: &[Rule])
     requires held { HasRefs (flat_map rule_peers rules.now) cache.old.live }
     ensures dropped { IsMoreBy (flat_map rule_peers rules.now) cache.new.live cache.old.live }
-    ensures kept { KeepsNumbers cache.new.live cache.old.live }
-    ensures exact { (rows : List OneRow) → AreExact rows cache.old.live → AreExact rows cache.new.live }
-    ensures log { cache.new.log ≡ cache.old.log }
-    ensures next { cache.new.next ≡ cache.old.next }
+    ensures loses { LosesRefs cache.old cache.new }
 {
     for rule in rules {
         drop_rule(cache, rule);
@@ -98,10 +77,7 @@ fn drop_rules(cache: &mut SelectorCache, rules: &[Rule])
 pub fn drop_peers(cache: &mut SelectorCache, policy: &Policy)
     requires held { HasRefs (listed_peers policy.now) cache.old.live }
     ensures dropped { IsMoreBy (listed_peers policy.now) cache.new.live cache.old.live }
-    ensures kept { KeepsNumbers cache.new.live cache.old.live }
-    ensures exact { (rows : List OneRow) → AreExact rows cache.old.live → AreExact rows cache.new.live }
-    ensures log { cache.new.log ≡ cache.old.log }
-    ensures next { cache.new.next ≡ cache.old.next }
+    ensures loses { LosesRefs cache.old cache.new }
 {
     drop_rules(cache, policy.rules.as_slice());
 }

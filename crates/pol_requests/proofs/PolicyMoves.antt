@@ -22,6 +22,7 @@ use Rattle.pol_selcache.specs.Cache.{Cache}
 use Rattle.pol_selcache.specs.Live.{AreExact, Live}
 use Rattle.pol_tables.specs.Tables.{number_named}
 use Rattle.pol_rule.specs.Listed.{listed_peers}
+use Rattle.pol_peers.specs.Numbering.{LosesRefs}
 use Rattle.pol_peers.specs.References.{HasRefs, IsMoreBy, RefsOf}
 use Rattle.pol_peers.proofs.Counts.{refs_dropped, refs_may_drop}
 use Rattle.pol_requests.specs.declared.prepared.TableChange.TheVariants as change
@@ -44,17 +45,17 @@ give_up given_up t = record t { identities = prefixes_released given_up t.identi
 pub moved : (policies : List Stamped) (former : Option Stamped) (given_up : List Prefix) (old placed dropped new : Stored)
     → placed ≡ with_rooms placed.rooms (with_policies policies old)
     → dropped ≡ with_cache dropped.cache placed → IsMoreBy (listed_of former) dropped.cache.live placed.cache.live
-    → ((rows : List IdentityRow) → AreExact rows placed.cache.live → AreExact rows dropped.cache.live) → dropped.cache.log ≡ placed.cache.log
+    → LosesRefs placed.cache dropped.cache
     → new ≡ with_rows (prefixes_released given_up dropped.state.identities) dropped → IsMoved policies former given_up old new
-moved policies former given_up old placed dropped new put same less exact log released =
+moved policies former given_up old placed dropped new put same less loses released =
     let cache : new.cache ≡ dropped.cache = ap (λ (t : Stored). t.cache) released in
     record {
       state = ap (λ (t : Stored). t.state) released ∙ ap (λ (t : Stored). give_up given_up t.state) same ∙ ap (λ (t : Stored). give_up given_up t.state) put;
       peers = subst (λ (live : List Live). IsMoreBy (listed_of former) live old.cache.live) (sym (ap (λ (c : Cache). c.live) cache))
           (subst (λ (t : Stored). IsMoreBy (listed_of former) dropped.cache.live t.cache.live) put less);
       exact = λ rows was. subst (λ (c : Cache). AreExact rows c.live) (sym cache)
-          (exact rows (subst (λ (t : Stored). AreExact rows t.cache.live) (sym put) was));
-      newest = ap (λ (c : Cache). newest c.log) cache ∙ ap newest log ∙ ap (λ (t : Stored). newest t.cache.log) put;
+          (loses.exact rows (subst (λ (t : Stored). AreExact rows t.cache.live) (sym put) was));
+      newest = ap (λ (c : Cache). newest c.log) cache ∙ ap newest loses.selectors.log ∙ ap (λ (t : Stored). newest t.cache.log) put;
     }
 
 -- what the rows say of the policy that goes, they say where it is gone from them
@@ -206,9 +207,9 @@ may_take_out key given_up old may = by may.request may.under_way may.asked
 -- ---- a prepared policy is taken back
 pub policy_back : (policy : Policy) (taken : List Prefix) (old released new : Stored) → released ≡ with_rows (prefixes_released taken old.state.identities) old
     → new ≡ with_cache new.cache released → IsMoreBy (listed_peers policy) new.cache.live released.cache.live
-    → ((rows : List IdentityRow) → AreExact rows released.cache.live → AreExact rows new.cache.live) → new.cache.log ≡ released.cache.log
+    → LosesRefs released.cache new.cache
     → (s : State) (prepared : Prepared) → Keeps s → IsPrepared s (Apply policy) old prepared → taken ≡ policy_prefixes policy → StandsFor s new
-policy_back policy taken old released new given same less exact log s prepared keeps is taken_is =
+policy_back policy taken old released new given same less loses s prepared keeps is taken_is =
     let like = is.like in
     let state : new.state ≡ record old.state { identities = prefixes_released taken old.state.identities } = ap (λ (t : Stored). t.state) same ∙ ap (λ (t : Stored). t.state) given in
     let back : prefixes_released taken old.state.identities ≡ s.identities =
@@ -225,10 +226,10 @@ policy_back policy taken old released new given same less exact log s prepared k
       };
       refs = refs_dropped (listed_peers policy) (peers_of s.policies) old.cache.live new.cache.live is.refs
           (subst (λ (t : Stored). IsMoreBy (listed_peers policy) new.cache.live t.cache.live) given less);
-      exact = exact s.identities (subst (λ (t : Stored). AreExact s.identities t.cache.live) (sym given) is.exact);
+      exact = loses.exact s.identities (subst (λ (t : Stored). AreExact s.identities t.cache.live) (sym given) is.exact);
       newest =
           before (newest new.cache.log) (newest old.cache.log) prepared.plan.revision s.revision
-          (ap newest log ∙ ap (λ (t : Stored). newest t.cache.log) given) is.plan.fits.newer is.plan.revision_is;
+          (ap newest loses.selectors.log ∙ ap (λ (t : Stored). newest t.cache.log) given) is.plan.fits.newer is.plan.revision_is;
     }
   where
     before : (a b r n : ℕ) → a ≡ b → b < r → r ≡ n + 1 → a ≤ n

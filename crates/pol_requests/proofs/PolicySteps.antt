@@ -33,9 +33,10 @@ use Rattle.pol_selcache.specs.Cache.{Cache, with_room}
 use Rattle.pol_selcache.specs.Live.{AreExact}
 use Rattle.pol_selcache.specs.Plan.{Plan}
 use Rattle.pol_rule.specs.Listed.{listed_peers}
+use Rattle.pol_peers.specs.Numbering.{GainsRefs, LosesRefs}
 use Rattle.pol_peers.specs.References.{HasRefs, IsMoreBy, RefsOf}
 use Rattle.pol_peers.proofs.Counts.{has_more, refs_held, undone}
-use Rattle.pol_allocator.specs.Held.{AreApart, Prepares, RefersTo}
+use Rattle.pol_allocator.specs.Held.{AreApart, Prepares}
 use Rattle.pol_allocator.proofs.Apart.{apart_where_held}
 use Rattle.pol_requests.specs.declared.prepared.TableChange.TheVariants as change
 use Rattle.pol_requests.specs.declared.error.PrepareError.TheVariants.{Fault, Memory}
@@ -55,12 +56,12 @@ pub record RefersHere (policy : Policy) (old new : Stored) : Type 0 where
   pub room : 0 < new.rooms.policies
 
 pub refers_here : (policy : Policy) (old reserved referred : Stored) → reserved ≡ with_rooms reserved.rooms old → 0 < reserved.rooms.policies → referred ≡ with_cache referred.cache reserved
-    → RefersTo (listed_peers policy) reserved.state.identities reserved.cache referred.cache → RefersHere policy old referred
-refers_here policy old reserved referred same room same_too refers = record {
+    → IsMoreBy (listed_peers policy) reserved.cache.live referred.cache.live → GainsRefs reserved.state.identities reserved.cache referred.cache → RefersHere policy old referred
+refers_here policy old reserved referred same room same_too more gains = record {
   state = ap (λ (t : Stored). t.state) same_too ∙ ap (λ (t : Stored). t.state) same;
-  more = subst (λ (t : Stored). IsMoreBy (listed_peers policy) t.cache.live referred.cache.live) same refers.more;
-  exact = subst (λ (t : Stored). AreExact t.state.identities referred.cache.live) same refers.exact;
-  newest = refers.unchanged ∙ ap (λ (t : Stored). newest t.cache.log) same;
+  more = subst (λ (t : Stored). IsMoreBy (listed_peers policy) t.cache.live referred.cache.live) same more;
+  exact = subst (λ (t : Stored). AreExact t.state.identities referred.cache.live) same gains.exact;
+  newest = ap newest gains.log ∙ ap (λ (t : Stored). newest t.cache.log) same;
   room = subst (λ (t : Stored). 0 < t.rooms.policies) (sym same_too) room;
 }
 
@@ -180,16 +181,15 @@ policy_prepared policy old referred new stamped key taken given_up plan short re
 
 -- ---- and where it isn't
 pub given_back : (policy : Policy) (old referred held new : Stored) → RefersHere policy old referred → held ≡ referred → new ≡ with_cache new.cache held
-    → IsMoreBy (listed_peers policy) new.cache.live held.cache.live → ((rows : List IdentityRow) → AreExact rows held.cache.live → AreExact rows new.cache.live)
-    → new.cache.log ≡ held.cache.log → IsStill old new
-given_back policy old referred held new refers same dropped less exact log = record {
+    → IsMoreBy (listed_peers policy) new.cache.live held.cache.live → LosesRefs held.cache new.cache → IsStill old new
+given_back policy old referred held new refers same dropped less loses = record {
   state = ap (λ (t : Stored). t.state) dropped ∙ ap (λ (t : Stored). t.state) same ∙ refers.state;
   refs = λ peers refs p.
       let none = undone (listed_peers policy) old.cache.live referred.cache.live new.cache.live refers.more (subst (λ (t : Stored). IsMoreBy (listed_peers policy) new.cache.live t.cache.live) same less) p in
       let was = refs p in
       omega (arith, none, was);
-  exact = exact old.state.identities (subst (λ (t : Stored). AreExact old.state.identities t.cache.live) (sym same) refers.exact);
-  newest = ap newest log ∙ ap (λ (t : Stored). newest t.cache.log) same ∙ refers.newest;
+  exact = loses.exact old.state.identities (subst (λ (t : Stored). AreExact old.state.identities t.cache.live) (sym same) refers.exact);
+  newest = ap newest loses.selectors.log ∙ ap (λ (t : Stored). newest t.cache.log) same ∙ refers.newest;
 }
 
 pub may_give_back : (policy : Policy) (old referred held : Stored) → RefersHere policy old referred → held ≡ referred → HasRefs (listed_peers policy) held.cache.live

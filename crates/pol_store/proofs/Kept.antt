@@ -1,11 +1,10 @@
 -- What a store keeps for takes, as its parts change.
-use Rattle.std.proofs.Common.{◌≡◌, ℕ, not, List, [], map, IfOk, OnErr, OnOk, Option, None, Some, Result, Ok, Err, sym, ap, subst, ◌∙◌}
+use Rattle.std.proofs.Common.{◌≡◌, ℕ, not, List, [], map, IfOk, OnErr, Option, None, Some, Result, Ok, Err, sym, ap, subst, ◌∙◌}
 use Rattle.std.specs.Arc.{arc_value}
 use Rattle.std.specs.List.{AllByRecursion, IsDistinct}
 use Rattle.std.specs.declared.sync.Arc.{Arc}
 use Rattle.pol_addr.specs.declared.network.Prefix.{Prefix}
 use Rattle.pol_labels.specs.declared.label.Label.{Label}
-use Rattle.pol_rule.specs.declared.policy.Peer.{Peer}
 use Rattle.pol_rule.specs.declared.policy.Policy.{Policy}
 use Rattle.pol_rule.specs.declared.policy.PolicyKey.{PolicyKey}
 use Rattle.pol_data.proofs.Every.{every-kept, every-weaker}
@@ -14,8 +13,7 @@ use Rattle.pol_selcache.specs.Cache.{Cache, IsPlanFor, IsSound, carried, with_ro
 use Rattle.pol_selcache.specs.Live.{AreExact}
 use Rattle.pol_selcache.specs.Plan.{Plan, changed}
 use Rattle.pol_selcache.proofs.Exact.{plan_makes_exact}
-use Rattle.pol_peers.specs.Numbering.{TakesFreshNumbers}
-use Rattle.pol_peers.specs.References.{KeepsNumbers}
+use Rattle.pol_peers.specs.Numbering.{GainsRefs, LosesRefs, TakesFreshNumbers}
 use Rattle.pol_peers.proofs.Numbering.{fresh_itself, fresh_less}
 use Rattle.pol_taken.specs.Known.{IsKnownIn, KnownRows}
 use Rattle.pol_taken.proofs.AsRead.{known_carried, known_on}
@@ -34,7 +32,7 @@ use Rattle.pol_kept_filters.specs.declared.kept.Kept.{Kept}
 use Rattle.pol_kept_filters.specs.Kept.{AreKeptOf, AreListedIn, IsListedIn, KeysDiffer, selects, without_old, without_selected}
 use Rattle.pol_kept_filters.proofs.Unselected.{left_with, left_without}
 use Rattle.pol_allocator.specs.declared.hold.LabelsHeld.{LabelsHeld}
-use Rattle.pol_allocator.specs.Held.{Held, HoldsLabels, RefersTo}
+use Rattle.pol_allocator.specs.Held.{Held, HoldsLabels}
 use Rattle.pol_store.specs.Inside.{IsKeptIn, Told, TellsAddresses}
 
 -- ---- filters
@@ -75,21 +73,25 @@ module _ (old new : Cache) (rows : List Kept) where
   each_listed : ((known : KnownRows) → IsKnownIn old known → IsKnownIn new known) → AreListedIn old rows → AreListedIn new rows
   each_listed still was = every-weaker (IsListedIn old) (IsListedIn new) (λ kept is. record { listing = is.listing; known = still kept.known is.known }) rows was
 
-  -- as selectors come: the sets stay exact over these rows
-  pub listed_more : (identities : List IdentityRow) → Ascends (map (λ row. row.number) identities) → AreExact identities old.live → AreExact identities new.live → TakesFreshNumbers old new → new.log ≡ old.log
+  -- where the sets stay exact over these rows
+  listed_on : (identities : List IdentityRow) → Ascends (map (λ row. row.number) identities) → AreExact identities old.live → AreExact identities new.live → TakesFreshNumbers old new → new.log ≡ old.log
       → IsKeptIn old rows → IsKeptIn new rows
-  listed_more identities ascend before after fresh log was = record {
+  listed_on identities ascend before after fresh log was = record {
     identities = identities;
     ascend = ascend;
     exact = after;
     listed = each_listed (λ known. known_on old new identities known before after fresh (ap (λ (l : Log). l.kept) log) (ap (λ (l : Log). l.horizon) log)) was.listed;
   }
 
-  -- as selectors go: the sets stay exact over whatever rows
-  pub listed_less : ((identities : List IdentityRow) → AreExact identities old.live → AreExact identities new.live) → new.next ≡ old.next → KeepsNumbers new.live old.live → new.log ≡ old.log
-      → IsKeptIn old rows → IsKeptIn new rows
-  listed_less exact next fewer log was =
-      listed_more was.identities was.ascend was.exact (exact was.identities was.exact) (fresh_less old old new (fresh_itself old) next fewer) log was
+  -- as references come
+  pub listed_more : (identities : List IdentityRow) → Ascends (map (λ row. row.number) identities) → AreExact identities old.live → GainsRefs identities old new → IsKeptIn old rows → IsKeptIn new rows
+  listed_more identities ascend exact gains was = listed_on identities ascend exact gains.exact gains.selectors.fresh gains.log was
+
+  -- as they go
+  pub listed_less : LosesRefs old new → IsKeptIn old rows → IsKeptIn new rows
+  listed_less loses was =
+      let gone = loses.selectors in
+      listed_on was.identities was.ascend was.exact (loses.exact was.identities was.exact) (fresh_less old old new (fresh_itself old) gone.next gone.kept) gone.log was
 
   pub listed_still : new ≡ old → IsKeptIn old rows → IsKeptIn new rows
   listed_still same was = subst (λ (c : Cache). IsKeptIn c rows) (sym same) was
@@ -115,12 +117,6 @@ module _ (old new : Cache) (rows : List Kept) where
         listed = every-weaker (IsListedIn old) (IsListedIn (carried plan old))
             (λ kept its. record { listing = its.listing; known = known_carried plan old was.identities kept.known sound fits was.exact its.known }) rows was.listed;
       })
-
--- where a policy's peers are referred to, or aren't
-pub refers_exact : {E : Type 0} (peers : List Peer) (identities : List IdentityRow) (old new : Cache) (result : Result Unit E)
-    → OnOk result (RefersTo peers identities old new) → OnErr result (RefersTo [] identities old new) → AreExact identities new.live
-refers_exact peers identities old new (Ok _) ok err = ok.exact
-refers_exact peers identities old new (Err _) ok err = err.exact
 
 -- where a label set is held, or isn't
 pub listed_held : (revision : ℕ) (labels : List Label) (old new : Held) (rows : List Kept) (result : Result LabelsHeld IdentError)

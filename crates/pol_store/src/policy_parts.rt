@@ -1,10 +1,9 @@
 //! The parts of the store that a policy's request changes, each by one call.
-ghost use Rattle.std.specs.Prelude.{◌≡◌, ◌<◌, ◌+◌, ◌-◌, ◌^◌, ◌↔◌, [], IfOk, OnOk, OnErr, IsErrOf, List};
+ghost use Rattle.std.specs.Prelude.{◌≡◌, ◌<◌, ◌+◌, ◌-◌, ◌^◌, ◌↔◌, [], IfOk, OnOk, OnErr, IsErrOf};
 ghost use Rattle.std.specs.List.{AllByRecursion, IsDistinct};
 ghost use Rattle.pol_addr.specs.Cidr.{IsPrefix};
 ghost use Rattle.pol_addr.specs.Prefix.{same_prefix};
 ghost use Rattle.pol_model.specs.declared.limits.TheConstants.{LOCAL_IDENTITIES as MOST};
-ghost use Rattle.pol_model.specs.declared.row.IdentityRow.{IdentityRow as OneRow};
 ghost use Rattle.pol_model.specs.Fault.{locals_held, locals_wanted};
 ghost use Rattle.pol_model.specs.Policies.{applied, policy_at, removed};
 ghost use Rattle.pol_model.specs.Prefixes.{prefixes_held, prefixes_released};
@@ -12,9 +11,9 @@ ghost use Rattle.pol_model.specs.Sizes.{IsShortPolicy};
 ghost use Rattle.pol_selcache.specs.Cache.{with_room};
 ghost use Rattle.pol_selcache.specs.Live.{AreExact};
 ghost use Rattle.pol_rule.specs.Listed.{listed_peers};
-ghost use Rattle.pol_peers.specs.Numbering.{TakesFreshNumbers};
-ghost use Rattle.pol_peers.specs.References.{HasRefs, IsMoreBy, KeepsNumbers};
-ghost use Rattle.pol_allocator.specs.Held.{AreApart, IsSettled, Prepares, RefersTo};
+ghost use Rattle.pol_peers.specs.Numbering.{GainsRefs, LosesRefs};
+ghost use Rattle.pol_peers.specs.References.{HasRefs, IsMoreBy};
+ghost use Rattle.pol_allocator.specs.Held.{AreApart, IsSettled, Prepares};
 ghost use Rattle.pol_store.specs.Parts.{numbers_of};
 ghost use Rattle.pol_store.specs.PolicyParts.{listed_of, with_cache, with_policies, with_rows};
 ghost use Rattle.pol_store.specs.Store.{with_rooms};
@@ -40,13 +39,12 @@ impl Store {
     /// One reference more for each peer that the policy lists, or for none. The one error is want of memory.
     pub fn refer<L: Ledger>(&mut self, policy: &Policy, steps: &mut Steps<L>) -> Result<(), Memory>
         requires exact { AreExact self.old.state.identities self.old.cache.live }
+        // On success, and on failure.
+        ensures ok { OnOk result (IsMoreBy (listed_peers policy.now) self.old.cache.live self.new.cache.live) }
+        ensures err { OnErr result (IsMoreBy [] self.old.cache.live self.new.cache.live) }
+        // In both cases.
         ensures same { self.new ≡ with_cache self.new.cache self.old }
-        ensures ok { OnOk result
-            (RefersTo (listed_peers policy.now) self.old.state.identities self.old.cache self.new.cache) }
-        ensures err { OnErr result (RefersTo [] self.old.state.identities self.old.cache self.new.cache) }
-        ensures kept { KeepsNumbers self.old.cache.live self.new.cache.live }
-        ensures fresh { TakesFreshNumbers self.old.cache self.new.cache }
-        ensures log { self.new.cache.log ≡ self.old.cache.log }
+        ensures gains { GainsRefs self.old.state.identities self.old.cache self.new.cache }
     {
         self.numbers.fits_together();
         self.numbers.refer(policy, steps)
@@ -57,10 +55,7 @@ impl Store {
         requires referred { HasRefs (listed_peers policy.now) self.old.cache.live }
         ensures same { self.new ≡ with_cache self.new.cache self.old }
         ensures peers { IsMoreBy (listed_peers policy.now) self.new.cache.live self.old.cache.live }
-        ensures exact { (rows : List OneRow) → AreExact rows self.old.cache.live → AreExact rows self.new.cache.live }
-        ensures kept { KeepsNumbers self.new.cache.live self.old.cache.live }
-        ensures next { self.new.cache.next ≡ self.old.cache.next }
-        ensures log { self.new.cache.log ≡ self.old.cache.log }
+        ensures loses { LosesRefs self.old.cache self.new.cache }
     {
         self.numbers.unrefer(policy);
     }
@@ -70,10 +65,7 @@ impl Store {
         requires referred { HasRefs (listed_of old) self.old.cache.live }
         ensures same { self.new ≡ with_cache self.new.cache self.old }
         ensures peers { IsMoreBy (listed_of old) self.new.cache.live self.old.cache.live }
-        ensures exact { (rows : List OneRow) → AreExact rows self.old.cache.live → AreExact rows self.new.cache.live }
-        ensures kept { KeepsNumbers self.new.cache.live self.old.cache.live }
-        ensures next { self.new.cache.next ≡ self.old.cache.next }
-        ensures log { self.new.cache.log ≡ self.old.cache.log }
+        ensures loses { LosesRefs self.old.cache self.new.cache }
     {
         if let Some(stamped) = old {
             self.unrefer(&stamped.policy);
@@ -92,15 +84,18 @@ impl Store {
         requires settled { IsSettled (self.old.state.revision + 1) (numbers_of self.old) }
         requires once { IsDistinct same_prefix given_up.now }
         requires apart { AreApart taken.now given_up.now self.old.state.identities }
+        // On success.
         ensures rows { OnOk result (self.new
             ≡ with_rows (prefixes_held taken.now self.old.state.identities) (with_cache self.new.cache self.old)) }
         ensures plan { IfOk result (λ plan. Prepares (self.old.state.revision + 1)
             (prefixes_released given_up.now (prefixes_held taken.now self.old.state.identities)) self.new.cache plan) }
-        ensures sets { self.new.cache ≡ with_room self.new.cache.log.spare self.old.cache }
         ensures within { OnOk result (AllByRecursion IsPrefix taken.now) }
+        // On failure.
         ensures err { OnErr result (self.new ≡ self.old) }
         ensures exhausted { IsErrOf result IdentError.Exhausted
             ↔ (MOST < locals_held self.old.state.identities + locals_wanted self.old.state.identities taken.now) }
+        // In both cases.
+        ensures sets { self.new.cache ≡ with_room self.new.cache.log.spare self.old.cache }
     {
         self.addresses = None;
         self.numbers

@@ -1,8 +1,7 @@
 use Rattle.std.proofs.Common.{sym}
-use Rattle.pol_selcache.proofs.Sound.{unreference_exact}
 use Rattle.pol_peers.proofs.Found.{number_lives}
 use Rattle.pol_peers.proofs.Holds.{dropped_less, has_selector}
-use Rattle.pol_peers.proofs.Kept.{kept_less}
+use Rattle.pol_peers.proofs.Refs.{ref_lost}
 use Rattle.pol_peers.proofs.drop.drop_peer.Goals as goal
 
 pub drop_ref-requires : goal.drop_ref-requires
@@ -12,11 +11,8 @@ pub returns-in-Some-clause-dropped : goal.returns-in-Some-clause-dropped
 returns-in-Some-clause-dropped c =
     rw c.drop_ref.ensures.dropped (dropped_less c.args.peer.now c.in-Some.selector c.args.cache.now.live c.selector_of.ensures.sound.live (sym c.in-Some.ensures.number))
 
-pub returns-in-Some-clause-kept : goal.returns-in-Some-clause-kept
-returns-in-Some-clause-kept c = rw c.drop_ref.ensures.dropped (kept_less c.in-Some.selector c.args.cache.now.live c.selector_of.ensures.sound.live)
-
-pub returns-in-Some-clause-exact : goal.returns-in-Some-clause-exact
-returns-in-Some-clause-exact c = λ rows exact. rw c.drop_ref.ensures.dropped (unreference_exact rows c.in-Some.selector c.args.cache.now.live exact)
+pub returns-in-Some-clause-loses : goal.returns-in-Some-clause-loses
+returns-in-Some-clause-loses c = rw c.drop_ref.ensures.dropped (ref_lost c.in-Some.selector c.args.cache.now c.selector_of.ensures.sound.live)
 
 pub returns-in-None-clause-dropped : goal.returns-in-None-clause-dropped
 returns-in-None-clause-dropped c = absurd (has_selector c.args.peer.now c.args.cache.now.live c.requires.held (sym c.in-None.ensures.number))

@@ -1,7 +1,7 @@
-use Rattle.std.proofs.Common.{refl, sym, ◌∙◌, arith}
+use Rattle.std.proofs.Common.{refl, sym, arith}
 use Rattle.std.specs.List.{flat_map}
 use Rattle.pol_rule.specs.Listed.{rule_peers}
-use Rattle.pol_peers.proofs.Kept.{kept_further}
+use Rattle.pol_peers.proofs.Refs.{refs_lost_further}
 use Rattle.pol_peers.proofs.Walks.{all_given, next_given, next_has}
 use Rattle.pol_peers.proofs.drop.drop_rules.Goals as goal
 
@@ -15,10 +15,7 @@ pub loop-rule-preserved : goal.loop-rule-preserved
 loop-rule-preserved c = record {
   left = next_given c.args.rules.now (flat_map rule_peers) rule_peers (λ x xs. refl) c.loop-rule.rule-index c.args.cache.now.live c.loop-rule.cache.live
       c.rule-item.result (omega arith) (sym c.rule-item.is) c.drop_rule.new.cache.live c.loop-rule.invariant.left c.drop_rule.ensures.dropped;
-  kept = kept_further c.drop_rule.new.cache.live c.loop-rule.cache.live c.args.cache.now.live c.drop_rule.ensures.kept c.loop-rule.invariant.kept;
-  exact = λ rows exact. c.drop_rule.ensures.exact rows (c.loop-rule.invariant.exact rows exact);
-  log = c.drop_rule.ensures.log ∙ c.loop-rule.invariant.log;
-  next = c.drop_rule.ensures.next ∙ c.loop-rule.invariant.next;
+  loses = refs_lost_further c.args.cache.now c.loop-rule.cache c.drop_rule.new.cache c.loop-rule.invariant.loses c.drop_rule.ensures.loses;
 }
 
 pub returns-clause-dropped : goal.returns-clause-dropped

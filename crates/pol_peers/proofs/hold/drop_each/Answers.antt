@@ -1,5 +1,5 @@
-use Rattle.std.proofs.Common.{[], ◌∷◌, map, refl, sym, ◌∙◌, arith}
-use Rattle.pol_peers.proofs.Kept.{kept_further}
+use Rattle.std.proofs.Common.{[], ◌∷◌, map, refl, sym, arith}
+use Rattle.pol_peers.proofs.Refs.{refs_lost_further}
 use Rattle.pol_peers.proofs.Walks.{all_given, next_given, next_has}
 use Rattle.pol_peers.proofs.hold.drop_each.Goals as goal
 
@@ -13,10 +13,7 @@ pub loop-peer-preserved : goal.loop-peer-preserved
 loop-peer-preserved c = record {
   left = next_given c.args.peers.now (map (λ p. p.now)) (λ p. p.now ∷ []) (λ x xs. refl) c.loop-peer.peer-index c.args.cache.now.live c.loop-peer.cache.live
       c.peer-item.result (omega arith) (sym c.peer-item.is) c.drop_peer.new.cache.live c.loop-peer.invariant.left c.drop_peer.ensures.dropped;
-  kept = kept_further c.drop_peer.new.cache.live c.loop-peer.cache.live c.args.cache.now.live c.drop_peer.ensures.kept c.loop-peer.invariant.kept;
-  exact = λ rows exact. c.drop_peer.ensures.exact rows (c.loop-peer.invariant.exact rows exact);
-  log = c.drop_peer.ensures.log ∙ c.loop-peer.invariant.log;
-  next = c.drop_peer.ensures.next ∙ c.loop-peer.invariant.next;
+  loses = refs_lost_further c.args.cache.now c.loop-peer.cache c.drop_peer.new.cache c.loop-peer.invariant.loses c.drop_peer.ensures.loses;
 }
 
 pub returns-clause-dropped : goal.returns-clause-dropped

@@ -1,15 +1,10 @@
-use Rattle.std.proofs.Common.{◌≡◌, List, drop, map}
-use Rattle.pol_model.specs.declared.row.IdentityRow.{IdentityRow}
-use Rattle.pol_selcache.specs.Live.{AreExact}
-use Rattle.pol_peers.specs.References.{KeepsNumbers}
+use Rattle.std.proofs.Common.{drop, map}
+use Rattle.pol_peers.specs.Numbering.{LosesRefs}
 use Rattle.pol_peers.proofs.Counts.{Left}
 use Rattle.pol_peers.proofs.hold.drop_each.Given as goal
 
 abbrev pub invariant-loop-peer : goal.invariant-loop-peer
 invariant-loop-peer l = record {
   left : Left (map (λ p. p.now) l.peers) (map (λ p. p.now) (drop l.peer-index l.peers)) l.initial.cache.live l.cache.live;
-  kept : KeepsNumbers l.cache.live l.initial.cache.live;
-  exact : (rows : List IdentityRow) → AreExact rows l.initial.cache.live → AreExact rows l.cache.live;
-  log : l.cache.log ≡ l.initial.cache.log;
-  next : l.cache.next ≡ l.initial.cache.next;
+  loses : LosesRefs l.initial.cache l.cache;
 }

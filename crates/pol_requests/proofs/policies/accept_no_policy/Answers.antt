@@ -21,10 +21,10 @@ returns-clause-done c =
     let dropped = c.unrefer_old.new.self in
     policy_taken_out c.args.key c.args.given_up c.take_out-old.result old c.release_prefixes.new.self c.take_out-old.ensures.removed
     (moved (removed c.args.key old.state.policies) c.take_out-old.result c.args.given_up old c.take_out-old.new.self dropped c.release_prefixes.new.self
-    c.take_out-old.ensures.same c.unrefer_old.ensures.same c.unrefer_old.ensures.peers c.unrefer_old.ensures.exact c.unrefer_old.ensures.log
+    c.take_out-old.ensures.same c.unrefer_old.ensures.same c.unrefer_old.ensures.peers c.unrefer_old.ensures.loses
     (c.release_prefixes.ensures.rows ∙ ap (λ ps. with_rows (prefixes_released ps dropped.state.identities) dropped) c.as_slice.ensures))
 
 pub returns-clause-selectors : goal.returns-clause-selectors
 returns-clause-selectors c =
     loses_as c.args.store.now.cache c.take_out-old.new.self.cache c.unrefer_old.new.self.cache c.release_prefixes.new.self.cache (ap (λ (t : Stored). t.cache) c.take_out-old.ensures.same)
-    c.unrefer_old.ensures.kept c.unrefer_old.ensures.next c.unrefer_old.ensures.log (ap (λ (t : Stored). t.cache) c.release_prefixes.ensures.rows)
+    c.unrefer_old.ensures.loses.selectors (ap (λ (t : Stored). t.cache) c.release_prefixes.ensures.rows)

@@ -22,10 +22,10 @@ returns-clause-done c =
     let dropped = c.unrefer_old.new.self in
     policy_put c.args.new c.args.key c.args.taken c.args.given_up c.put-old.result old c.release_prefixes.new.self c.put-old.ensures.replaced
     (moved (applied c.args.new old.state.policies) c.put-old.result c.args.given_up old c.put-old.new.self dropped c.release_prefixes.new.self
-    c.put-old.ensures.same c.unrefer_old.ensures.same c.unrefer_old.ensures.peers c.unrefer_old.ensures.exact c.unrefer_old.ensures.log
+    c.put-old.ensures.same c.unrefer_old.ensures.same c.unrefer_old.ensures.peers c.unrefer_old.ensures.loses
     (c.release_prefixes.ensures.rows ∙ ap (λ ps. with_rows (prefixes_released ps dropped.state.identities) dropped) c.as_slice.ensures))
 
 pub returns-clause-selectors : goal.returns-clause-selectors
 returns-clause-selectors c =
     loses_as c.args.store.now.cache c.put-old.new.self.cache c.unrefer_old.new.self.cache c.release_prefixes.new.self.cache (ap (λ (t : Stored). t.cache) c.put-old.ensures.same)
-    c.unrefer_old.ensures.kept c.unrefer_old.ensures.next c.unrefer_old.ensures.log (ap (λ (t : Stored). t.cache) c.release_prefixes.ensures.rows)
+    c.unrefer_old.ensures.loses.selectors (ap (λ (t : Stored). t.cache) c.release_prefixes.ensures.rows)

@@ -30,7 +30,7 @@ returns-in-Ok-clause-prepared g c =
     let referred = c.refer.new.self in
     let held = c.hold_prefixes.new.self in
     let new = c.in_ok-new.new in
-    let refers = refers_here policy old reserved referred c.reserve_policy.ensures.same c.in_ok-reserve_policy.ensures.room c.refer.ensures.same c.in_ok-refer.ensures.ok in
+    let refers = refers_here policy old reserved referred c.reserve_policy.ensures.same c.in_ok-reserve_policy.ensures.room c.refer.ensures.same c.in_ok-refer.ensures.ok c.refer.ensures.gains in
     let parts = parts_here policy old reserved new.stamped new.key new.taken new.given_up c.reserve_policy.ensures.same (record {
       stamped_is = c.in_ok-new.ensures.stamped;
       key_is = c.in_ok-new.ensures.key;
@@ -49,23 +49,23 @@ returns-in-Ok-clause-prepared g c =
 pub returns-in-Ok-clause-selectors : goal.returns-in-Ok-clause-selectors
 returns-in-Ok-clause-selectors g c =
     gains_held c.args.store.now.cache c.reserve_policy.new.self.cache c.refer.new.self.cache c.hold_prefixes.new.self.cache (ap (λ (t : Stored). t.cache) c.reserve_policy.ensures.same)
-    c.refer.ensures.kept c.refer.ensures.fresh c.refer.ensures.log c.hold_prefixes.ensures.sets
+    c.refer.ensures.gains.selectors c.hold_prefixes.ensures.sets
 
 pub returns-in-Err-clause-prepared : goal.returns-in-Err-clause-prepared
 returns-in-Err-clause-prepared g c =
     let old = c.args.store.now in
     let policy = c.args.policy.now in
     let referred = c.refer.new.self in
-    let refers = refers_here policy old c.reserve_policy.new.self referred c.reserve_policy.ensures.same c.in_ok-reserve_policy.ensures.room c.refer.ensures.same c.in_ok-refer.ensures.ok in
-    let still = given_back policy old referred c.hold_prefixes.new.self c.unrefer.new.self refers c.in-Err.ensures.err c.unrefer.ensures.same c.unrefer.ensures.peers c.unrefer.ensures.exact c.unrefer.ensures.log in
+    let refers = refers_here policy old c.reserve_policy.new.self referred c.reserve_policy.ensures.same c.in_ok-reserve_policy.ensures.room c.refer.ensures.same c.in_ok-refer.ensures.ok c.refer.ensures.gains in
+    let still = given_back policy old referred c.hold_prefixes.new.self c.unrefer.new.self refers c.in-Err.ensures.err c.unrefer.ensures.same c.unrefer.ensures.peers c.unrefer.ensures.loses in
     subst (λ (error : PrepareError). PreparesOrNot (Apply policy) old c.unrefer.new.self (Err error)) (sym c.policy_error.ensures)
     (policy_refused policy old referred c.unrefer.new.self c.as_slice-2.result.now c.in-Err.error refers (c.as_slice-2.ensures ∙ c.in_ok-new.ensures.taken) c.in-Err.ensures.exhausted.0 still)
 
 pub returns-in-Err-clause-selectors : goal.returns-in-Err-clause-selectors
 returns-in-Err-clause-selectors g c =
     gains_given_back (listed_peers c.args.policy.now) c.args.store.now.cache c.reserve_policy.new.self.cache c.refer.new.self.cache c.hold_prefixes.new.self.cache c.unrefer.new.self.cache
-    c.fits_together.ensures.sound.live (ap (λ (t : Stored). t.cache) c.reserve_policy.ensures.same) c.refer.ensures.kept c.refer.ensures.fresh c.refer.ensures.log c.in_ok-refer.ensures.ok.more
-    (ap (λ (t : Stored). t.cache) c.in-Err.ensures.err) (record { kept = c.unrefer.ensures.kept; next = c.unrefer.ensures.next; log = c.unrefer.ensures.log }) c.unrefer.ensures.peers
+    c.fits_together.ensures.sound.live (ap (λ (t : Stored). t.cache) c.reserve_policy.ensures.same) c.refer.ensures.gains.selectors c.in_ok-refer.ensures.ok
+    (ap (λ (t : Stored). t.cache) c.in-Err.ensures.err) c.unrefer.ensures.loses.selectors c.unrefer.ensures.peers
 
 pub returns-then-are_too_many-clause-prepared : goal.returns-then-are_too_many-clause-prepared
 returns-then-are_too_many-clause-prepared g c =

@@ -18,9 +18,9 @@ returns-clause-back c =
     let old = c.args.store.now in
     policy_back c.args.policy.now c.args.taken.now old c.release_prefixes.new.self c.unrefer.new.self
     (c.release_prefixes.ensures.rows ∙ ap (λ ps. with_rows (prefixes_released ps old.state.identities) old) c.as_slice.ensures)
-    c.unrefer.ensures.same c.unrefer.ensures.peers c.unrefer.ensures.exact c.unrefer.ensures.log
+    c.unrefer.ensures.same c.unrefer.ensures.peers c.unrefer.ensures.loses
 
 pub returns-clause-selectors : goal.returns-clause-selectors
 returns-clause-selectors c =
     loses_as c.args.store.now.cache c.release_prefixes.new.self.cache c.unrefer.new.self.cache c.unrefer.new.self.cache (ap (λ (t : Stored). t.cache) c.release_prefixes.ensures.rows)
-    c.unrefer.ensures.kept c.unrefer.ensures.next c.unrefer.ensures.log refl
+    c.unrefer.ensures.loses.selectors refl

@@ -1,6 +1,6 @@
 use Rattle.std.proofs.Common.{sym, subst}
-use Rattle.pol_selcache.specs.Live.{AreExact}
 use Rattle.pol_rule.specs.Listed.{listed_peers}
+use Rattle.pol_peers.specs.Numbering.{LosesRefs}
 use Rattle.pol_peers.specs.References.{HasRefs}
 use Rattle.pol_allocator.specs.Held.{Held}
 use Rattle.pol_allocator.proofs.allocator.Allocator.unrefer.Goals as goal
@@ -10,5 +10,5 @@ drop_peers-requires c = record {
   held = subst (λ (held : Held). HasRefs (listed_peers c.args.policy.now) held.cache.live) (sym c.self.view_is) c.requires.referred;
 }
 
-pub returns-clause-exact : goal.returns-clause-exact
-returns-clause-exact c = λ rows exact. c.drop_peers.ensures.exact rows (subst (λ (held : Held). AreExact rows held.cache.live) (sym c.self.view_is) exact)
+pub returns-clause-loses : goal.returns-clause-loses
+returns-clause-loses c = subst (λ (held : Held). LosesRefs held.cache c.drop_peers.new.cache) c.self.view_is c.drop_peers.ensures.loses

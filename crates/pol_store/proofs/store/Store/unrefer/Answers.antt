@@ -1,6 +1,6 @@
 use Rattle.std.proofs.Common.{sym, subst}
-use Rattle.pol_selcache.specs.Live.{AreExact}
 use Rattle.pol_rule.specs.Listed.{listed_peers}
+use Rattle.pol_peers.specs.Numbering.{LosesRefs}
 use Rattle.pol_peers.specs.References.{HasRefs}
 use Rattle.pol_store.specs.Store.{Stored}
 use Rattle.pol_store.proofs.Kept.{listed_less, told_still}
@@ -11,8 +11,8 @@ unrefer-requires c = record {
   referred = subst (λ (t : Stored). HasRefs (listed_peers c.args.policy.now) t.cache.live) (sym c.self.view_is) c.requires.referred;
 }
 
-pub returns-clause-exact : goal.returns-clause-exact
-returns-clause-exact c = λ rows exact. c.unrefer.ensures.exact rows (subst (λ (t : Stored). AreExact rows t.cache.live) (sym c.self.view_is) exact)
+pub returns-clause-loses : goal.returns-clause-loses
+returns-clause-loses c = subst (λ (t : Stored). LosesRefs t.cache c.unrefer.new.self.cache) c.self.view_is c.unrefer.ensures.loses
 
 pub invariant_of-self : goal.invariant_of-self
 invariant_of-self c = (
@@ -20,5 +20,5 @@ invariant_of-self c = (
   c.self.invariant.1,
   c.self.invariant.2,
   told_still c.self.inside.endpoints.list c.self.inside.numbers.rows c.unrefer.new.self.rows c.self.inside.addresses c.unrefer.ensures.rows c.self.invariant.3,
-  listed_less c.self.inside.numbers.cache c.unrefer.new.self.cache c.self.inside.kept c.unrefer.ensures.exact c.unrefer.ensures.next c.unrefer.ensures.kept c.unrefer.ensures.log c.self.invariant.4,
+  listed_less c.self.inside.numbers.cache c.unrefer.new.self.cache c.self.inside.kept c.unrefer.ensures.loses c.self.invariant.4,
 )
