@@ -24,7 +24,9 @@ GROUPS, GROUP_BITS = 8, 16
 @functools.lru_cache(maxsize=None)
 def parsed(text: str) -> typing.Optional[Address]:
     """The address of a text, or None."""
-    if not IPV4.fullmatch(text) and not IPV6.fullmatch(text):
+    if IPV4.fullmatch(text):
+        return ipaddress.IPv4Address(int.from_bytes(map(int, text.split(".")), "big"))
+    if not IPV6.fullmatch(text):
         return None
     try:
         return ipaddress.ip_address(text)
@@ -34,6 +36,8 @@ def parsed(text: str) -> typing.Optional[Address]:
 
 def address(text: object) -> str:
     """The one text of an address, which is the same for the same address; empty where the text is none."""
+    if isinstance(text, str) and IPV4.fullmatch(text):
+        return text
     found = parsed(text) if isinstance(text, str) else None
     return written(found) if found else ""
 
@@ -84,7 +88,10 @@ def without_ending(text: str) -> str:
 
 def lies_in(inner: Network, whole: Network) -> bool:
     """Whether a prefix lies in another one: of its own family alone."""
-    return inner.version == whole.version and inner.subnet_of(whole)  # type: ignore[arg-type]
+    if inner.version != whole.version or inner.prefixlen < whole.prefixlen:
+        return False
+    rest = whole.max_prefixlen - whole.prefixlen
+    return int(inner.network_address) >> rest == int(whole.network_address) >> rest
 
 
 def order(it: Network) -> tuple:

@@ -10,6 +10,7 @@ from .addresses import address
 KEY, VALUE = re.compile(r"[!-<>-~]+"), re.compile(r"[!-~]*")
 YAML = re.compile(r"""\s*(%.*\n\s*|---\s+|#.*\n\s*|- +)*(["']?)[A-Za-z][A-Za-z0-9]*\2:(\s|$)""")
 AS_JSON = "kubectl patch --local --type=merge -p '{}' -o json -f FILE"
+LINES = json.JSONEncoder(separators=(",", ":"), allow_nan=False)
 # What kubectl says on standard error, where a shell has put that into the same file: a warning, or why it gave less.
 BLANKS = re.compile(r"\s*")
 WARNS = re.compile(r"(Warning|W\d{4} |No resources found)[^\n]*")
@@ -22,7 +23,7 @@ class Bad(Exception):
 
 def line_of(place: str, value: object) -> str:
     try:
-        return json.dumps(value, separators=(",", ":"), allow_nan=False)
+        return LINES.encode(value)
     except (ValueError, RecursionError) as error:
         raise Bad(f"{place}: {'a number is too large' if 'float' in str(error) else 'it is nested too deeply, or holds itself'}")
 

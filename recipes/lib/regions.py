@@ -19,25 +19,22 @@ Joined = typing.Tuple[Network, typing.List[Network]]
 
 def named(entries: typing.Iterable[dict]) -> typing.Set[Network]:
     """The prefixes that entries name, those of their exceptions too, and the worlds."""
-    found = {*WORLDS}
-    for entry in entries:
-        found |= listed([entry])
-        for it in sets(entry):
-            found |= {known(text) for text in it.get("except") or []}
-    return found
+    entries = list(entries)
+    texts = {text for entry in entries for it in sets(entry) for text in it.get("except") or []}
+    return {*WORLDS, *listed(entries), *map(known, texts)}
 
 
 def listed(entries: typing.Iterable[dict]) -> typing.Set[Network]:
     """The prefixes that are peers of entries."""
-    found: typing.Set[Network] = set()
+    texts: typing.Set[str] = set()
     for entry in entries:
-        alone = [it for kind in ("from", "to") for it in entry.get(f"{kind}CIDR") or []]
-        found |= {known(it) for it in [*alone, *(it["cidr"] for it in sets(entry))]}
-    return found
+        texts.update(it for name in ("fromCIDR", "toCIDR") for it in entry.get(name) or [])
+        texts.update(it["cidr"] for it in sets(entry))
+    return {*map(known, texts)}
 
 
 def sets(entry: dict) -> typing.List[dict]:
-    return [it for kind in ("from", "to") for it in entry.get(f"{kind}CIDRSet") or []]
+    return [it for name in ("fromCIDRSet", "toCIDRSet") for it in entry.get(name) or []]
 
 
 class Prefixes(typing.FrozenSet[Network]):

@@ -6,7 +6,6 @@ it with the answers of every case.
 """
 from __future__ import annotations
 
-import functools
 import re
 import typing
 
@@ -57,13 +56,16 @@ ENTITIES = "all world world-ipv4 world-ipv6 host remote-node kube-apiserver ingr
 PROTOCOLS = ("", "TCP", "UDP", "SCTP", "ANY")
 # What stands in the place of a byte of a name that isn't printed.
 UNPRINTED = "?"
+LETTER, PORT, OBJECT_NAME = re.compile("[A-Za-z]"), re.compile("[0-9]{1,5}"), re.compile("[a-z0-9.-]{1,253}")
+# The way to a value: its path as a text, or the way to what it is in, with its name or its number there.
+Way = typing.Union[str, typing.Tuple[typing.Any, typing.Union[str, int]]]
 
 
 class Unread(Exception):
     """What isn't read, and its path."""
 
-    def __init__(self, what: str, path: str):
-        self.what, self.path = what, path
+    def __init__(self, what: str, way: Way):
+        self.what, self.path = what, path_of(way)
 
 
 def why_unread(document: dict) -> typing.Optional[typing.Tuple[str, str]]:
@@ -94,67 +96,74 @@ def below(path: str, name: str) -> str:
     return f"{path}.{printed(name)}" if path else printed(name)
 
 
-@functools.lru_cache(maxsize=None)
+def path_of(way: Way) -> str:
+    """The path of a way; few are asked for it."""
+    if isinstance(way, str):
+        return way
+    around, last = way
+    return f"{path_of(around)}[{last}]" if isinstance(last, int) else below(path_of(around), last)
+
+
 def printed(name: str) -> str:
     """A name as policyd's answers have it."""
     return "".join(chr(it) if 0x21 <= it <= 0x7E else UNPRINTED for it in name.encode(errors="surrogatepass"))
 
 
-def walk(value: object, shape: Shape, path: str) -> None:
+def walk(value: object, shape: Shape, way: Way) -> None:
     """Visits a value before what it holds: the members of an object by their bytes, and items in order."""
     if isinstance(shape, list):
         if not isinstance(value, list):
-            raise Unread("wrong-shape", path)
+            raise Unread("wrong-shape", way)
         for at, item in enumerate(value):
             if item is None and shape[0] != ANY:
-                raise Unread("wrong-shape", f"{path}[{at}]")
-            walk(item, shape[0], f"{path}[{at}]")
+                raise Unread("wrong-shape", (way, at))
+            walk(item, shape[0], (way, at))
     elif shape in SHAPES or shape == "texts":
         if not isinstance(value, dict):
-            raise Unread("wrong-shape", path)
-        visit(value, shape, path)
+            raise Unread("wrong-shape", way)
+        visit(value, shape, way)
     else:
-        leaf(value, shape, path)
+        leaf(value, shape, way)
 
 
-def visit(value: dict, shape: str, path: str) -> None:
+def visit(value: dict, shape: str, way: Way) -> None:
     left_out = LEFT_OUT.get(shape, ())
     for name in left_out if shape == "set" else ():
         if value.get(name) is not None:
-            raise Unread(name, path)
+            raise Unread(name, way)
     for name in NEEDED.get(shape, ()):
         if value.get(name) is None:
-            raise Unread("wrong-shape", below(path, name))
+            raise Unread("wrong-shape", (way, name))
     # (texts are in the order of their bytes)
     for name in sorted(value):
         if value[name] is None:
             continue
         known = TEXT if shape == "texts" else SHAPES[shape].get(name)
         if name in left_out:
-            raise Unread(name, path)
+            raise Unread(name, way)
         if known is not None:
-            walk(value[name], known, below(path, name))
+            walk(value[name], known, (way, name))
         elif shape != "metadata":
-            raise Unread("unknown-member", below(path, name))
+            raise Unread("unknown-member", (way, name))
 
 
-def leaf(value: object, shape: str, path: str) -> None:
+def leaf(value: object, shape: str, way: Way) -> None:
     if shape == ANY:
         return
     if shape == "port number" and isinstance(value, str):
-        raise Unread("named-port", path)
+        raise Unread("named-port", way)
     if shape in (NUMBER, "port number"):
         fits = isinstance(value, int) and not isinstance(value, bool) and 0 <= value < 1 << 64
     elif shape == BOOL:
         fits = isinstance(value, bool)
     else:
-        fits = isinstance(value, str) and (shape != NAME or re.fullmatch(r"[a-z0-9.-]{1,253}", value) is not None)
+        fits = isinstance(value, str) and (shape != NAME or OBJECT_NAME.fullmatch(value) is not None)
     if not fits:
-        raise Unread("wrong-shape", path)
-    if shape == "port text" and re.search("[A-Za-z]", str(value)):
-        raise Unread("named-port", path)
+        raise Unread("wrong-shape", way)
+    if shape == "port text" and LETTER.search(str(value)):
+        raise Unread("named-port", way)
     if shape == "protocol" and str(value).upper() in ("ICMP", "ICMPV6"):
-        raise Unread("icmp", path)
+        raise Unread("icmp", way)
 
 
 # What its rules say.
@@ -194,11 +203,9 @@ def judge_entry(entry: dict, path: str) -> None:
         raise Unread("combining", path)
     for it in peers(entry, "Endpoints"):
         judge_selector(it, path)
-    texts = [*listed, *(text for it in sets for text in [it["cidr"], *(it.get("except") or [])])]
-    if any(prefix(it) is None for it in texts):
+    if any(prefix(it) is None for it in listed):
         raise Unread("bad-cidr", path)
-    if not all(lies_in(known(text), known(it["cidr"])) for it in sets for text in it.get("except") or []):
-        raise Unread("except-outside", path)
+    judge_blocks(sets, path)
     if any(it not in ENTITIES for it in peers(entry, "Entities")):
         raise Unread("unknown-entity", path)
     judge_ports([it.get("ports") or [] for it in entry.get("toPorts") or []], path)
@@ -206,7 +213,7 @@ def judge_entry(entry: dict, path: str) -> None:
 
 def judge_ports(items: typing.Sequence[list], path: str) -> None:
     ports = [port for item in items for port in item]
-    if any(not re.fullmatch("[0-9]{1,5}", it["port"]) or int(it["port"]) > 65535 or (it.get("endPort") or 0) > 65535 for it in ports):
+    if any(not PORT.fullmatch(it["port"]) or int(it["port"]) > 65535 or (it.get("endPort") or 0) > 65535 for it in ports):
         raise Unread("bad-port", path)
     if any((it.get("protocol") or "").upper() not in PROTOCOLS for it in ports):
         raise Unread("bad-protocol", path)

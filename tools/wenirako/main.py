@@ -128,7 +128,7 @@ def answer(command: str, name: str, words: Sequence[str]) -> int:
     run = Run(command, name, lines_of.parsed(command, name, words))
     try:
         report = run.report()
-        report.notes[:0] = run.notes
+        report = report._replace(notes=[*run.notes, *report.notes])
         text = run.written(report)
     except (Bad, NoAnswer, NoProgram) as wrong:
         run.say(str(wrong))

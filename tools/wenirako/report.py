@@ -1,16 +1,14 @@
 """An answer as a question gives it, before it is written in some form."""
 from __future__ import annotations
 
-import dataclasses
-from typing import Optional, Sequence
+from typing import Mapping, NamedTuple, Optional, Sequence
 
 from .naming import Names
 from .rows import Line
 from .statuses import NOTHING
 
 
-@dataclasses.dataclass
-class Report:
+class Report(NamedTuple):
     """What is answered: a line that sums it up, a table, the same for programs, and what is said beside it.
 
     `cells` has a text for each of `heads`; `rows` has the same for programs, in the form of docs/answer.schema.json.
@@ -22,11 +20,11 @@ class Report:
     heads: tuple[str, ...]
     cells: list[list[str]]
     rows: list[dict]
-    notes: list[str] = dataclasses.field(default_factory=list)
+    notes: Sequence[str] = ()
     status: int = NOTHING
     lines: Optional[list[Line]] = None
     names: Optional[Names] = None
-    more: dict = dataclasses.field(default_factory=dict)
+    more: Mapping[str, list] = {}
     # What stands above the table: which rows may be otherwise, and why.
     above: str = ""
 

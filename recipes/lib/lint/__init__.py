@@ -5,7 +5,6 @@ are compared, as docs/RULES.md has it.
 """
 from __future__ import annotations
 
-import dataclasses
 import typing
 
 from . import covered, peers, prefixes, subjects
@@ -18,8 +17,7 @@ if typing.TYPE_CHECKING:
 KINDS = ("peer-matches-none", "subject-selects-none", "deny-denies-none", "prefix-means-none", "entry-changes-nothing", "policy-without-effect")
 
 
-@dataclasses.dataclass(frozen=True)
-class Slip:
+class Slip(typing.NamedTuple):
     """One slip. `kind` is a word for programs: one of KINDS."""
 
     kind: str

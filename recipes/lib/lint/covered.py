@@ -1,7 +1,6 @@
 """Entries that change nothing, since another one allows or denies all of it already, and policies of such entries."""
 from __future__ import annotations
 
-import dataclasses
 import typing
 
 from .. import ports
@@ -19,8 +18,7 @@ Found = typing.Iterator[typing.Tuple[str, str, str]]
 WORLD, FAMILIES = "world", {4: "world-ipv4", 6: "world-ipv6"}
 
 
-@dataclasses.dataclass
-class Cover:
+class Cover(typing.NamedTuple):
     """What an entry covers: pods of its subject, their peers by sets of labels, entities and prefixes, and ports."""
 
     place: str

@@ -1,12 +1,10 @@
 """What slips are judged on: a state's policies in Cilium's terms, and its pods by their labels."""
 from __future__ import annotations
 
-import dataclasses
 import functools
-import ipaddress
 import typing
 
-from ..addresses import NETWORKS
+from ..addresses import NETWORKS, parsed
 from ..label_index import LabelIndex
 from ..pods import CLUSTER_KEY, CORE_CLUSTER, NAMESPACE_KEY, OWN_PREFIX
 from ..policies import Asked as One
@@ -26,14 +24,13 @@ if typing.TYPE_CHECKING:
 Asked = typing.Tuple[One, ...]
 
 
-@dataclasses.dataclass(frozen=True)
-class Written:
+class Written(typing.NamedTuple):
     """An entry as it is written, in Cilium's terms."""
 
     place: str
     rule: int
     section: str
-    value: dict = dataclasses.field(compare=False)
+    value: dict
 
     @property
     def word(self) -> str:
@@ -144,5 +141,5 @@ def one(asked: tuple) -> str:
 
 def by_family(addresses: typing.Iterable[str]) -> typing.Dict[int, typing.List[int]]:
     """The numbers of addresses, ascending, of each family."""
-    found = [ipaddress.ip_address(it) for it in addresses]
+    found = [it for it in map(parsed, addresses) if it is not None]
     return {family: sorted(int(it) for it in found if it.version == family) for family in NETWORKS}

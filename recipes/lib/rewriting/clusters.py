@@ -14,7 +14,7 @@ ANOTHER = "/default"
 def rewrite(work: Work, entry: Entry, word: str) -> typing.List[Entry]:
     """The entry with the cluster's name in its selectors as policyd calls it."""
     listed = entry.value.get(f"{word}Endpoints")
-    if not isinstance(listed, list):
+    if not isinstance(listed, list) or work.state.cluster.cluster == CORE_CLUSTER:
         return [entry]
     made = [selector(work, it) if isinstance(it, dict) else it for it in listed]
     return [entry.with_value({**entry.value, f"{word}Endpoints": made})]

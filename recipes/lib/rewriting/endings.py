@@ -8,6 +8,8 @@ from .work import Entry, Work
 
 
 def rewrite(work: Work, entry: Entry, word: str) -> typing.List[Entry]:
+    if not entry.value.get(f"{word}CIDR") and not entry.value.get(f"{word}CIDRSet"):
+        return [entry]
     value = dict(entry.value)
     if value.get(f"{word}CIDR"):
         value[f"{word}CIDR"] = [*map(text_of, value[f"{word}CIDR"])]

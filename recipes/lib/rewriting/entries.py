@@ -13,8 +13,11 @@ from . import clusters, endings, groups, icmp, layer7, named_ports, names, nodes
 from .work import Entry, Refused, Work
 
 NOTHING: dict = {}
+Step = typing.Callable[[Work, Entry, str], typing.List[Entry]]
 # (members that aren't the profile's are gone behind these, so that each later step sees those of the profile alone)
 STEPS = (layer7.rewrite, icmp.rewrite, names.rewrite, nodes.rewrite, requires.rewrite, services.rewrite, groups.rewrite, endings.rewrite, clusters.rewrite)
+# Those that change an entry which has members of the profile alone, and numbers for ports: such an entry stays one.
+STEPS_OF_PROFILE = (icmp.rewrite, nodes.rewrite, endings.rewrite, clusters.rewrite)
 
 
 def rewritten(work: Work, number: int, value: dict) -> typing.List[Entry]:
@@ -22,15 +25,8 @@ def rewritten(work: Work, number: int, value: dict) -> typing.List[Entry]:
     word = "from" if work.direction == "ingress" else "to"
     value = {name: it for name, it in value.items() if it is not None}
     refusals.check(work, value, word)
-    found = [Entry(number, value)]
     try:
-        unknown.check(value, word, work.path)
-        for step in STEPS:
-            found = [it for one in found for it in step(work, one, word)]
-        found = [it for one in found for it in named_ports.rewrite(work, one, word)]
-        for it in found:
-            unread.walk(it.value, word, work.path)
-            unread.judge_entry(it.value, work.path)
+        return stepwise(work, Entry(number, value), word)
     except Unread as wrong:
         if refusals.refused_by_cilium(wrong.what):
             raise Refused(f"{wrong.what} at {wrong.path}")
@@ -38,4 +34,34 @@ def rewritten(work: Work, number: int, value: dict) -> typing.List[Entry]:
         return [Entry(number, dict(NOTHING))]
     except (AttributeError, KeyError, TypeError, ValueError):
         raise Refused(f"wrong-shape at {work.path}")
+
+
+def stepwise(work: Work, entry: Entry, word: str) -> typing.List[Entry]:
+    """What the steps make of an entry; Unread where something of it isn't read."""
+    is_plain = is_of_profile(entry.value, word)
+    if is_plain:
+        found = in_steps(work, entry, word, STEPS_OF_PROFILE)
+    else:
+        unknown.check(entry.value, word, work.path)
+        found = [it for one in in_steps(work, entry, word, STEPS) for it in named_ports.rewrite(work, one, word)]
+    for it in found:
+        if not is_plain:
+            unread.walk(it.value, word, work.path)
+        unread.judge_entry(it.value, work.path)
     return found
+
+
+def in_steps(work: Work, entry: Entry, word: str, steps: typing.Iterable[Step]) -> typing.List[Entry]:
+    found = [entry]
+    for step in steps:
+        found = [it for one in found for it in step(work, one, word)]
+    return found
+
+
+def is_of_profile(value: dict, word: str) -> bool:
+    """Whether an entry has members of the profile alone."""
+    try:
+        unread.walk(value, word, "")
+    except Unread:
+        return False
+    return True

@@ -10,12 +10,14 @@ PROTOCOLS = ("ICMP", "ICMPV6", "VRRP", "IGMP")
 
 def rewrite(work: Work, entry: Entry, word: str) -> typing.List[Entry]:
     """The entry without its ports of such protocols; where it has none but these, one that covers nothing."""
-    value = dict(entry.value)
-    if value.pop("icmps", None):
+    if entry.value.get("icmps"):
         return [entry.with_value({})]
-    items = value.get("toPorts") or []
+    items = entry.value.get("toPorts") or []
     ports = [port for item in items for port in item.get("ports") or []]
     kept = [port for port in ports if not is_without_ports(port)]
+    if len(kept) == len(ports) and "icmps" not in entry.value:
+        return [entry]
+    value = {name: it for name, it in entry.value.items() if name != "icmps"}
     if len(kept) == len(ports):
         return [entry.with_value(value)]
     if not kept:

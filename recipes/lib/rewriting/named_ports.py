@@ -7,7 +7,7 @@ policy asks about, which no selector of a user's names.
 """
 from __future__ import annotations
 
-import dataclasses
+import functools
 import re
 import typing
 
@@ -17,8 +17,10 @@ from .work import Entry, Refused, Rule, Work, with_expressions
 
 if typing.TYPE_CHECKING:
     from ..pods import Pod
+    from ..policies import Policy
 
 NAME = re.compile(r"(?=.*[a-z])[a-z0-9]+(-[a-z0-9]+)*")
+LETTER = re.compile("[A-Za-z]")
 PROTOCOLS = ("TCP", "UDP", "SCTP")
 OF_NO_POD = "ports by name of peers that are no pods, which have none"
 # The entities that have pods among them.
@@ -30,17 +32,19 @@ def label(name: str, protocol: str, number: int) -> str:
 
 
 def is_named(port: object) -> bool:
-    return isinstance(port, str) and bool(re.search("[A-Za-z]", port))
+    return isinstance(port, str) and bool(LETTER.search(port))
 
 
 def asked_by(policies: typing.Iterable) -> typing.Set[str]:
     """The names of ports that policies ask about."""
-    found = set()
-    for policy in policies:
-        for _, entry in policy.entries():
-            for item in listed(entry.get("toPorts")):
-                found |= {it["port"].lower() for it in listed(item.get("ports")) if is_named(it.get("port"))}
-    return found
+    return {name for policy in policies for name in names_in(policy)}
+
+
+@functools.lru_cache(maxsize=None)
+def names_in(policy: Policy) -> typing.Set[str]:
+    """The names of ports that a policy asks about, looked for once for all states that have it."""
+    items = [item for _, entry in policy.entries() for item in listed(entry.get("toPorts"))]
+    return {it["port"].lower() for item in items for it in listed(item.get("ports")) if is_named(it.get("port"))}
 
 
 def listed(value: object) -> typing.List[dict]:
@@ -81,9 +85,9 @@ def of_name(work: Work, entry: Entry, word: str, port: dict) -> typing.Iterator[
     for protocol, number in numbers:
         value = {**entry.value, "toPorts": [{"ports": [{"port": str(number), "protocol": protocol}]}]}
         if word == "from":
-            yield dataclasses.replace(entry, value=value, port_label=label(name, protocol, number))
+            yield entry._replace(value=value, port_label=label(name, protocol, number))
         else:
-            yield dataclasses.replace(entry, value=with_port(value, label(name, protocol, number)))
+            yield entry._replace(value=with_port(value, label(name, protocol, number)))
 
 
 def asked_of(work: Work, word: str) -> list:
@@ -114,7 +118,7 @@ def by_subject(rule: Rule) -> typing.List[Rule]:
         sections = {name: [it for it in entries if it.port_label == key] for name, entries in rule.sections.items()}
         for name, entries in rule.sections.items():
             if not key and entries and not sections[name]:
-                sections[name] = [dataclasses.replace(entries[0], value={}, port_label="")]
+                sections[name] = [entries[0]._replace(value={}, port_label="")]
         selector = with_expressions(rule.selector, [{"key": f"k8s:{key}", "operator": "Exists"}]) if key else rule.selector
-        found.append(dataclasses.replace(rule, selector=selector, sections={name: it for name, it in sections.items() if it or not key}))
+        found.append(rule._replace(selector=selector, sections={name: it for name, it in sections.items() if it or not key}))
     return found or [rule]

@@ -14,8 +14,10 @@ def rewrite(work: Work, entry: Entry, word: str) -> typing.List[Entry]:
     """An entry that isolates and opens nothing, and a note of what it opens besides."""
     value = dict(entry.value)
     lists = {it: value.pop(it) for it in MEMBERS if it in value}
+    if not lists:
+        return [entry]
     if not any(lists.values()):
-        return [entry.with_value({f"{word}Endpoints": [], **value} if lists else value)]
+        return [entry.with_value({f"{word}Endpoints": [], **value})]
     ports = numbers(work, value.get("toPorts") or [], word)
     for member, listed in lists.items():
         if listed and ports is not None:

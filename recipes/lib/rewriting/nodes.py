@@ -16,6 +16,8 @@ def rewrite(work: Work, entry: Entry, word: str) -> typing.List[Entry]:
     Cilium, Terminology, 'Special Identities': remote-node is any node that isn't the local one, and kube-apiserver is
     for the API server's nodes and addresses.
     """
+    if f"{word}Nodes" not in entry.value and f"{word}Entities" not in entry.value:
+        return [entry]
     value, marks = dict(entry.value), entry.marks
     listed = value.pop(f"{word}Nodes", None)
     if listed:

@@ -24,7 +24,8 @@ FAULTS = {
     "bad-peer",
     "bad-end-port",
 }
-PEERS = ("Endpoints", "CIDR", "CIDRSet", "Entities", "Nodes", "Groups", "FQDNs", "Services")
+KINDS = ("Endpoints", "CIDR", "CIDRSet", "Entities", "Nodes", "Groups", "FQDNs", "Services")
+PEERS = {word: [f"{word}{it}" for it in KINDS] for word in ("from", "to")}
 # The ports of one item at most: Cilium, `PortRule` of the API.
 PORTS_MOST = 40
 # What deny sections don't have: Cilium, 'Deny Policies'.
@@ -38,7 +39,7 @@ def refused_by_cilium(what: str) -> bool:
 
 def check(work: Work, value: dict, word: str) -> None:
     """Refused where an entry has what can't stand together, or in a section that denies."""
-    kinds = [f"{word}{it}" for it in PEERS if value.get(f"{word}{it}")]
+    kinds = [it for it in PEERS[word] if value.get(it)]
     if len(kinds) > 1:
         raise Refused(f"combining {kinds[0]} and {kinds[1]} at {work.path}")
     if value.get("icmps") and value.get("toPorts"):

@@ -6,7 +6,7 @@ requires: such pods have a label of the bridge's own that says which requirement
 """
 from __future__ import annotations
 
-import dataclasses
+import functools
 import typing
 
 from ..pods import OWN_PREFIX, REQUIRED_KEY
@@ -14,11 +14,13 @@ from ..policies import NAMESPACE_KEY, holds, requirements, source_and_key
 from ..unread import SECTIONS
 from .work import Entry, Rule, Work, with_expressions
 
+if typing.TYPE_CHECKING:
+    from ..policies import Policy
+
 Expressions = typing.List[dict]
 
 
-@dataclasses.dataclass(frozen=True)
-class Requirement:
+class Requirement(typing.NamedTuple):
     """Something that is required of the peers of a section's entries, where their rule selects some pods."""
 
     number: int
@@ -33,18 +35,23 @@ class Requirement:
 
 def gather(policies: typing.Iterable) -> typing.List[Requirement]:
     """What the policies of Cilium's require."""
-    found: typing.List[Requirement] = []
-    for policy in policies:
-        for rule in policy.rules() if policy.key[0] != "NetworkPolicy" else []:
-            for section in SECTIONS:
-                try:
-                    listed = [it for entry in rule.get(section) or [] for it in entry.get(member(section)) or []]
-                    asked = tuple(requirements(rule["endpointSelector"], policy.namespace)) if listed else ()
-                    more = tuple(one for it in listed for one in expressions(it, policy.namespace))
-                except (AttributeError, KeyError, TypeError, ValueError):
-                    continue
-                if more:
-                    found.append(Requirement(len(found), section, asked, more))
+    return [Requirement(number, *it) for number, it in enumerate(one for policy in policies for one in required_by(policy))]
+
+
+@functools.lru_cache(maxsize=None)
+def required_by(policy: Policy) -> typing.List[tuple]:
+    """What a policy requires, looked for once for all states that have it: a section, whose peers are meant, and what is required."""
+    found = []
+    for rule in policy.rules() if policy.key[0] != "NetworkPolicy" else []:
+        for section in SECTIONS:
+            try:
+                listed = [it for entry in rule.get(section) or [] for it in entry.get(member(section)) or []]
+                asked = tuple(requirements(rule["endpointSelector"], policy.namespace)) if listed else ()
+                more = tuple(one for it in listed for one in expressions(it, policy.namespace))
+            except (AttributeError, KeyError, TypeError, ValueError):
+                continue
+            if more:
+                found.append((section, asked, more))
     return found
 
 
@@ -77,8 +84,10 @@ def label_of(requirements: typing.Sequence[Requirement], labels: typing.Sequence
 
 def rewrite(work: Work, entry: Entry, word: str) -> typing.List[Entry]:
     """The entry without what it requires, which by itself grants nothing."""
+    if f"{word}Requires" not in entry.value:
+        return [entry]
     value = dict(entry.value)
-    listed = value.pop(f"{word}Requires", None)
+    listed = value.pop(f"{word}Requires")
     has_peers = any(name.startswith(word) and it for name, it in value.items() if name != "toPorts")
     return [entry.with_value({} if listed and not has_peers else value)]
 
@@ -89,12 +98,12 @@ def by_subject(work: Work, rule: Rule) -> typing.List[Rule]:
     if not known:
         return [rule]
     key = f"k8s:{REQUIRED_KEY}"
-    found = [dataclasses.replace(rule, selector=with_expressions(rule.selector, [{"key": key, "operator": "DoesNotExist"}]))]
+    found = [rule._replace(selector=with_expressions(rule.selector, [{"key": key, "operator": "DoesNotExist"}]))]
     for text in sorted(work.state.required):
         mine = [known[int(it)] for it in text.split("-")]
         selector = with_expressions(rule.selector, [{"key": key, "operator": "In", "values": [text]}])
         sections = {name: [required(work, name, it, mine) for it in entries] for name, entries in rule.sections.items()}
-        found.append(dataclasses.replace(rule, selector=selector, sections=sections))
+        found.append(rule._replace(selector=selector, sections=sections))
     return found
 
 

@@ -2,14 +2,12 @@
 from __future__ import annotations
 
 import collections
-import dataclasses
 import typing
 
 from ..policies import NAMESPACE_KEY, Policy, holds
 
 
-@dataclasses.dataclass(frozen=True)
-class Unsure:
+class Unsure(typing.NamedTuple):
     """What isn't read in a policy, so that what it changes can't be told."""
 
     # The policy's name, as answers have it, what isn't read, and the path to it in the document.
@@ -29,7 +27,17 @@ class Unsure:
     # What isn't read with all that it stands in: where that is the same in two states, it does the same to the same pods.
     said: str = ""
     # An object that decides and isn't a policy says by itself whom it selects.
-    selector: typing.Optional[typing.Callable[[typing.Sequence[str]], bool]] = dataclasses.field(default=None, compare=False)
+    selector: typing.Optional[typing.Callable[[typing.Sequence[str]], bool]] = None
+
+    def __eq__(self, other: object) -> bool:
+        # (whom it selects is in what it says)
+        return isinstance(other, Unsure) and self[:-1] == other[:-1]
+
+    def __ne__(self, other: object) -> bool:
+        return not self == other
+
+    def __hash__(self) -> int:
+        return hash(self[:-1])
 
     def touches(self, labels: typing.Sequence[str], direction: str) -> bool:
         """Whether it may change what pods with the labels receive, or send."""
@@ -45,37 +53,36 @@ class Unsure:
         return f"{self.policy}: {self.what} at {self.path}" if self.path else f"{self.policy}: {self.what}"
 
 
-@dataclasses.dataclass(frozen=True)
-class Names:
+class Names(typing.NamedTuple):
     """Addresses that an entry opens and that nobody knows here: those of names, or of a cloud's groups."""
 
     # The entry's place, its direction, what it names, and an entry with its ports alone.
     place: str
     direction: str
     names: typing.Tuple[str, ...]
-    ports: dict = dataclasses.field(compare=False)
+    ports: dict
     asked: tuple = ()
 
     def touches(self, labels: typing.Sequence[str], direction: str) -> bool:
         return direction == self.direction and all(holds(it, labels) for it in self.asked)
 
 
-@dataclasses.dataclass
 class Rewritten:
     """A policy as policyd is given it. `policy` is it as it was written."""
 
-    policy: Policy
-    # What is applied in its place: most often one policy, none where no rule of it can be in force. Each has `whole`,
-    # which is `policy`.
-    parts: typing.List[Policy] = dataclasses.field(default_factory=list)
-    # A place of an answer, such as `pay/web#0.ingress[1]`, and the place in the policy as it was written.
-    places: typing.Dict[str, str] = dataclasses.field(default_factory=dict)
-    # Marks of entries by their places as written: `L7`, `auth`, `nodes`.
-    marks: typing.Dict[str, typing.Tuple[str, ...]] = dataclasses.field(default_factory=dict)
-    names: typing.List[Names] = dataclasses.field(default_factory=list)
-    # What isn't read; and why Cilium refuses the policy too, or None: it is never in force there.
-    unsure: typing.List[Unsure] = dataclasses.field(default_factory=list)
-    refused: typing.Optional[str] = None
-    # What was left out, by what it is, with how often, and what the state lacks for it to be rewritten.
-    counted: typing.Counter[str] = dataclasses.field(default_factory=collections.Counter)
-    lacking: typing.List[str] = dataclasses.field(default_factory=list)
+    def __init__(self, policy: Policy, refused: typing.Optional[str] = None):
+        """`refused` is why Cilium refuses the policy too, or None: it is never in force there."""
+        self.policy, self.refused = policy, refused
+        # What is applied in its place: most often one policy, none where no rule of it can be in force. Each has `whole`,
+        # which is `policy`.
+        self.parts: typing.List[Policy] = []
+        # A place of an answer, such as `pay/web#0.ingress[1]`, and the place in the policy as it was written.
+        self.places: typing.Dict[str, str] = {}
+        # Marks of entries by their places as written: `L7`, `auth`, `nodes`.
+        self.marks: typing.Dict[str, typing.Tuple[str, ...]] = {}
+        # Addresses that nobody knows here, and what isn't read.
+        self.names: typing.List[Names] = []
+        self.unsure: typing.List[Unsure] = []
+        # What was left out, by what it is, with how often, and what the state lacks for it to be rewritten.
+        self.counted: typing.Counter[str] = collections.Counter()
+        self.lacking: typing.List[str] = []

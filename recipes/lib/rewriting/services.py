@@ -20,10 +20,12 @@ WITHOUT = "toServices without a Service in the state"
 
 def rewrite(work: Work, entry: Entry, word: str) -> typing.List[Entry]:
     """An entry over the selectors of its Services, and one over the addresses of those without."""
+    if "toServices" not in entry.value:
+        return [entry]
     value = dict(entry.value)
-    listed = value.pop("toServices", None)
+    listed = value.pop("toServices")
     if not listed:
-        return [entry.with_value({"toEndpoints": [], **value} if listed is not None else value)]
+        return [entry.with_value({"toEndpoints": [], **value})]
     found = [it for one in listed for it in meant(work, one)]
     pods = [of_pods(it) for it in found if it.selector]
     behind = work.state.cluster.behind

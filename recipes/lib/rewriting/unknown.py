@@ -6,7 +6,7 @@ from __future__ import annotations
 
 import typing
 
-from ..unread import ANY, LEFT_OUT, SHAPES, Unread, below
+from ..unread import ANY, LEFT_OUT, SHAPES, Unread, Way
 
 # What policyd doesn't read and is rewritten, with its form.
 REWRITTEN: typing.Dict[str, typing.Any] = {
@@ -27,14 +27,14 @@ FORMS: typing.Dict[str, dict] = {
 }
 
 
-def check(value: object, form: typing.Any, path: str) -> None:
+def check(value: object, form: typing.Any, way: Way) -> None:
     """Unread at the first member that isn't known; what has another shape is left to others."""
     if isinstance(form, list):
         for at, it in enumerate(value if isinstance(value, list) else []):
-            check(it, form[0], f"{path}[{at}]")
+            check(it, form[0], (way, at))
     elif isinstance(value, dict) and form in FORMS:
         known = FORMS[form]
         for name in sorted(it for it in value if value[it] is not None):
             if name not in known:
-                raise Unread("unknown-member", below(path, name))
-            check(value[name], known[name], below(path, name))
+                raise Unread("unknown-member", (way, name))
+            check(value[name], known[name], (way, name))

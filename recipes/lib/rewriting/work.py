@@ -1,7 +1,6 @@
 """What the steps of a rewriting share: the policy, the state that it is judged in, and what was found so far."""
 from __future__ import annotations
 
-import dataclasses
 import json
 import typing
 
@@ -18,8 +17,7 @@ class Refused(Exception):
     """Why Cilium, or the API server before it, refuses a policy: what is wrong, with the path."""
 
 
-@dataclasses.dataclass
-class Entry:
+class Entry(typing.NamedTuple):
     """An entry of a section, with its number as it was written."""
 
     number: int
@@ -33,8 +31,7 @@ class Entry:
         return Entry(self.number, value, self.marks if marks is None else marks, self.port_label)
 
 
-@dataclasses.dataclass
-class Rule:
+class Rule(typing.NamedTuple):
     """A rule, with its number as it was written."""
 
     number: int
@@ -48,19 +45,15 @@ class Rule:
         return {"endpointSelector": self.selector, **sections, **self.rest}
 
 
-@dataclasses.dataclass
 class Work:
     """A rewriting that goes on."""
 
-    policy: Policy
-    state: State
-    found: Rewritten
-    # The place of the entry that is being rewritten, its direction, whether it denies, and what its subject asks.
-    place: str = ""
-    path: str = ""
-    direction: str = ""
-    denies: bool = False
-    subject: typing.Optional[dict] = None
+    def __init__(self, policy: Policy, state: State, found: Rewritten):
+        self.policy, self.state, self.found = policy, state, found
+        # The place of the entry that is being rewritten, its direction, whether it denies, and what its subject asks.
+        self.place = self.path = self.direction = ""
+        self.denies = False
+        self.subject: typing.Optional[dict] = None
 
     @property
     def namespace(self) -> str:
