@@ -5,7 +5,7 @@ import ipaddress
 from typing import Any, Iterable, NamedTuple, Optional, Sequence, Union
 
 from lib import addresses, regions
-from lib.addresses import Address, Network
+from lib.addresses import Network
 from lib.pods import Pod
 from lib.rewriting import Unsure
 
@@ -59,7 +59,7 @@ class Outside(NamedTuple):
     # The world of a name's addresses.
     world: Optional[Network] = None
 
-    def remote(self, taken: set[Address]) -> Optional[tuple]:
+    def remote(self, taken: set[str]) -> Optional[tuple]:
         """How a question names it, or None where no address is left of it but those that are taken."""
         if self.kind == "entity":
             return "identity", self.value
@@ -91,7 +91,7 @@ class Universe:
         self.states, self.node = states, node
         self.sets: list[LabelSet] = []
         self.numbers: dict[tuple, int] = {}
-        self.taken = {found for it in {it for state in states for it in addresses_of(state)} for found in [addresses.parsed(it)] if found}
+        self.taken = {it for state in states for it in addresses_of(state)}
         self.groups: list[Group] = []
         # Pods that one of two states lacks, and whose workload gives no other pod in their place: by the state's number.
         self.alone: tuple[list, list] = ([], [])
@@ -101,7 +101,7 @@ class Universe:
         for pair in pairs:
             for pod in (it for it in pair if it is not None):
                 self.add(pod, used)
-        self.taken |= set(map(ipaddress.ip_address, used))
+        self.taken |= used
         self.group(pairs)
         self.of_set: tuple[dict, dict] = ({}, {})
         for it in self.groups:
@@ -122,7 +122,7 @@ class Universe:
         if labels not in self.numbers:
             at = self.numbers[labels] = len(self.sets)
             self.sets.append(LabelSet(labels, namespace, str(SPARE + at)))
-            self.taken.add(SPARE + at)
+            self.taken.add(str(SPARE + at))
         return self.numbers[labels]
 
     def mistrust(self, policies: Iterable[tuple]) -> None:
@@ -158,14 +158,14 @@ class Universe:
         return [*map(entity, ENTITIES), *inside(halves, *addresses.WORLDS)]
 
 
-def first_free(whole: Network, holes: Sequence[Network], taken: set[Address]) -> Optional[str]:
+def first_free(whole: Network, holes: Sequence[Network], taken: set[str]) -> Optional[str]:
     """The first address of a prefix that lies in none of its holes, which are apart and ascend, and isn't taken; or None."""
     make, at = type(whole.network_address), int(whole.network_address)
     ends = [*((int(it.network_address), int(it.broadcast_address)) for it in holes), (int(whole.broadcast_address) + 1, 0)]
     for low, high in ends:
-        free = next((it for it in range(at, low) if make(it) not in taken), None)
+        free = next((text for text in (addresses.written(make(it)) for it in range(at, low)) if text not in taken), None)
         if free is not None:
-            return addresses.written(make(free))
+            return free
         at = high + 1
     return None
 

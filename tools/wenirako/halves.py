@@ -68,8 +68,8 @@ class Halves:
         """Works out who selects whom, where the core refuses these policies."""
         self.core.refused = refused
         labels = [it.labels for it in self.universe.sets]
-        interned, index, self.sets = Interned(), LabelIndex(labels), Sets(labels)
-        self.selections = [Selection(index, it, refused, interned) for it in self.policies]
+        interned, self.sets = Interned(LabelIndex(labels)), Sets(labels)
+        self.selections = [Selection(it, refused, interned) for it in self.policies]
         self.profiles: dict[tuple, Profile] = {}
         # Questions that wait for answers, each with those that are asked for them.
         self.pending: dict[tuple, tuple[dict, dict]] = {}

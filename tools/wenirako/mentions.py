@@ -6,6 +6,7 @@ Entities are such labels too: one that nobody names is as the others that nobody
 """
 from __future__ import annotations
 
+import functools
 from typing import Iterable, Mapping, Sequence
 
 from .selecting import Half, Rule
@@ -20,22 +21,12 @@ NO_SELECTORS = ("matchLabels", "matchExpressions", "toPorts", "ports")
 ENTITIES = ("fromEntities", "toEntities")
 
 
-class Mentions:
-    """The keys that rules name at the other side, and the values that they list of each."""
+class Named:
+    """The entities and the keys that selectors name, and the values that they list of each."""
 
-    def __init__(self, rules: Iterable[Rule], directions: Iterable[str]):
-        """`directions` has those whose sections are looked at."""
-        rules = list(rules)
+    def __init__(self) -> None:
         self.entities: set[str] = set()
-        # (a selector without a namespace is bound to its policy's, and the entity `cluster` is a label's value)
-        self.values: dict[str, set[str]] = {NAMESPACE_KEY: {it.part.namespace for it in rules}, CLUSTER_KEY: {"default"}}
-        for rule in rules:
-            for section in (it for direction in directions for it in rule.sections(direction)):
-                self.walk(section)
-        # (a NetworkPolicy's namespaceSelector names the keys of namespaces' labels)
-        for it in [it for it in self.values if not it.startswith(NAMESPACE_LABELS)]:
-            self.values.setdefault(NAMESPACE_LABELS + it, set()).update(self.values[it])
-        self.listed = sorted(self.values.items())
+        self.values: dict[str, set[str]] = {}
 
     def walk(self, value: object) -> None:
         """Takes each selector below a value."""
@@ -55,6 +46,39 @@ class Mentions:
     def mention(self, key: str, values: Iterable[str]) -> None:
         for it in {key, key.partition(":")[2]} - {""}:
             self.values.setdefault(it, set()).update(map(str, values))
+
+    def take(self, other: Named) -> None:
+        """Takes what others name."""
+        self.entities |= other.entities
+        for key, values in other.values.items():
+            self.values.setdefault(key, set()).update(values)
+
+
+@functools.lru_cache(maxsize=None)
+def named_by(rule: Rule, direction: str) -> Named:
+    """What a rule names in a direction, found once for all states that have it."""
+    found = Named()
+    for section in rule.sections(direction):
+        found.walk(section)
+    return found
+
+
+class Mentions(Named):
+    """The keys that rules name at the other side, and the values that they list of each."""
+
+    def __init__(self, rules: Iterable[Rule], directions: Iterable[str]):
+        """`directions` has those whose sections are looked at."""
+        super().__init__()
+        rules = list(rules)
+        # (a selector without a namespace is bound to its policy's, and the entity `cluster` is a label's value)
+        self.values = {NAMESPACE_KEY: {it.part.namespace for it in rules}, CLUSTER_KEY: {"default"}}
+        for direction in directions:
+            for rule in rules:
+                self.take(named_by(rule, direction))
+        # (a NetworkPolicy's namespaceSelector names the keys of namespaces' labels)
+        for it in [it for it in self.values if not it.startswith(NAMESPACE_LABELS)]:
+            self.values.setdefault(NAMESPACE_LABELS + it, set()).update(self.values[it])
+        self.listed = sorted(self.values.items())
 
     def seen(self, labels: Sequence[str]) -> tuple:
         """What is seen of labels: of each that is named, its value where that is listed, and else that it is there."""

@@ -125,7 +125,8 @@ class Places:
 
     def __init__(self, halves: Halves, *phases: int):
         self.halves, self.phases = halves, phases
-        self.held = regions.nested(frozenset(regions.named(entry for it in phases for rule in halves.selections[it].rules for _, entry in rule.part.entries())))
+        rules = dict.fromkeys(rule for it in phases for rule in halves.selections[it].rules)
+        self.held = regions.nested(frozenset(regions.named(entry for it in rules for _, entry in it.part.entries())))
         self.kept: dict[Outside, Key] = {}
 
     def pairs(self, count: int) -> int:

@@ -55,6 +55,10 @@ class Rule(NamedTuple):
         return hash(self.line)
 
 
+# A rule, and what it selects: the numbers of sets of labels, with the directions of which it says something.
+Selecting = tuple[Rule, list[tuple[int, str]]]
+
+
 def selected(index: LabelIndex, part: Any) -> frozenset[int]:
     """The sets of labels that some rule of a policy selects; a subject that isn't read may select each of its namespace."""
     of_namespace = [("k8s", NAMESPACE_KEY, "In", [part.namespace])] if part.namespace else []
@@ -76,29 +80,40 @@ class Half:
 
 
 class Interned:
-    """Makes halves, each once."""
+    """Makes halves, each once, and finds whom each policy selects, once for all states that have it."""
 
-    def __init__(self) -> None:
+    def __init__(self, index: LabelIndex) -> None:
+        """`index` has the sets of labels."""
+        self.index = index
         self.made: dict[tuple, Half] = {}
+        self.known: dict[Any, list[Selecting]] = {}
 
     def half(self, direction: str, rules: tuple[Rule, ...]) -> Half:
         if (direction, rules) not in self.made:
             self.made[direction, rules] = Half(direction, rules)
         return self.made[direction, rules]
 
+    def selecting(self, policy: Any) -> list[Selecting]:
+        """The rules of a policy with the halves that each selects, by their sets of labels and directions."""
+        if policy not in self.known:
+            self.known[policy] = [(Rule(it.line, it, policy), self.keys(it)) for it in policy.parts()]
+        return self.known[policy]
+
+    def keys(self, part: Any) -> list[tuple[int, str]]:
+        ways = part.directions()
+        return [(at, way) for at in selected(self.index, part) for way in ways] if ways else []
+
 
 class Selection:
     """The rules of one state of policies, and the sets of labels that each selects."""
 
-    def __init__(self, index: LabelIndex, policies: Iterable, refused: set[str], interned: Interned):
-        """`index` has the sets of labels."""
-        self.rules = [Rule(part.line, part, it) for it in policies if it.line not in refused for part in it.parts()]
+    def __init__(self, policies: Iterable, refused: set[str], interned: Interned):
+        found = [each for it in policies if it.line not in refused for each in interned.selecting(it)]
+        self.rules = [rule for rule, _ in found]
         selecting: dict[tuple[int, str], list[Rule]] = {}
-        for rule in self.rules:
-            ways = rule.part.directions()
-            for at in sorted(selected(index, rule.part)) if ways else ():
-                for direction in ways:
-                    selecting.setdefault((at, direction), []).append(rule)
+        for rule, keys in found:
+            for key in keys:
+                selecting.setdefault(key, []).append(rule)
         self.halves = {key: interned.half(key[1], tuple(found)) for key, found in selecting.items()}
         self.free = {it: interned.half(it, ()) for it in DIRECTIONS}
 
