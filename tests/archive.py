@@ -38,7 +38,7 @@ class Door:
         out, err = io.StringIO(), io.StringIO()
         stdin, program = io.TextIOWrapper(io.BytesIO(given.encode())), programs.Program(["none"], False, "a stand-in")
         lists = program if self.has_connections else None
-        known = {"found": lambda *_: program, "there": lambda: program, "connections": lambda: lists, "commit": lambda: "0123456789ab"}
+        known = {"found": lambda *_: program, "there": lambda *_: program, "connections": lambda *_: lists, "commit": lambda: "0123456789ab"}
         with contextlib.ExitStack() as stack:
             stack.enter_context(contextlib.redirect_stdout(out))
             stack.enter_context(contextlib.redirect_stderr(err))

@@ -50,6 +50,29 @@ def walked(folder):
     return (f"{at}/{name}" for at, _, names in os.walk(folder) for name in names)
 
 
+def looked_at(folder):
+    """The place, size and times of each file below a folder, in whatever order."""
+    found, folders = [], [folder]
+    while folders:
+        # (what is gone meanwhile isn't looked at)
+        with contextlib.suppress(OSError), os.scandir(folders.pop()) as listed:
+            for it in listed:
+                if it.is_dir(follow_symlinks=False):
+                    folders.append(it.path)
+                else:
+                    found += look(it.path)
+    return found
+
+
+def look(path):
+    """The place, size and times of a file, in a list; an empty one where it isn't there."""
+    try:
+        it = os.stat(path)
+    except OSError:
+        return []
+    return [(path, it.st_ino, it.st_size, it.st_mtime_ns, it.st_ctime_ns)]
+
+
 def files_in(folder):
     return sorted(it for it in map(pathlib.Path, walked(folder)) if it.is_file())
 
@@ -111,39 +134,39 @@ class Build:
                     total.update(repr((str(path.relative_to(TOP)), path.read_bytes())).encode())
         return total.hexdigest()
 
-    def known_sources(self):
+    def known_sources(self, looks=None):
         """That checksum as it was taken last, where no file has been changed since; else it is taken anew."""
-        stamp, newest = self.stamp()
+        stamp, newest = self.stamp({} if looks is None else looks)
         kept = self.seen.read_text().split() if self.seen.is_file() else []
         if kept[:1] == [stamp]:
             return kept[1]
         found = self.sources()
-        if self.seen.parent.is_dir() and newest + SETTLED < time.time() and self.stamp()[0] == stamp:
+        if self.seen.parent.is_dir() and newest + SETTLED < time.time() and self.stamp({})[0] == stamp:
             # (where it can't be kept, each question sums anew)
             with contextlib.suppress(OSError):
                 write_whole(self.seen, f"{stamp}\n{found}\n")
         return found
 
-    def stamp(self):
-        """A checksum of the places, sizes and times of what the program is made from, and when the last of it was changed."""
-        total, listed, newest = hashlib.sha256(), crates(), 0
-        rt = os.path.realpath(shutil.which("rt") or "no kit")
-        folders = [f"{TOP}/crates/{name}/{part}" for name in sorted(self.parts()) for part in ("src", "specs", "proofs")]
-        total.update(repr([(name, listed[name]) for name in sorted(self.parts())]).encode())
-        for path in [rt, os.path.join(os.path.dirname(rt), "..", "KIT-ID"), *(it for folder in folders for it in walked(folder))]:
-            try:
-                it = os.stat(path)
-            except OSError:
-                continue
-            total.update(repr((path, it.st_ino, it.st_size, it.st_mtime_ns, it.st_ctime_ns)).encode())
-            newest = max(newest, it.st_mtime, it.st_ctime)
-        return total.hexdigest(), newest
+    def stamp(self, looks):
+        """A checksum of the places, sizes and times of what the program is made from, and when the last of it was changed.
 
-    def is_proved(self):
-        """Whether a proved build of the sources, as they stand now, is there."""
+        `looks` has the crates that were looked at just now, and gets those that are looked at here.
+        """
+        rt, listed = os.path.realpath(shutil.which("rt") or "no kit"), crates()
+        found = [*look(rt), *look(os.path.join(os.path.dirname(rt), "..", "KIT-ID"))]
+        names = sorted(self.parts())
+        for name in names:
+            if name not in looks:
+                looks[name] = [it for part in ("src", "specs", "proofs") for it in looked_at(f"{TOP}/crates/{name}/{part}")]
+            found += looks[name]
+        newest = max((time for it in found for time in it[-2:]), default=0)
+        return hashlib.sha256(repr([[(name, listed[name]) for name in names], found]).encode()).hexdigest(), newest / 1e9
+
+    def is_proved(self, looks=None):
+        """Whether a proved build of the sources, as they stand now, is there; of `looks` see `stamp`."""
         if not self.note.is_file() or not self.program.is_file():
             return False
-        return self.note.read_text().split()[:2] == [self.known_sources(), sum_of(self.program)]
+        return self.note.read_text().split()[:2] == [self.known_sources(looks), sum_of(self.program)]
 
     def edits_refused(self):
         """How many must-fail edits the gate that kept the build saw refused; None where no gate did."""

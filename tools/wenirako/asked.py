@@ -9,6 +9,7 @@ from .ends import End, Outside, Universe
 from .halves import Halves, Segment
 from .naming import Names
 from .opened import Opened
+from .children import nothing
 from .programs import Program
 from .progress import Progress
 from .reasons import of_half
@@ -23,12 +24,20 @@ Piece = tuple
 class Asked:
     """A question's states, and the way to answers about them."""
 
-    def __init__(self, states: States, find: Callable[[], Program], progress: Progress, node: Optional[str] = None, lists: Callable[[], Optional[Program]] = lambda: None):
-        """`find` gives policyd, and `lists` connections, where that is there."""
+    def __init__(
+        self,
+        states: States,
+        find: Callable[[], Program],
+        progress: Progress,
+        node: Optional[str] = None,
+        lists: Callable[[], Optional[Program]] = lambda: None,
+        meanwhile: Callable[[], None] = nothing,
+    ):
+        """`find` gives policyd, and `lists` connections, where that is there; `meanwhile` is called while connections works."""
         self.states, self.progress = states, progress
         self.universe = Universe(states.ends(), node, states.are_whole)
         self.halves = Halves(self.universe, Core(find, self.universe.sets, progress), states.phases())
-        self.opened = Opened(lists, self.halves, progress)
+        self.opened = Opened(lists, self.halves, progress, meanwhile)
         self.names = Names(self.universe.groups)
 
     def about(self, pairs: Iterable[tuple[End, End]], ports: PortRange = EVERY_PORT, phase: int = 0, is_open: Optional[bool] = None, explains: bool = True) -> "About":

@@ -122,10 +122,15 @@ def ended_by(main: Callable[[], int]) -> int:
         end_all()
 
 
-def run(words: Sequence[str], given: Optional[bytes] = None, tick: Callable[[], None] = lambda: None, **how: Any) -> Done:
-    """Runs a program to its end, and calls `tick` meanwhile. Where this is left by an exception, the child has ended.
+def nothing() -> None:
+    """What is called where there is nothing to do."""
 
-    It is a session of its own, so that what it starts ends with it; with `start_new_session=False` it keeps the terminal.
+
+def run(words: Sequence[str], given: Optional[bytes] = None, tick: Callable[[], None] = nothing, meanwhile: Callable[[], None] = nothing, **how: Any) -> Done:
+    """Runs a program to its end, and calls `tick` now and then. Where this is left by an exception, the child has ended.
+
+    `meanwhile` does some work beside it, once. The child is a session of its own, so that what it starts ends with it;
+    with `start_new_session=False` it keeps the terminal.
     """
     with tempfile.TemporaryFile() as script, contextlib.ExitStack() as behind:
         # (what is left of an input that is piped isn't written any more once `communicate` has timed out)
@@ -135,6 +140,7 @@ def run(words: Sequence[str], given: Optional[bytes] = None, tick: Callable[[], 
         with _signals.held():
             child = started(words, how)
             behind.callback(forgotten, child)
+        meanwhile()
         done = heard(child, tick)
     return done
 

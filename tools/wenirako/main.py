@@ -33,6 +33,8 @@ class Run:
         self.progress = Progress(command, words.quiet)
         self.notes: list[str] = []
         self.known: Optional[programs.Program] = None
+        self.looks: programs.Looks = {}
+        self.commit = ""
 
     def say(self, text: str) -> None:
         self.progress.end()
@@ -76,8 +78,21 @@ class Run:
 
     def program(self) -> programs.Program:
         """The program that answers, looked for once."""
-        self.known = self.known or programs.found(self.say, self.progress)
+        self.known = self.known or programs.found(self.say, self.progress, self.looks)
         return self.known
+
+    def lists(self) -> Optional[programs.Program]:
+        """The program that lists connections, where it stands."""
+        return programs.connections(self.looks)
+
+    def look_ahead(self, states: States) -> None:
+        """Finds what most answers need, while there is nothing to do but to wait."""
+        states.slips()
+        # (where a program is broken, that is said when it is asked)
+        with contextlib.suppress(NoProgram):
+            self.known = self.known or programs.there(self.looks)
+        if self.words.format == "json":
+            self.commit = self.commit or programs.commit()
 
     def report(self) -> Report:
         states = self.states()
@@ -86,7 +101,7 @@ class Run:
         # (what is asked of the state after a change alone needs no other)
         if self.name in ("list", "check"):
             states = states.afterwards()
-        return self.made(Asked(states, self.program, self.progress, self.option("node"), programs.connections))
+        return self.made(Asked(states, self.program, self.progress, self.option("node"), self.lists, lambda: self.look_ahead(states)))
 
     def made(self, asked: Asked) -> Report:
         # (a question's module is read where that is asked, and so is a form's)
@@ -114,8 +129,8 @@ class Run:
     def written(self, report: Report) -> str:
         form = self.words.format
         if form == "json":
-            standing = None if self.name == "lint" else self.known or programs.there()
-            return writing.as_json(report, programs.commit(), bool(standing and standing.is_proved))
+            standing = None if self.name == "lint" else self.known or programs.there(self.looks)
+            return writing.as_json(report, self.commit or programs.commit(), bool(standing and standing.is_proved))
         if form in ("table", "markdown"):
             return (writing.table if form == "table" else writing.markdown)(report)
         from . import drawing, page

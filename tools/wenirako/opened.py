@@ -46,9 +46,10 @@ class NoWord(Exception):
 class Opened:
     """Answers which connections are open, as `connections` says."""
 
-    def __init__(self, find: Callable[[], Optional[Program]], halves: Halves, progress: Progress):
-        """`find` gives the program where it is there: it is called once, when there is something to ask."""
-        self.find, self.halves, self.progress = find, halves, progress
+    def __init__(self, find: Callable[[], Optional[Program]], halves: Halves, progress: Progress, meanwhile: Callable[[], None] = children.nothing):
+        """`find` gives the program where it is there: it is called once, when there is something to ask. `meanwhile` is
+        called while it works."""
+        self.find, self.halves, self.progress, self.meanwhile = find, halves, progress, meanwhile
         self.found: Optional[tuple[Optional[Program]]] = None
         # What is said of answers that it lacks.
         self.notes: list[str] = []
@@ -111,7 +112,7 @@ class Opened:
         program = self.program()
         assert program is not None
         with tempfile.TemporaryFile() as written:
-            done = children.run([*program.command, *words], "".join(f"{it}\n" for it in lines).encode(), tick=self.progress.tick, stdout=written)
+            done = children.run([*program.command, *words], "".join(f"{it}\n" for it in lines).encode(), self.progress.tick, self.meanwhile, stdout=written)
             if done.status == BAD_WORDS and words:
                 raise NoWord(done.said("connections"))
             if done.status not in (NOTHING, BAD, TELLS):

@@ -22,6 +22,10 @@ MANIFEST, NAME, LISTS = TOP / "MANIFEST.json", "policyd", "connections"
 NOT_PROVED = "NOT PROVED: this build was checked by no proof. ./play --prove proves it, and .ci/run all crates with their tests"
 
 
+# What the files of crates look like, by the crates' names: for who asks about several programs at one time.
+Looks = dict[str, list]
+
+
 class NoProgram(Exception):
     """Why there is no program to ask."""
 
@@ -53,20 +57,21 @@ def of_archive(told: dict, name: str = NAME) -> Program:
     return Program([str(path)], told["proved"], f"of the archive of {told['commit']}")
 
 
-def there() -> Optional[Program]:
+def there(looks: Optional[Looks] = None) -> Optional[Program]:
     """The program that stands, without building one; None where none does."""
     told = manifest()
     if told is not None:
         return of_archive(told)
-    program, unproved = of_repository("program"), of_repository("unproved")
-    if program.is_proved():
+    program = of_repository("program")
+    if program.is_proved(looks):
         return Program([str(program.PROGRAM)], True, "a proved build of the sources")
+    unproved = of_repository("unproved")
     if unproved.is_kept():
         return Program([str(unproved.KEPT)], False, "a build without proof, which is kept")
     return None
 
 
-def connections() -> Optional[Program]:
+def connections(looks: Optional[Looks] = None) -> Optional[Program]:
     """The program that lists connections, where it stands proved, in an archive of proved programs too; None where it doesn't.
 
     A build of it without proof isn't asked: it tells no more than policyd does, and takes longer.
@@ -75,12 +80,12 @@ def connections() -> Optional[Program]:
     if told is not None:
         return of_archive(told, LISTS) if told["proved"] and f"bin/{LISTS}" in told["files"] else None
     build = of_repository("program").CONNECTIONS
-    return Program([str(build.program)], True, "a proved build of the sources") if build.is_proved() else None
+    return Program([str(build.program)], True, "a proved build of the sources") if build.is_proved(looks) else None
 
 
-def found(say: Callable[[str], None], progress: Progress) -> Program:
+def found(say: Callable[[str], None], progress: Progress, looks: Optional[Looks] = None) -> Program:
     """The program that answers. Where none stands, one is built without proof, and that is said once."""
-    standing = there()
+    standing = there(looks)
     if standing is not None:
         return standing
     build(say, progress)

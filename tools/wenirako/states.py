@@ -16,6 +16,7 @@ class States:
         """`skipped` has what is said of manifests that aren't read; `are_whole` is so of two states that are given whole."""
         self.before, self.after, self.skipped, self.are_whole = before, after or before, list(skipped), are_whole
         self.change = change.Change(self.before, self.after)
+        self.known_slips: Optional[list] = None
 
     def afterwards(self) -> States:
         """The state after the change by itself."""
@@ -49,8 +50,10 @@ class States:
         yield from self.unread()
 
     def slips(self) -> list:
-        """The slips of the policies that come."""
-        return [] if self.is_one else lint.slips(self.after, {it.key for it in self.incoming()})
+        """The slips of the policies that come, looked for once."""
+        if self.known_slips is None:
+            self.known_slips = [] if self.is_one else lint.slips(self.after, {it.key for it in self.incoming()})
+        return self.known_slips
 
     def unread(self) -> list[str]:
         """What is said of what isn't read of policies, before a change and after it."""
