@@ -5,10 +5,12 @@ ends at once is asked of `connections`, by `opened`.
 """
 from __future__ import annotations
 
+import collections
 import os
+import queue
 import re
 import threading
-from typing import Callable, Iterable, NamedTuple, Optional, Sequence
+from typing import Callable, Iterable, NamedTuple, Optional, Sequence, Union
 
 from lib.reading import line_of
 
@@ -26,6 +28,8 @@ SYNC = line_of("", {"op": "sync"})
 
 # How a question names the other side: ("set", NUMBER), ("identity", NUMBER) or ("address", TEXT).
 Remote = tuple
+# How many questions a batch has, and what is answered to them, or what was raised in the place of that.
+Outcome = tuple[int, Union[dict, BaseException]]
 
 
 class NoAnswer(Exception):
@@ -111,26 +115,37 @@ class Core:
         return found
 
     def at_once(self, batches: Sequence[Sequence[Question]], ask: Callable[[Sequence[Question]], dict]) -> dict:
-        # (it takes a while to be read, and one batch needs none of it)
-        import concurrent.futures
-
+        waiting, done = collections.deque(batches), queue.SimpleQueue[Outcome]()
+        threads = [threading.Thread(target=work_off, args=(waiting, ask, done)) for _ in range(min(workers(), len(batches)))]
         found: dict = {}
-        with concurrent.futures.ThreadPoolExecutor(workers()) as pool:
-            futures = {pool.submit(ask, batch): len(batch) for batch in batches}
-            try:
-                waiting = set(futures)
-                while waiting:
-                    done, waiting = concurrent.futures.wait(waiting, children.TICK, concurrent.futures.FIRST_COMPLETED)
-                    self.progress.tick()
-                    for it in done:
-                        found.update(it.result())
-                        self.progress.step(futures[it])
-            except BaseException:
-                for it in futures:
-                    it.cancel()
-                children.end_all()
-                raise
+        try:
+            for it in threads:
+                it.start()
+            for _ in batches:
+                count, answers = self.next_of(done)
+                found.update(answers)
+                self.progress.step(count)
+        except BaseException:
+            waiting.clear()
+            children.end_all()
+            raise
+        finally:
+            for it in threads:
+                if it.ident is not None:
+                    it.join()
         return found
+
+    def next_of(self, done: queue.SimpleQueue[Outcome]) -> tuple[int, dict]:
+        """The next batch that has run: how many questions it has, and what is answered; what it raised is raised here."""
+        while True:
+            try:
+                count, answers = done.get(timeout=children.TICK)
+            except queue.Empty:
+                self.progress.tick()
+                continue
+            if isinstance(answers, BaseException):
+                raise answers
+            return count, answers
 
     # Verdicts: one script for a batch, whose endpoints are live at once.
 
@@ -212,6 +227,19 @@ class Core:
             if not said[number].endswith(f" identity {numbers[at]}"):
                 raise NoAnswer(f"policyd answered {said[number]!r} where identity {numbers[at]} was due")
         return said
+
+
+def work_off(waiting: collections.deque, ask: Callable[[Sequence[Question]], dict], done: queue.SimpleQueue[Outcome]) -> None:
+    """Asks about one of the batches that wait after another, until none does."""
+    while True:
+        try:
+            batch = waiting.popleft()
+        except IndexError:
+            return
+        try:
+            done.put((len(batch), ask(batch)))
+        except BaseException as wrong:
+            done.put((len(batch), wrong))
 
 
 def workers() -> int:
