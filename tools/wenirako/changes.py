@@ -81,6 +81,7 @@ class Changes:
         self.keys: dict[str, Key] = {}
         self.made: dict[tuple, Heard] = {}
         self.outer: dict[tuple, Outer] = {}
+        self.outer_of: dict[tuple[Group, str], Outer] = {}
 
     def told(self, *words: str) -> Mapping[tuple[End, End], Heard]:
         """What is said of each connection between ends that rows have; with `HALVES` where a half alone changes, too."""
@@ -126,11 +127,14 @@ class Changes:
 
     def beside(self, group: Group, direction: str) -> Outer:
         """What isn't a pod at the other side of a half, before or after; made once for all halves that are alike."""
-        asked = [(phase, group.number(phase), direction) for phase in (0, 1)]
-        halves = tuple(self.halves.half(*it) for it in asked)
-        if halves not in self.outer:
-            self.outer[halves] = Outer(self.halves.outer(*asked), self.places)
-        return self.outer[halves]
+        found = self.outer_of.get((group, direction))
+        if found is None:
+            asked = [(phase, group.number(phase), direction) for phase in (0, 1)]
+            halves = tuple(self.halves.half(*it) for it in asked)
+            if halves not in self.outer:
+                self.outer[halves] = Outer(self.halves.outer(*asked), self.places)
+            found = self.outer_of[group, direction] = self.outer[halves]
+        return found
 
 
 class Outer:

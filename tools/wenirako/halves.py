@@ -159,11 +159,13 @@ class Halves:
         """A half that wasn't asked about: each stretch, with this word and the question that asks for its reasons."""
         half, remote = self.half(phase, at, direction), self.remote(side)
         key = ("unasked", half, self.alike(half, side), word)
-        if key not in self.kept and remote is not None:
+        found = self.kept.get(key)
+        if found is None:
+            assert remote is not None
             stand_in = self.stand_ins.setdefault(half, (phase, at))
             each = {protocol: [Segment(low, high, word, it) for low, high, it in listed] for protocol, listed in self.questions(half, *stand_in, remote).items()}
-            self.kept[key] = {like: each[protocol] for protocol, (_, alike) in self.stretches(half).items() for like in alike}
-        return self.kept[key]
+            found = self.kept[key] = {like: each[protocol] for protocol, (_, alike) in self.stretches(half).items() for like in alike}
+        return found
 
     def beside_names(self, phase: int, at: int, direction: str, side: Side) -> Profile:
         """A half that wasn't asked about; of the world with a cut wherever an entry that opens unknown addresses begins or ends."""
@@ -173,12 +175,13 @@ class Halves:
 
     def told(self, segment: Segment, word: str) -> Segment:
         """A segment of which the word is told by connections; made once."""
-        if self.words.setdefault(segment.question, word) != word:
-            raise NoAnswer(f"connections says {word} of {segment.question}, and {self.words[segment.question]} was said of it")
-        key = ("told", segment)
-        if key not in self.kept:
-            self.kept[key] = segment._replace(word=word)
-        return self.kept[key]
+        key = ("told", segment, word)
+        found = self.kept.get(key)
+        if found is None:
+            if self.words.setdefault(segment.question, word) != word:
+                raise NoAnswer(f"connections says {word} of {segment.question}, and {self.words[segment.question]} was said of it")
+            found = self.kept[key] = segment._replace(word=word)
+        return found
 
     def key(self, phase: int, at: int, direction: str, side: Side) -> tuple:
         """What the verdicts of a half depend on."""
