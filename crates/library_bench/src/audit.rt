@@ -2,6 +2,7 @@
 //! one before, and the reading of such tables.
 ghost use Rattle.std.specs.Prelude.{◌≡◌};
 
+use crate::watch::Watch;
 use anyhow::Result;
 use pol_audit::{Audit, Entries, TableError, audit, read_table};
 use pol_data::{Memory, Steps};
@@ -9,7 +10,6 @@ use std::alloc::Global;
 use std::marker::Brand;
 use std::rt::Clock;
 use std::sync::ledger::{Blank, Ledger};
-use std::time::Instant;
 
 /// Entries a number, of which the first allows all that the others allow.
 const ENTRIES_OF_ONE: u32 = 16;
@@ -60,38 +60,63 @@ fn are_same(alloc: Global, left: &Entries, right: &Entries) -> Result<bool, Memo
 
 fn time_audit<R: Clock + Eprint + AllocGlobal>(
     rt: &R,
+    watch: Watch,
     left: &Entries,
     right: &Entries,
 ) -> Result<()> {
-    let start = Instant::now(rt)?;
+    let start = watch.nanos(rt);
     let same = are_same(rt.alloc(), left, right)?;
-    let micros = start.elapsed(rt)?.as_nanos() / 1000;
+    let micros = watch.nanos(rt).wrapping_sub(start) / 1000;
     let entries = left.count();
     eprintln!(rt; "audit of {entries} entries a side: {micros} us, same: {same}")?;
     Ok(())
 }
 
-fn time_reading<R: Clock + Eprint + AllocGlobal>(rt: &R, text: &str) -> Result<Entries> {
-    let start = Instant::now(rt)?;
+/// Times the reading of a table.
+fn time_reading<R: Clock + Eprint + AllocGlobal>(
+    rt: &R,
+    watch: Watch,
+    text: &str,
+) -> Result<Entries> {
+    let start = watch.nanos(rt);
     let table = read(rt.alloc(), text)?;
-    let micros = start.elapsed(rt)?.as_nanos() / 1000;
+    let micros = watch.nanos(rt).wrapping_sub(start) / 1000;
     let bytes = text.len();
     eprintln!(rt; "reading {bytes} bytes: {micros} us")?;
     Ok(table)
 }
 
-fn time_size<R: Clock + Eprint + AllocGlobal>(rt: &R, entries: u32) -> Result<()> {
-    let left = text_of(rt.alloc(), entries, "TCP")?;
-    let right = text_of(rt.alloc(), entries, "UDP")?;
-    let left = time_reading(rt, left.as_str())?;
-    let right = time_reading(rt, right.as_str())?;
-    time_audit(rt, &left, &right)
+/// A table of this many entries, whose narrow ones are of one protocol.
+fn table<R: Clock + Eprint + AllocGlobal>(
+    rt: &R,
+    watch: Watch,
+    entries: u32,
+    proto: &str,
+) -> Result<Entries> {
+    let text = text_of(rt.alloc(), entries, proto)?;
+    time_reading(rt, watch, text.as_str())
+}
+
+/// Times an audit of this table and another one that says the same.
+fn time_beside<R: Clock + Eprint + AllocGlobal>(
+    rt: &R,
+    watch: Watch,
+    left: &Entries,
+    entries: u32,
+) -> Result<()> {
+    let right = table(rt, watch, entries, "UDP")?;
+    time_audit(rt, watch, left, &right)
+}
+
+fn time_size<R: Clock + Eprint + AllocGlobal>(rt: &R, watch: Watch, entries: u32) -> Result<()> {
+    let left = table(rt, watch, entries, "TCP")?;
+    time_beside(rt, watch, &left, entries)
 }
 
 /// Times each size.
-pub(crate) fn time<R: Clock + Eprint + AllocGlobal>(rt: &R) -> Result<()> {
+pub(crate) fn time<R: Clock + Eprint + AllocGlobal>(rt: &R, watch: Watch) -> Result<()> {
     for entries in [1024u32, 2048, 4096, 8192, 16_384] {
-        time_size(rt, entries)?;
+        time_size(rt, watch, entries)?;
     }
     Ok(())
 }

@@ -1,17 +1,14 @@
-//! Times look-ups in tables of prefixes of either family, beside a scan of the list of their entries, and how long it takes to
-//! fill and to empty them.
+//! Times look-ups in tables of prefixes of either family, and how long it takes to fill and to empty them.
 
+use crate::watch::Watch;
 use anyhow::Result;
 use pol_addr::{Addr, Family, Prefix};
 use pol_prefix_table::PrefixTable;
 use std::alloc::{AllocError, Global};
 use std::rt::Clock;
-use std::time::Instant;
 
-/// How many addresses are looked up in a table, and by a scan.
+/// How many addresses are looked up in a table.
 const LOOK_UPS: u32 = 1_000_000;
-
-const SCANS: u32 = 1_000;
 
 /// Distinct addresses, scattered by an odd factor.
 fn scattered(family: Family, i: u32) -> Addr {
@@ -47,19 +44,6 @@ fn table_of(alloc: Global, list: &[(Prefix, u32)]) -> Result<PrefixTable, AllocE
     Ok(table)
 }
 
-/// The number of the last of the longest prefixes that contain the address.
-fn scan(list: &[(Prefix, u32)], addr: Addr) -> Option<u32> {
-    let mut best = None;
-    let mut len = 0;
-    for entry in list {
-        if entry.0.contains(addr) && entry.0.len() >= len {
-            len = entry.0.len();
-            best = Some(entry.1);
-        }
-    }
-    best
-}
-
 /// How many of the first addresses find a number in the table.
 fn found_in_table(table: &PrefixTable, family: Family, count: u32) -> u32 {
     let mut found = 0u32;
@@ -69,28 +53,6 @@ fn found_in_table(table: &PrefixTable, family: Family, count: u32) -> u32 {
         }
     }
     found
-}
-
-fn found_by_scan(list: &[(Prefix, u32)], family: Family, count: u32) -> u32 {
-    let mut found = 0u32;
-    for i in 0..count {
-        if scan(list, scattered(family, i)).is_some() {
-            found = found.wrapping_add(1);
-        }
-    }
-    found
-}
-
-/// How many of the first addresses find something else by a scan than in the table.
-fn differing(table: &PrefixTable, list: &[(Prefix, u32)], family: Family, count: u32) -> u32 {
-    let mut differ = 0u32;
-    for i in 0..count {
-        let addr = scattered(family, i);
-        if table.find(addr) != scan(list, addr) {
-            differ = differ.wrapping_add(1);
-        }
-    }
-    differ
 }
 
 /// Takes the prefixes out. How many were there.
@@ -104,49 +66,74 @@ fn emptied(table: &mut PrefixTable, list: &[(Prefix, u32)]) -> u32 {
     removed
 }
 
-/// Times look-ups, and a scan beside them.
+/// Times look-ups in a table.
 fn time_look_ups<R: Clock + Eprint + AllocGlobal>(
     rt: &R,
+    watch: Watch,
     table: &PrefixTable,
+    family: Family,
+    count: usize,
+) -> Result<()> {
+    let start = watch.nanos(rt);
+    let found = found_in_table(table, family, LOOK_UPS);
+    let tenths = watch.nanos(rt).wrapping_sub(start) / u128::from(LOOK_UPS / 10);
+    eprintln!(rt;
+        "{count} prefixes, {family:?}: find {}.{} ns ({found} found)",
+        tenths / 10,
+        tenths % 10
+    )?;
+    Ok(())
+}
+
+/// Times look-ups in a table that was filled in so many microseconds, and how long it takes to empty it.
+fn time_table<R: Clock + Eprint + AllocGlobal>(
+    rt: &R,
+    watch: Watch,
+    table: &mut PrefixTable,
+    list: &[(Prefix, u32)],
+    family: Family,
+    filled: u128,
+) -> Result<()> {
+    let count = list.len();
+    let nodes = table.nodes();
+    time_look_ups(rt, watch, table, family, count)?;
+    let start = watch.nanos(rt);
+    let removed = emptied(table, list);
+    let micros = watch.nanos(rt).wrapping_sub(start) / 1000;
+    eprintln!(rt;
+        "{count} prefixes, {family:?}: filled in {filled} us ({nodes} nodes), emptied in {micros} us ({removed} removed)"
+    )?;
+    Ok(())
+}
+
+/// Times a table of these prefixes.
+fn time_list<R: Clock + Eprint + AllocGlobal>(
+    rt: &R,
+    watch: Watch,
     list: &[(Prefix, u32)],
     family: Family,
 ) -> Result<()> {
-    let start = Instant::now(rt)?;
-    let found = found_in_table(table, family, LOOK_UPS);
-    let looked = start.elapsed(rt)?.as_nanos() / u128::from(LOOK_UPS / 10);
-    let (whole, tenths) = (looked / 10, looked % 10);
-    let start = Instant::now(rt)?;
-    let scanned = found_by_scan(list, family, SCANS);
-    let scan_time = start.elapsed(rt)?.as_nanos() / u128::from(SCANS);
-    let differ = differing(table, list, family, SCANS);
-    let count = list.len();
-    eprintln!(rt;
-        "{count} prefixes, {family:?}: find {whole}.{tenths} ns ({found} found), scan {scan_time} ns ({scanned} found), {differ} differ"
-    )?;
-    Ok(())
+    let start = watch.nanos(rt);
+    let mut table = table_of(rt.alloc(), list)?;
+    let filled = watch.nanos(rt).wrapping_sub(start) / 1000;
+    time_table(rt, watch, &mut table, list, family, filled)
 }
 
-fn measure<R: Clock + Eprint + AllocGlobal>(rt: &R, family: Family, count: u32) -> Result<()> {
+fn measure<R: Clock + Eprint + AllocGlobal>(
+    rt: &R,
+    watch: Watch,
+    family: Family,
+    count: u32,
+) -> Result<()> {
     let list = prefixes(rt.alloc(), family, count)?;
-    let start = Instant::now(rt)?;
-    let mut table = table_of(rt.alloc(), list.as_slice())?;
-    let filled = start.elapsed(rt)?.as_nanos() / 1000;
-    let nodes = table.nodes();
-    time_look_ups(rt, &table, list.as_slice(), family)?;
-    let start = Instant::now(rt)?;
-    let removed = emptied(&mut table, list.as_slice());
-    let removal_time = start.elapsed(rt)?.as_nanos() / 1000;
-    eprintln!(rt;
-        "{count} prefixes, {family:?}: filled in {filled} us ({nodes} nodes), emptied in {removal_time} us ({removed} removed)"
-    )?;
-    Ok(())
+    time_list(rt, watch, list.as_slice(), family)
 }
 
 /// Times tables of 1,000 and of 65,535 prefixes of each family.
-pub(crate) fn time<R: Clock + Eprint + AllocGlobal>(rt: &R) -> Result<()> {
+pub(crate) fn time<R: Clock + Eprint + AllocGlobal>(rt: &R, watch: Watch) -> Result<()> {
     for family in [Family::Ipv4, Family::Ipv6] {
-        measure(rt, family, 1_000)?;
-        measure(rt, family, 65_535)?;
+        measure(rt, watch, family, 1_000)?;
+        measure(rt, watch, family, 65_535)?;
     }
     Ok(())
 }

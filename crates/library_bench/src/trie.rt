@@ -1,6 +1,7 @@
 //! Times policy maps of 4,096 to 65,536 keys, sixteen an identity: sets, look-ups, a copy and clears.
 ghost use Rattle.std.specs.Prelude.{◌≡◌};
 
+use crate::watch::Watch;
 use anyhow::Result;
 use pol_data::Steps;
 use pol_mapkey::{KeyProto, Kind, MapKey, Word};
@@ -10,7 +11,6 @@ use std::alloc::AllocError;
 use std::marker::Brand;
 use std::rt::Clock;
 use std::sync::ledger::{Blank, Ledger};
-use std::time::Instant;
 
 /// How many keys a map has, the greatest as many as one may have.
 const SIZES: [u32; 5] = [4_096, 8_192, 16_384, 32_768, 65_536];
@@ -97,12 +97,13 @@ fn allowed(trie: &PolicyTrie, keys: u32) -> u32 {
 
 fn time_sets<R: Clock + Eprint + AllocGlobal>(
     rt: &R,
+    watch: Watch,
     trie: &mut PolicyTrie,
     keys: u32,
 ) -> Result<()> {
-    let start = Instant::now(rt)?;
+    let start = watch.nanos(rt);
     fill(trie, keys)?;
-    let nanos = start.elapsed(rt)?.as_nanos() / u128::from(keys.max(1));
+    let nanos = watch.nanos(rt).wrapping_sub(start) / u128::from(keys.max(1));
     let count = trie.count();
     let nodes = trie.nodes();
     eprintln!(rt; "set: {nanos} ns, {count} keys, {nodes} nodes")?;
@@ -111,57 +112,69 @@ fn time_sets<R: Clock + Eprint + AllocGlobal>(
 
 fn time_look_ups<R: Clock + Eprint + AllocGlobal>(
     rt: &R,
+    watch: Watch,
     trie: &PolicyTrie,
     keys: u32,
 ) -> Result<()> {
-    let start = Instant::now(rt)?;
+    let start = watch.nanos(rt);
     let found = allowed(trie, keys);
-    let nanos = start.elapsed(rt)?.as_nanos() / u128::from(LOOK_UPS);
+    let nanos = watch.nanos(rt).wrapping_sub(start) / u128::from(LOOK_UPS);
     eprintln!(rt; "look: {nanos} ns, {keys} keys, {found} allowed")?;
     Ok(())
 }
 
 /// How many microseconds a copy took, and how many keys it has.
-fn time_of_copy<R: Clock + AllocGlobal>(rt: &R, trie: &PolicyTrie) -> Result<(u128, u32)> {
-    let start = Instant::now(rt)?;
+fn time_of_copy<R: Clock + AllocGlobal>(
+    rt: &R,
+    watch: Watch,
+    trie: &PolicyTrie,
+) -> Result<(u128, u32), AllocError> {
+    let start = watch.nanos(rt);
     let copy = trie.copy(rt.alloc())?;
-    Ok((start.elapsed(rt)?.as_nanos() / 1000, copy.count()))
+    let micros = watch.nanos(rt).wrapping_sub(start) / 1000;
+    Ok((micros, copy.count()))
 }
 
-fn time_copy<R: Clock + Eprint + AllocGlobal>(rt: &R, trie: &PolicyTrie) -> Result<()> {
-    let (micros, count) = time_of_copy(rt, trie)?;
+fn time_copy<R: Clock + Eprint + AllocGlobal>(
+    rt: &R,
+    watch: Watch,
+    trie: &PolicyTrie,
+) -> Result<()> {
+    let (micros, count) = time_of_copy(rt, watch, trie)?;
     eprintln!(rt; "copy: {micros} us, {count} keys")?;
     Ok(())
 }
 
 fn time_clears<R: Clock + Eprint + AllocGlobal>(
     rt: &R,
+    watch: Watch,
     trie: &mut PolicyTrie,
     keys: u32,
 ) -> Result<()> {
-    let start = Instant::now(rt)?;
+    let start = watch.nanos(rt);
     let there = clear(trie, keys);
-    let nanos = start.elapsed(rt)?.as_nanos() / u128::from(keys.max(1));
+    let nanos = watch.nanos(rt).wrapping_sub(start) / u128::from(keys.max(1));
     eprintln!(rt; "clear: {nanos} ns, {there} keys")?;
     Ok(())
 }
 
 fn time_all<R: Clock + Eprint + AllocGlobal>(
     rt: &R,
+    watch: Watch,
     trie: &mut PolicyTrie,
     keys: u32,
 ) -> Result<()> {
-    time_sets(rt, trie, keys)?;
-    time_look_ups(rt, trie, keys)?;
-    time_copy(rt, trie)?;
-    time_clears(rt, trie, keys)
+    time_sets(rt, watch, trie, keys)?;
+    time_look_ups(rt, watch, trie, keys)?;
+    time_copy(rt, watch, trie)?;
+    time_clears(rt, watch, trie, keys)
 }
 
 /// Times all of these, on a map of each size that is empty at first.
-pub(crate) fn time<R: Clock + Eprint + AllocGlobal>(rt: &R) -> Result<()> {
+pub(crate) fn time<R: Clock + Eprint + AllocGlobal>(rt: &R, watch: Watch) -> Result<()> {
     for keys in &SIZES {
         let mut trie = PolicyTrie::new(rt.alloc());
-        time_all(rt, &mut trie, *keys)?;
+        time_all(rt, watch, &mut trie, *keys)?;
     }
     Ok(())
 }
