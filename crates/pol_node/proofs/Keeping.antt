@@ -140,6 +140,11 @@ pub keeps_went : (options : Options) (history : List HistoryEvent) (taken : Take
 keeps_went options history taken old new either follows keeps =
     went old.followed new options history old.last (goes_either taken old.followed new either) follows keeps
 
+-- and is of the endpoint that was taken
+pub with_went : (taken : Taken) (old new : Followed) → Stays old new ⊎ GoesOn (arc_value taken.filters) taken.sets taken.revision old new
+    → id_in old ≡ endpoint_id taken.endpoint → id_in new ≡ endpoint_id taken.endpoint
+with_went taken old new either id = same_id old new (goes_either taken old new either) ∙ id
+
 -- it begins
 pub keeps_start : (options : Options) (history : List HistoryEvent) (slot : ℕ) (taken : Taken) (is : IsTakenAt options history slot taken) (f : Followed)
     → IsStartOf taken f → last_report (endpoint_id taken.endpoint) history ≡ None → Keeps options history (record { followed = f; last = None })
@@ -190,7 +195,7 @@ module _ (options : Options) (history : List HistoryEvent) (endpoint : EndpointI
 
 module _ (options : Options) (old new : List HistoryEvent) (begins : IsPrefix old new) (legal : IsLegal options new) (slot : ℕ) (taken : Taken)
     (is : IsTakenAt options old slot taken) where
-  was : WasTakenAt options old new taken
+  pub was : WasTakenAt options old new taken
   was = record { begins = begins; legal = legal; revision = is.revision; is = (of_own_slot options old slot taken is).is }
 
   module _ (before : Option KeptReport) (still : IsStill options old slot before) where

@@ -10,5 +10,6 @@ pub mod Reporting
 pub mod Turning
 pub mod Turns
 pub mod Keeping
+pub mod KeepingOn
 pub mod Lasting
 pub mod Taking

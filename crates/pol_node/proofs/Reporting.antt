@@ -196,7 +196,7 @@ module _ (options : Options) (old history : List HistoryEvent) (taken : Taken) (
 
   -- ---- where it lives, its slot and its last report
 
-  row_now : (row : Endpoint) → live_endpoint (endpoint_id taken.endpoint) (state_now options history) ≡ Some row → row ≡ taken.endpoint
+  pub row_now : (row : Endpoint) → live_endpoint (endpoint_id taken.endpoint) (state_now options history) ≡ Some row → row ≡ taken.endpoint
   row_now row live =
       let then = lives-then options history (endpoint_id taken.endpoint) row taken.revision within since_added live in
       same_Some row taken.endpoint (sym then ∙ live_then)

@@ -2,6 +2,8 @@
 use Rattle.std.specs.Prelude.{Bool, true, false, Result, Ok, Err}
 use Rattle.pol_history.specs.declared.turn.SlotTurn.{SlotTurn}
 use Rattle.pol_history.specs.declared.turn.SlotTurn.TheVariants as turn
+use Rattle.pol_node.specs.declared.report.Regen.{Regen}
+use Rattle.pol_node.specs.declared.report.Regen.TheVariants as regen
 use Rattle.pol_node.specs.declared.report.RegenError.{RegenError}
 use Rattle.pol_node.specs.declared.report.RegenError.TheVariants as error
 use Rattle.pol_node.specs.declared.slot.Done.{Done}
@@ -10,6 +12,13 @@ abbrev pub is_gone : SlotTurn → Bool
 is_gone turn.Shown = false
 is_gone (turn.Full row) = false
 is_gone turn.Gone = true
+
+-- the same of an answer
+abbrev pub says_gone : Regen → Bool
+says_gone (regen.Published revision) = false
+says_gone (regen.Already revision) = false
+says_gone (regen.Full revision count) = false
+says_gone regen.Gone = true
 
 abbrev pub is_overtaken : RegenError → Bool
 is_overtaken error.Memory = false

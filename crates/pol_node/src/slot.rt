@@ -1,5 +1,5 @@
 //! What a slot's lock holds.
-ghost use Rattle.std.specs.Prelude.{◌≡◌, [], false, IfErr, IfOk, IfSome, None, OnOk, Some, length, option_map};
+ghost use Rattle.std.specs.Prelude.{◌≡◌, [], false, IfErr, IfOk, IfSome, IsSomeAnd, None, OnOk, Some, length, option_map};
 ghost use mathlib.Core.List.{IsPrefix};
 ghost use Rattle.pol_history.specs.Commits.{revision_of, state_now};
 ghost use Rattle.pol_history.specs.Grows.{PassGrows, PassGrowsWhole};
@@ -10,9 +10,11 @@ ghost use Rattle.pol_model.specs.PolicyMap.{policy_map};
 ghost use Rattle.pol_node.specs.declared.kept.KeptEndpoint.{KeptEndpoint as OneKept};
 ghost use Rattle.pol_node.specs.Finish.{Finishes, Regenerates};
 ghost use Rattle.pol_node.specs.Kept.{IsKeptOf, IsKeptWith, IsLastNow, Keeps, NotRegenerated, NotReported, ReportsOn, ShowsOn, report_in, since_of};
-ghost use Rattle.pol_node.specs.Lost.{is_gone, is_lost, is_overtaken};
+ghost use Rattle.pol_node.specs.KeptAfter.{KeepsAfterError, KeepsAt, KeepsStill, KeepsUnlessGone};
+ghost use Rattle.pol_node.specs.Lost.{is_gone, is_lost, is_overtaken, says_gone};
 ghost use Rattle.pol_node.specs.Slot.{IsMade, IsTakenAt, TellsAnyTurn, TellsMovesFrom, regen_of, turn_of};
 ghost use Rattle.pol_node.specs.TakenFor.{TakesFor};
+ghost use Rattle.pol_slot_map.specs.Followed.{id_in};
 
 use crate::desk::Desk;
 use crate::kept::{KeptEndpoint, NotTaken, let_go};
@@ -130,6 +132,7 @@ fn follow<N: NodeName>(
     ensures same { IfOk result (λ again. again ≡ taken) }
     ensures made { OnOk result ((k : OneKept) × (kept.new ≡ Some k) × IsMade taken k.followed) }
     ensures keeps { IfSome kept.new (Keeps N.options pass.now.has.history) }
+    ensures known { IsKeptWith pass.now.has.history taken.endpoint kept.new }
 {
     let _ = pass;
     match kept {
@@ -148,6 +151,7 @@ fn make_done(finished: Finished, taken: Taken, count: u64) -> Done
     ensures regen { result.regen ≡ regen_of taken.revision count finished }
     ensures turn { result.turn
         ≡ turn_of (record { name = taken.endpoint.name; revision = taken.revision; count = count }) finished }
+    ensures agree { says_gone result.regen ≡ is_gone result.turn }
 {
     let Taken {
         revision,
@@ -208,6 +212,7 @@ fn keep_on<N: NodeName>(
     requires reported { ReportsOn N.options pass.now.has.history (endpoint_id taken.now.endpoint) taken.now.revision
         kept.old.last reported.finished reported.last }
     ensures keeps { (reported.finished ≡ Finished.Gone → ⊥) → Keeps N.options pass.now.has.history kept.new }
+    ensures same { id_in kept.new.followed ≡ endpoint_id taken.now.endpoint }
 {
     let _ = pass;
     let _ = taken;
@@ -232,11 +237,13 @@ fn report<N: NodeName, W: Wait, R: Wait + Drop>(
         Regenerates N.options taken.endpoint.slot pass.old.has.history pass.new.has.history done.regen) }
     ensures turn { IfOk result (λ done.
         TellsAnyTurn N.options taken.endpoint.slot pass.old.has.history pass.new.has.history done.turn) }
-    ensures keeps { IfOk result (λ done. is_gone done.turn ≡ false → Keeps N.options pass.new.has.history kept.new) }
+    ensures agree { IfOk result (λ done. says_gone done.regen ≡ is_gone done.turn) }
+    ensures keeps { IfOk result (λ done. is_gone done.turn ≡ false
+        → KeepsAt N.options pass.new.has.history taken.endpoint.slot kept.new) }
     ensures cause { IfErr result (NotReported N.options pass.new.has.history
         (endpoint_id taken.endpoint) (last_report (endpoint_id taken.endpoint) pass.old.has.history)) }
-    ensures left { IfErr result (λ error.
-        is_overtaken error ≡ false → Keeps N.options pass.new.has.history kept.new) }
+    ensures left { IfErr result (λ error. is_overtaken error ≡ false
+        → KeepsAt N.options pass.new.has.history taken.endpoint.slot kept.new) }
 {
     let count = kept.followed.work.count();
     let reported = finish(rt, alloc, desk, pass, &taken, kept)?;
@@ -261,12 +268,13 @@ fn regenerate<N: NodeName, W: Wait, R: Wait + Drop>(
     ensures regen { IfOk result (λ done.
         Regenerates N.options slot pass.old.has.history pass.new.has.history done.regen) }
     ensures turn { IfOk result (λ done. TellsAnyTurn N.options slot seen pass.new.has.history done.turn) }
+    ensures agree { IfOk result (λ done. says_gone done.regen ≡ is_gone done.turn) }
     ensures keeps { IfOk result (λ done.
-        is_gone done.turn ≡ false → IfSome kept.new (Keeps N.options pass.new.has.history)) }
+        is_gone done.turn ≡ false → IsSomeAnd kept.new (KeepsAt N.options pass.new.has.history slot)) }
     ensures cause { IfErr result
         (NotRegenerated N.options pass.new.has.history slot (option_map report_in kept.old)) }
     ensures left { IfErr result (λ error.
-        is_overtaken error ≡ false → IfSome kept.new (Keeps N.options pass.new.has.history)) }
+        is_overtaken error ≡ false → KeepsStill N.options pass.new.has.history slot kept.new) }
 {
     let taken = match take(rt, alloc, desk, pass, seen, slot, kept) {
         Ok(taken) => taken,
@@ -312,9 +320,14 @@ fn regenerate_kept<N: NodeName, W: Wait, R: Wait + Drop>(
     ensures regen { IfOk result (λ done.
         Regenerates N.options slot pass.old.has.history pass.new.has.history done.regen) }
     ensures turn { IfOk result (λ done. TellsAnyTurn N.options slot seen pass.new.has.history done.turn) }
+    ensures agree { IfOk result (λ done. says_gone done.regen ≡ is_gone done.turn) }
     ensures keeps { IfSome kept.new (Keeps N.options pass.new.has.history) }
+    ensures kept { IfOk result (λ done. KeepsUnlessGone N.options pass.new.has.history slot
+        (option_map report_in kept.new) (is_gone done.turn)) }
     ensures cause { IfErr result
         (NotRegenerated N.options pass.new.has.history slot (option_map report_in kept.old)) }
+    ensures left { IfErr result
+        (KeepsAfterError N.options pass.new.has.history slot (option_map report_in kept.new)) }
 {
     let done = regenerate(rt, alloc, desk, slot, pass, seen, kept);
     let_go(kept, tells_lost(&done));
@@ -344,7 +357,10 @@ impl<N: NodeName> Slot<N> {
         ensures regen { IfOk result (λ done.
             Regenerates N.options number self.old.pass.has.history self.new.pass.has.history done.regen) }
         ensures turn { IfOk result (λ done. TellsAnyTurn N.options number seen self.new.pass.has.history done.turn) }
+        ensures kept { IfOk result (λ done.
+            KeepsUnlessGone N.options self.new.pass.has.history number self.new.kept (is_gone done.turn)) }
         ensures cause { IfErr result (NotRegenerated N.options self.new.pass.has.history number self.old.kept) }
+        ensures left { IfErr result (KeepsAfterError N.options self.new.pass.has.history number self.new.kept) }
     {
         regenerate_kept(
             rt,
@@ -382,7 +398,10 @@ impl<N: NodeName> Slot<N> {
         ensures grows { PassGrows N.options pass.old pass.new [] }
         ensures turn { IfOk result
             (TellsTurn N.options number pass.old.has.history pass.new.has.history (revision_of pass.old.has.history)) }
+        ensures kept { IfOk result (λ turn.
+            KeepsUnlessGone N.options self.new.pass.has.history number self.new.kept (is_gone turn)) }
         ensures cause { IfErr result (NotRegenerated N.options self.new.pass.has.history number self.old.kept) }
+        ensures left { IfErr result (KeepsAfterError N.options self.new.pass.has.history number self.new.kept) }
     {
         let done = self.turn(rt, alloc, desk, number, pass.seen());
         pass.learn(rt, self.pass.seen());
@@ -395,9 +414,11 @@ impl<N: NodeName> Slot<N> {
     /// Regenerates the endpoint of the slot of that number: takes it under the desk's lock, makes its map outside of it, and
     /// reports that under it.
     ///
+    /// After each answer but `Gone` the slot keeps its endpoint's last report, after `Gone` none.
+    ///
     /// `Memory` is want of memory: no report was added, so that the last one of the slot's endpoint is the one that was kept
-    /// before; but the board's writer may be spent. `Overtaken` comes where that last report is another one: somebody else has
-    /// reported the endpoint. In every run nobody does, since there is one slot for each number.
+    /// before, and goes on to be kept; but the board's writer may be spent. `Overtaken` comes where that last report is another
+    /// one: somebody else has reported the endpoint. In every run nobody does, since there is one slot for each number.
     pub fn regenerate_over<W: Wait, R: Wait + Drop>(
         &mut self,
         rt: &W,
@@ -407,7 +428,10 @@ impl<N: NodeName> Slot<N> {
     ) -> Result<Regen, RegenError>
         ensures grows { PassGrowsWhole N.options self.old.pass self.new.pass [] }
         ensures regen { IfOk result (Regenerates N.options number self.old.pass.has.history self.new.pass.has.history) }
+        ensures kept { IfOk result (λ regen.
+            KeepsUnlessGone N.options self.new.pass.has.history number self.new.kept (says_gone regen)) }
         ensures cause { IfErr result (NotRegenerated N.options self.new.pass.has.history number self.old.kept) }
+        ensures left { IfErr result (KeepsAfterError N.options self.new.pass.has.history number self.new.kept) }
     {
         let seen = self.pass.seen();
         let done = regenerate_kept(

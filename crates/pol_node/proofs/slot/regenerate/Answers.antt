@@ -1,5 +1,5 @@
 -- What was taken is of the slot, and what is told of it is told from before the take on.
-use Rattle.std.proofs.Common.{◌≡◌, ℕ, [], false, Result, Ok, Err, IfErr, IfOk, IfSome, option_map, sym, ap, ◌∙◌, subst}
+use Rattle.std.proofs.Common.{◌≡◌, ℕ, [], false, Result, Ok, Err, IfErr, IfOk, Some, option_map, sym, ap, ◌∙◌, subst}
 use Rattle.std.proofs.lemmas.Bool.{false≢true}
 use Rattle.std.proofs.lemmas.Result.{IfErr-weaker}
 use Rattle.pol_history.specs.declared.event.EndpointId.{EndpointId}
@@ -11,12 +11,14 @@ use Rattle.pol_node.specs.declared.kept.NotTaken.{NotTaken}
 use Rattle.pol_node.specs.declared.report.RegenError.{RegenError}
 use Rattle.pol_node.specs.declared.slot.Done.{Done}
 use Rattle.pol_node.specs.Finish.{Regenerates}
-use Rattle.pol_node.specs.Kept.{Keeps, NotRegenerated, NotReported, StaysAt, report_in}
-use Rattle.pol_node.specs.Lost.{is_overtaken}
+use Rattle.pol_node.specs.Kept.{NotRegenerated, NotReported, StaysAt, report_in}
+use Rattle.pol_node.specs.KeptAfter.{KeepsAt, KeepsStill}
+use Rattle.pol_node.specs.Lost.{is_gone, is_overtaken}
 use Rattle.pol_node.specs.Slot.{IsTakenAt, TellsAnyTurn}
 use Rattle.pol_node.specs.TakenFor.{IsTakenFor, TakesFor}
 use Rattle.pol_node.proofs.Following.{of_own_slot, own_slot}
 use Rattle.pol_node.proofs.Keeping.{not_regenerated}
+use Rattle.pol_node.proofs.KeepingOn.{at_still, stays_still, with_still}
 use Rattle.pol_node.proofs.Reporting.{memory_fails}
 use Rattle.pol_node.proofs.Turning.{any_turn-kept, none_there, regenerates-kept}
 use Rattle.pol_node.proofs.slot.regenerate.Goals as goal
@@ -58,7 +60,7 @@ returns-in-Err-Memory-clause-left g c left =
     let stays : StaysAt options mid c.args.slot c.args.kept.now c.take.new.kept =
     subst (TakesFor options mid c.args.slot c.args.kept.now c.take.new.kept) (c.in-Err-Memory.is ∙ ap (λ (e : NotTaken). Err e) c.in-Err-Memory.field-0-is)
     c.take.ensures.takes in
-    stays.keeps
+    stays_still options mid c.args.slot c.args.kept.now c.take.new.kept stays
 
 pub returns-in-Err-Overtaken-clause-cause : goal.returns-in-Err-Overtaken-clause-cause
 returns-in-Err-Overtaken-clause-cause g c =
@@ -111,8 +113,11 @@ returns-in_err-taken-clause-cause g c =
 pub returns-in_err-taken-clause-left : goal.returns-in_err-taken-clause-left
 returns-in_err-taken-clause-left g c =
     let options = g.N.NodeName.options in let mid = c.take.new.pass.has.history in
-    memory_fails (λ (why : RegenError). is_overtaken why ≡ false → IfSome c.follow.new.kept (Keeps options mid)) c.from_residual.result
-    c.from_residual.ensures.1 (λ left. c.follow.ensures.keeps)
+    let took : IsTakenFor options mid c.args.slot c.args.kept.now c.take.new.kept c.in-Ok.taken =
+    subst (TakesFor options mid c.args.slot c.args.kept.now c.take.new.kept) c.in-Ok.is c.take.ensures.takes in
+    memory_fails (λ (why : RegenError). is_overtaken why ≡ false → KeepsStill options mid c.args.slot c.follow.new.kept) c.from_residual.result
+    c.from_residual.ensures.1
+    (λ left. with_still options mid c.args.slot c.follow.new.kept c.in-Ok.taken.endpoint took.is.is.endpoint c.follow.ensures.keeps c.follow.ensures.known)
 
 -- ---- it is finished
 
@@ -175,3 +180,28 @@ returns-clause-cause g c =
     (NotRegenerated options new c.args.slot before)
     (not_regenerated options mid new c.report.ensures.grows.whole.grows.goes_on c.report.ensures.grows.whole.grows.legal c.args.slot c.in-Ok.taken took.is
     before took.stays.still) told
+
+pub returns-clause-keeps : goal.returns-clause-keeps
+returns-clause-keeps g c =
+    let options = g.N.NodeName.options in
+    let mid = c.take.new.pass.has.history in
+    let new = c.report.new.pass.has.history in
+    let took : IsTakenFor options mid c.args.slot c.args.kept.now c.take.new.kept c.in-Ok.taken =
+    subst (TakesFor options mid c.args.slot c.args.kept.now c.take.new.kept) c.in-Ok.is c.take.ensures.takes in
+    let slot : c.in_ok-taken.taken.endpoint.slot ≡ c.args.slot =
+    ap (λ (t : Taken). t.endpoint.slot) c.in_ok-taken.ensures.same ∙ own_slot options mid c.args.slot c.in-Ok.taken took.is in
+    subst (λ (n : ℕ). IfOk c.report.result (λ (done : Done). is_gone done.turn ≡ false → KeepsAt options new n c.report.new.kept)) slot c.report.ensures.keeps
+
+pub returns-clause-left : goal.returns-clause-left
+returns-clause-left g c =
+    let options = g.N.NodeName.options in
+    let mid = c.take.new.pass.has.history in
+    let new = c.report.new.pass.has.history in
+    let took : IsTakenFor options mid c.args.slot c.args.kept.now c.take.new.kept c.in-Ok.taken =
+    subst (TakesFor options mid c.args.slot c.args.kept.now c.take.new.kept) c.in-Ok.is c.take.ensures.takes in
+    let slot : c.in_ok-taken.taken.endpoint.slot ≡ c.args.slot =
+    ap (λ (t : Taken). t.endpoint.slot) c.in_ok-taken.ensures.same ∙ own_slot options mid c.args.slot c.in-Ok.taken took.is in
+    IfErr-weaker c.report.result (λ (why : RegenError). is_overtaken why ≡ false → KeepsAt options new c.in_ok-taken.taken.endpoint.slot c.report.new.kept)
+    (λ (why : RegenError). is_overtaken why ≡ false → KeepsStill options new c.args.slot (Some c.report.new.kept))
+    (λ why at left. at_still options new c.args.slot c.report.new.kept
+    (subst (λ (n : ℕ). KeepsAt options new n c.report.new.kept) slot (at left))) c.report.ensures.left

@@ -7,11 +7,13 @@ use Rattle.pol_history.specs.Machine.{endpoint_id}
 use Rattle.pol_history.specs.Reports.{last_report}
 use Rattle.pol_node.specs.declared.report.RegenError.{RegenError}
 use Rattle.pol_node.specs.Finish.{Regenerates}
-use Rattle.pol_node.specs.Kept.{Keeps, NotReported}
+use Rattle.pol_node.specs.Kept.{NotReported}
+use Rattle.pol_node.specs.KeptAfter.{KeepsAt}
 use Rattle.pol_node.specs.Lost.{is_overtaken}
 use Rattle.pol_node.specs.Slot.{TellsAnyTurn, regen_of, turn_of}
 use Rattle.pol_node.proofs.Following.{made_map}
-use Rattle.pol_node.proofs.Keeping.{is_kept-later, left_keeps, not_gone}
+use Rattle.pol_node.proofs.Keeping.{is_kept-later, left_keeps, not_gone, was}
+use Rattle.pol_node.proofs.KeepingOn.{keeps_at}
 use Rattle.pol_node.proofs.Turning.{regenerates, tells}
 use Rattle.pol_node.proofs.slot.report.Goals as goal
 
@@ -23,13 +25,17 @@ keep_on-requires-clause-keeps g c =
 pub returns-in_err-reported-clause-left : goal.returns-in_err-reported-clause-left
 returns-in_err-reported-clause-left g c =
     let options = g.N.NodeName.options in
-    let endpoint = endpoint_id c.args.taken.endpoint in
+    let taken = c.args.taken in
+    let endpoint = endpoint_id taken.endpoint in
+    let grows = c.finish.ensures.grows.whole.grows in
     let old = c.args.pass.now.has.history in
     let new = c.finish.new.pass.has.history in
     let told : IfErr c.from_residual.result (NotReported options new endpoint (last_report endpoint old)) = search rules in
     IfErr-weaker c.from_residual.result (NotReported options new endpoint (last_report endpoint old))
-    (λ (why : RegenError). is_overtaken why ≡ false → Keeps options new c.args.kept.now)
-    (left_keeps options old new c.finish.ensures.grows.whole.grows.goes_on c.args.kept.now c.requires.keeps endpoint c.requires.made.id) told
+    (λ (why : RegenError). is_overtaken why ≡ false → KeepsAt options new taken.endpoint.slot c.args.kept.now)
+    (λ why not left. keeps_at options old new taken
+    (was options old new grows.goes_on grows.legal taken.endpoint.slot taken c.requires.taken) c.args.kept.now c.requires.made.id
+    (left_keeps options old new grows.goes_on c.args.kept.now c.requires.keeps endpoint c.requires.made.id why not left)) told
 
 pub returns-clause-regen : goal.returns-clause-regen
 returns-clause-regen g c =
@@ -62,6 +68,11 @@ returns-clause-turn g c =
 pub returns-clause-keeps : goal.returns-clause-keeps
 returns-clause-keeps g c lives =
     let taken = c.args.taken in
-    c.keep_on.ensures.keeps
-    (not_gone (record { name = taken.endpoint.name; revision = taken.revision; count = c.count-count.result }) c.in_ok-reported.reported.finished c.make_done.result.turn
-    c.make_done.ensures.turn lives)
+    let grows = c.finish.ensures.grows.whole.grows in
+    let old = c.args.pass.now.has.history in
+    let new = c.finish.new.pass.has.history in
+    keeps_at g.N.NodeName.options old new taken
+    (was g.N.NodeName.options old new grows.goes_on grows.legal taken.endpoint.slot taken c.requires.taken) c.keep_on.new.kept c.keep_on.ensures.same
+    (c.keep_on.ensures.keeps
+    (not_gone (record { name = taken.endpoint.name; revision = taken.revision; count = c.count-count.result }) c.in_ok-reported.reported.finished
+    c.make_done.result.turn c.make_done.ensures.turn lives))

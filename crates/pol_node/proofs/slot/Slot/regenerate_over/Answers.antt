@@ -1,7 +1,8 @@
 -- The slot is seen as its pass and what is kept of reports.
-use Rattle.std.proofs.Common.{rules, IfErr, option_map, subst}
+use Rattle.std.proofs.Common.{rules, Bool, IfErr, option_map, sym, subst}
 use Rattle.pol_node.specs.Finish.{Regenerates}
 use Rattle.pol_node.specs.Kept.{NotRegenerated, report_in}
+use Rattle.pol_node.specs.KeptAfter.{KeepsUnlessGone}
 use Rattle.pol_node.specs.Slot.{SlotState}
 use Rattle.pol_node.proofs.slot.Slot.regenerate_over.Goals as goal
 
@@ -16,3 +17,8 @@ returns-in_err-done-clause-cause g c =
     let new = c.regenerate_kept.new.pass.has.history in
     let told : IfErr c.from_residual.result (NotRegenerated options new c.args.number (option_map report_in c.self.inside.kept)) = search rules in
     subst (λ (s : SlotState). IfErr c.from_residual.result (NotRegenerated options new c.args.number s.kept)) c.self.view_is told
+
+pub returns-clause-kept : goal.returns-clause-kept
+returns-clause-kept g c =
+    subst (λ (gone : Bool). KeepsUnlessGone g.N.NodeName.options c.regenerate_kept.new.pass.has.history c.args.number
+    (option_map report_in c.regenerate_kept.new.kept) gone) (sym c.in_ok-done.ensures.agree) c.in_ok-done.ensures.kept

@@ -2,10 +2,13 @@
 use Rattle.std.proofs.Common.{◌≡◌, List, Result, Ok, Err, IfErr, IfOk, sym, ap, ◌∙◌, subst}
 use mathlib.Core.List.{IsPrefix}
 use Rattle.pol_history.specs.declared.event.HistoryEvent.{HistoryEvent}
+use Rattle.pol_history.specs.declared.turn.SlotTurn.{SlotTurn}
 use Rattle.pol_history.specs.Commits.{revision_of}
 use Rattle.pol_history.specs.SlotTurns.{TellsTurn}
 use Rattle.pol_history.proofs.Beginnings.{prefix_self}
 use Rattle.pol_node.specs.Kept.{NotRegenerated}
+use Rattle.pol_node.specs.KeptAfter.{KeepsAfterError, KeepsUnlessGone}
+use Rattle.pol_node.specs.Lost.{is_gone}
 use Rattle.pol_node.specs.Slot.{SlotState, TellsAnyTurn}
 use Rattle.pol_node.proofs.Turning.{told_around}
 use Rattle.pol_node.proofs.slot.Slot.turn_for.Goals as goal
@@ -46,4 +49,23 @@ returns-clause-cause g c =
     elim c.match-done.branch as (λ _. IfErr c.match-done.result cause) [
       | in-Ok w ↦ if_none cause c.match-done.result _ w.result-is
       | in-Err w ↦ if_err cause c.match-done.result w.in-Err.error w.result-is w.in-Err.ensures.cause
+    ]
+
+-- what is kept
+pub returns-clause-kept : goal.returns-clause-kept
+returns-clause-kept g c =
+    let slot = c.turn-done.new.self in
+    let kept = λ (turn : SlotTurn). KeepsUnlessGone g.N.NodeName.options slot.pass.has.history c.args.number slot.kept (is_gone turn) in
+    elim c.match-done.branch as (λ _. IfOk c.match-done.result kept) [
+      | in-Ok w ↦ if_is kept c.match-done.result w.in-Ok.done.turn w.result-is w.in-Ok.ensures.kept
+      | in-Err w ↦ if_not kept c.match-done.result _ w.result-is
+    ]
+
+pub returns-clause-left : goal.returns-clause-left
+returns-clause-left g c =
+    let slot = c.turn-done.new.self in
+    let left = KeepsAfterError g.N.NodeName.options slot.pass.has.history c.args.number slot.kept in
+    elim c.match-done.branch as (λ _. IfErr c.match-done.result left) [
+      | in-Ok w ↦ if_none left c.match-done.result _ w.result-is
+      | in-Err w ↦ if_err left c.match-done.result w.in-Err.error w.result-is w.in-Err.ensures.left
     ]
