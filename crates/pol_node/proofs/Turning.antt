@@ -158,6 +158,9 @@ told_around options slot first old new last told less more tells =
 
 pub has_regenerated : {E : Type 0} (options : Options) (slot : ℕ) (old new : PassState) (result : Result Regen E) → PassGrowsWhole options old new []
     → IfOk result (Regenerates options slot old.has.history new.has.history) → IfOk result (HasRegenerated options slot)
-has_regenerated options slot old new (Ok answer) grows is =
-    record { old = old.has.history; new = new.has.history; begins = grows.whole.grows.goes_on; legal = grows.whole.grows.legal; is = is }
+has_regenerated options slot old new (Ok answer) grows is = record {
+  seen = new.has.history;
+  legal = grows.whole.grows.legal;
+  is = regenerates-kept options slot [] old.has.history new.has.history (old.has.history, refl) answer is;
+}
 has_regenerated options slot old new (Err error) grows is = tt

@@ -1,6 +1,5 @@
 -- How a finish ends, where `old` is what the slot's pass had seen before it, and `new` what it has seen after it.
-use Rattle.std.specs.Prelude.{◌≡◌, ◌≢◌, ℕ, ◌≤◌, Bool, true, false, List, length, slice_get, Option, Some}
-use mathlib.Core.List.{IsPrefix}
+use Rattle.std.specs.Prelude.{◌≡◌, ◌≢◌, ℕ, ◌≤◌, Bool, true, false, List, [], length, slice_get, Option, Some}
 use Rattle.pol_mapkey.specs.Entries.{Entry as MapEntry}
 use Rattle.pol_model.specs.declared.options.Options.{Options}
 use Rattle.pol_history.specs.declared.event.EndpointId.{EndpointId}
@@ -58,11 +57,9 @@ Regenerates options slot old new (regen.Already revision) = IsAlready options sl
 Regenerates options slot old new (regen.Full revision count) = IsFull options slot old new revision count
 Regenerates options slot old new regen.Gone = IsGone options slot old new
 
--- A regeneration of the slot answers so, by what the slot's pass had seen before it and has seen after it. Both lie behind the
--- slot's lock.
+-- A regeneration of the slot answers so, by what the slot's pass has seen after it. That lies behind the slot's lock, so it is told
+-- from the beginning of the history on.
 pub record HasRegenerated (options : Options) (slot : ℕ) (answer : Regen) : Type 0 where
-  pub old : List HistoryEvent
-  pub new : List HistoryEvent
-  pub begins : IsPrefix old new
-  pub legal : IsLegal options new
-  pub is : Regenerates options slot old new answer
+  pub seen : List HistoryEvent
+  pub legal : IsLegal options seen
+  pub is : Regenerates options slot [] seen answer

@@ -5,9 +5,7 @@ use Rattle.board_tests.proofs.laws.regenerations_are_of_histories.Goals as goal
 
 pub returns-clause-nobody : goal.returns-clause-nobody
 returns-clause-nobody c = λ options. record {
-  old = [];
-  new = [];
-  begins = ([], refl);
+  seen = [];
   legal = each_legal options [] tt;
   is = record { revision = 0; between = record { from = omega arith; upto = omega arith }; gone = inl refl };
 }
