@@ -1,4 +1,3 @@
-pub mod Script
 pub mod Ends
 pub mod Told
 pub mod Headline

@@ -6,7 +6,7 @@ ghost use Rattle.pol_streams.specs.Bytes.{AppendsPart, ConsumesSome};
 ghost use Rattle.pol_command_line.specs.Options.{options_given};
 ghost use Rattle.connections.specs.Ends.{is_answered, has_read_all, is_silent, status_number};
 ghost use Rattle.connections.specs.Headline.{WritesConnections};
-ghost use Rattle.connections.specs.Script.{is_too_long, fits_limits};
+ghost use Rattle.pol_status.specs.Limits.{is_too_long, fits_limits};
 ghost use Rattle.connections.specs.Told.{told_text};
 
 use crate::source::input_of;

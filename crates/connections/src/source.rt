@@ -3,7 +3,7 @@ ghost use Rattle.std.specs.Prelude.{◌≡◌, IfOk, IfErr, IfSome, IsErrOf, OnO
 ghost use Rattle.std.specs.Io.KnownBytes.{IsAtEnd};
 ghost use Rattle.pol_streams.specs.Faults.{Rose};
 ghost use Rattle.pol_streams.specs.Bytes.{ConsumesSome};
-ghost use Rattle.connections.specs.Script.{is_too_long, fits_limits};
+ghost use Rattle.pol_status.specs.Limits.{is_too_long, fits_limits};
 ghost use Rattle.connections.specs.Ends.{is_silent};
 
 use crate::status::RunEnd;

@@ -39,6 +39,12 @@ is_answered TooLong = false
 is_answered Disk = false
 is_answered Damaged = false
 
+-- all statuses, by their numbers
+abbrev pub statuses : List Status
+statuses = Clean ∷ Marked ∷ Usage ∷ Read ∷ Write ∷ Memory ∷ TooLong ∷ Disk ∷ Damaged ∷ []
+
+-- ---- where the script is read whole before its first line is played
+
 -- the statuses at which nothing was written
 abbrev pub is_silent : Status → Bool
 is_silent Clean = false
@@ -74,7 +80,3 @@ has_opened Memory = false
 has_opened TooLong = false
 has_opened Disk = false
 has_opened Damaged = false
-
--- all statuses, by their numbers
-abbrev pub statuses : List Status
-statuses = Clean ∷ Marked ∷ Usage ∷ Read ∷ Write ∷ Memory ∷ TooLong ∷ Disk ∷ Damaged ∷ []

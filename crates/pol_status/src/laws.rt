@@ -7,8 +7,8 @@ ghost use Rattle.pol_status.specs.Limits.{fits_limits, is_too_long};
 ghost use Rattle.pol_streams.specs.Bytes.{AppendsPart, ConsumesSome};
 ghost use Rattle.pol_streams.specs.Faults.{DidNotRise, Rose};
 
-/// What is told of each status: its number; at which all answers were written and at which nothing was; and at which the script
-/// was read whole and the disk opened ('profile').
+/// What is told of each status: its number, and at which all answers were written; and, where the script is read whole first, at
+/// which nothing was written, at which the script was read and at which the disk was opened ('profile').
 pub fn statuses_tell_ends()
     ensures numbers { map status_number statuses ≡ 0 ∷ 1 ∷ 2 ∷ 3 ∷ 4 ∷ 5 ∷ 6 ∷ 7 ∷ 8 ∷ [] }
     ensures answered { map is_answered statuses

@@ -17,7 +17,7 @@ use Rattle.pol_run.specs.Run.{IsRun, IsRunOf, is_marked, readings_of}
 use Rattle.pol_run.specs.Spots.{spots_of}
 use Rattle.pol_run.proofs.ToldHistory.{run_history_told}
 use Rattle.policyd.specs.Headline.{HoldsText, LeavesHistory, WritesRun, WritesPartOfRun}
-use Rattle.policyd.specs.Script.{fits_limits, input_max, lines_max}
+use Rattle.pol_status.specs.Limits.{fits_limits, input_max, lines_max}
 
 -- lines that were played and printed
 pub printed_run : (options : Options) (script text : List ℕ) (answers : List Answer) (marked : Bool)

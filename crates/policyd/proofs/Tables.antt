@@ -10,7 +10,7 @@ use Rattle.pol_map_dump.specs.AtEnd.{is_live, map_text}
 use Rattle.pol_model.specs.declared.options.Options.{Options}
 use Rattle.pol_script.specs.Lines.{lines_from, lines_of}
 use Rattle.policyd.specs.Headline.{TellsFinding, WritesFinding, WritesMap, WritesPartOfFinding}
-use Rattle.policyd.specs.Script.{fits_limits, input_max, lines_max}
+use Rattle.pol_status.specs.Limits.{fits_limits, input_max, lines_max}
 
 -- ---- a text within the limits has few newline bytes
 either : (t : Bool) (bytes begun : List ℕ) (ended more : List (List ℕ)) → count_by (λ byte. byte == 10) bytes ≤ length ended

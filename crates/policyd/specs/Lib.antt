@@ -1,4 +1,3 @@
-pub mod Script
 pub mod Ends
 pub mod Headline
 pub mod Task

@@ -10,7 +10,7 @@ use Rattle.pol_map_dump.specs.AtEnd.{map_text}
 use Rattle.pol_summary.specs.Summary.{summary as summary_text}
 use Rattle.policyd.specs.declared.status.Status.{Status}
 use Rattle.policyd.specs.declared.status.Status.TheVariants.{Clean, Usage, Read, Write, Memory, TooLong}
-use Rattle.policyd.specs.Script.{is_too_long, fits_limits}
+use Rattle.pol_status.specs.Limits.{is_too_long, fits_limits}
 use Rattle.policyd.specs.Headline.{LeavesRounds, WritesDrill, WritesFinding, WritesMap, WritesPartOfDrill, WritesPartOfFinding, WritesPartOfRun}
 use Rattle.policyd.specs.Ends.{is_answered, has_read_all, is_silent, status_number}
 use Rattle.policyd.specs.Task.{audits, drills, generates, maps, reads_source, reads_with}

@@ -3,7 +3,7 @@ ghost use Rattle.std.specs.Prelude.{◌≡◌, ◌⊎◌, IfOk, IfSome, IsSomeAn
 ghost use Rattle.std.specs.Io.KnownBytes.{IsAtEnd, Keeps};
 ghost use Rattle.pol_streams.specs.Faults.{Rose, DidNotRise};
 ghost use Rattle.pol_streams.specs.Bytes.{ConsumesSome};
-ghost use Rattle.policyd.specs.Script.{is_too_long, fits_limits};
+ghost use Rattle.pol_status.specs.Limits.{is_too_long, fits_limits};
 ghost use Rattle.policyd.specs.Headline.{TellsFinding, WritesFinding, WritesPartOfFinding};
 ghost use Rattle.policyd.specs.Ends.{is_answered, has_read_all, is_silent, status_number};
 

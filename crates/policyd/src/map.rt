@@ -4,7 +4,7 @@ ghost use Rattle.std.specs.Io.KnownBytes.{IsAtEnd, Keeps};
 ghost use Rattle.pol_streams.specs.Faults.{Rose, DidNotRise};
 ghost use Rattle.pol_streams.specs.Bytes.{AppendsPart, ConsumesSome};
 ghost use Rattle.pol_map_dump.specs.AtEnd.{map_text};
-ghost use Rattle.policyd.specs.Script.{is_too_long, fits_limits};
+ghost use Rattle.pol_status.specs.Limits.{is_too_long, fits_limits};
 ghost use Rattle.policyd.specs.Headline.{WritesMap};
 ghost use Rattle.policyd.specs.Ends.{is_answered, has_read_all, is_silent, status_number};
 

@@ -5,7 +5,7 @@ ghost use Rattle.std.specs.List.{list_any};
 ghost use Rattle.pol_streams.specs.Faults.{Rose, DidNotRise};
 ghost use Rattle.pol_streams.specs.Bytes.{ConsumesSome};
 ghost use Rattle.pol_run.specs.Run.{IsRunOf, is_marked};
-ghost use Rattle.policyd.specs.Script.{is_too_long, fits_limits};
+ghost use Rattle.pol_status.specs.Limits.{is_too_long, fits_limits};
 ghost use Rattle.policyd.specs.Headline.{HoldsText, LeavesHistory, WritesRun, WritesPartOfRun};
 ghost use Rattle.policyd.specs.Ends.{is_answered, has_read_all, is_silent, status_number};
 
