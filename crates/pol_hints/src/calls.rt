@@ -1,5 +1,8 @@
 //! What workers share beside their queue: the counter of calls, and the sign that no more hints come.
-use std::sync::atomic::{AtomicBool, AtomicU32, Ordering};
+ghost use Rattle.std.specs.Prelude.{◌≡◌, true};
+
+use std::marker::PhantomData;
+use std::sync::atomic::{AtomicIn, AtomicU32, Ordering, Rule};
 
 /// How many calls the workers began so far. After 4,294,967,295 calls the number stays there.
 #[derive(Drop)]
@@ -28,27 +31,58 @@ impl Calls {
     }
 }
 
-/// Whether the last hint was put.
-#[derive(Drop)]
-pub struct Over {
-    flag: AtomicBool,
+/// What is so once no more hints come.
+pub trait End {
+    /// No more hints come, as whoever tells it knows. Whoever waits for an end without knowing which can know it by the sign
+    /// alone.
+    ghost is_so: { Type 0 };
 }
 
-impl Over {
+/// An end of which nothing is said.
+pub struct AnyEnd;
+
+impl End for AnyEnd {
+    ghost use Rattle.std.specs.Prelude.{⊤};
+
+    ghost is_so = { ⊤ };
+}
+
+// The sign is 0 until that is so.
+struct Sign<E: End> {
+    end: PhantomData<E>,
+}
+
+impl<E: End> Rule for Sign<E> {
+    ghost use Rattle.std.specs.Prelude.{◌<◌};
+
+    ghost invariant = { λ sign. 0 < sign → E.is_so };
+}
+
+/// Whether the last hint was put.
+#[derive(Drop)]
+pub struct Over<E: End> {
+    sign: AtomicIn<Sign<E>>,
+}
+
+impl<E: End> Over<E> {
     /// Hints may still come. It takes no memory.
-    pub fn new() -> Over {
+    pub fn new() -> Over<E> {
         Over {
-            flag: AtomicBool::new(false),
+            sign: AtomicIn::new(0),
         }
     }
 
     /// No more hints come.
-    pub fn set(&self) {
-        self.flag.store(true, Ordering::SeqCst);
+    pub fn set(&self)
+        requires { E.is_so }
+    {
+        self.sign.store(1, Ordering::SeqCst);
     }
 
     /// Whether it was set.
-    pub fn is_set(&self) -> bool {
-        self.flag.load(Ordering::SeqCst)
+    pub fn is_set(&self) -> bool
+        ensures { result ≡ true → E.is_so }
+    {
+        self.sign.load(Ordering::SeqCst) > 0
     }
 }

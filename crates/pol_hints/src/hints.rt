@@ -10,7 +10,7 @@ use crate::bell::Bell;
 use crate::pass::HintPass;
 use crate::place::{lay_put, lay_taken, take_up};
 use crate::round::put_all;
-use crate::rule::{Opens, RingPlace, Sound, Together, Twice, Waiting};
+use crate::rule::{HintsPlace, Opens, Sound, Together, Twice, Waiting};
 use std::alloc::{AllocError as Memory, Global};
 use std::marker::Model;
 use std::sync::Wait;
@@ -23,7 +23,7 @@ use thiserror::Error;
 /// What a hint means is nobody's promise: whoever makes maps makes those that no hint named too.
 #[derive(Drop)]
 pub struct Hints {
-    place: RingPlace,
+    place: HintsPlace,
     room: u32,
     // Whether none waited when they were laid down last. No clause speaks of it.
     none: AtomicBool,
@@ -60,7 +60,7 @@ impl Hints {
         ensures empty { IfOk result (λ made. (made.1.seen ≡ []) × (made.1.own ≡ 0)) }
     {
         let waiting = Waiting::with_capacity(alloc, room as usize)?;
-        let (place, mut pass) = RingPlace::ruled(alloc, 1)?;
+        let (place, mut pass) = HintsPlace::ruled(alloc, 1)?;
         // Nobody else knows the place, so there is room in it.
         if place.try_push_as::<Opens>(&mut pass, waiting).is_err() {
             return Err(Memory);

@@ -18,7 +18,7 @@ mod standing;
 mod turn;
 mod worker;
 
-pub use calls::{Calls, Over};
+pub use calls::{AnyEnd, Calls, End, Over};
 pub use hints::{Hints, HintsFull};
 pub use job::{Gate, Job, OpenGate};
 pub use pass::HintPass;

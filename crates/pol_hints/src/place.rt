@@ -7,13 +7,13 @@ ghost use Rattle.pol_hints.specs.History.{IsHistory, waiting as waiting_in};
 ghost use Rattle.pol_hints.specs.Queue.{HasTakenUp, TellsPuts, TellsTaken};
 ghost use Rattle.pol_hints.specs.Shares.{IsPart};
 
-use crate::rule::{Puts, RingPlace, Seat, Takes, TakesUp, Waiting};
+use crate::rule::{HintsPlace, Puts, Seat, Takes, TakesUp, Waiting};
 use std::sync::Wait;
 use std::thread;
 
 /// Takes up the hints that wait. Nobody else has them until they are laid down, and the pass has seen all that came before.
 /// It waits for a pass that has them.
-pub(crate) fn take_up<R: Wait>(rt: &R, place: &RingPlace, seat: &mut Seat) -> Waiting
+pub(crate) fn take_up<R: Wait>(rt: &R, place: &HintsPlace, seat: &mut Seat) -> Waiting
     requires queue { IsPassOf place.now seat.old }
     requires part { IsPart (known_by seat.old).share }
     requires rests { (known_by seat.old).has ≡ false }
@@ -33,7 +33,7 @@ pub(crate) fn take_up<R: Wait>(rt: &R, place: &RingPlace, seat: &mut Seat) -> Wa
 }
 
 /// Lays down the hints that waited and those that were put behind them.
-pub(crate) fn lay_put<R: Wait>(rt: &R, place: &RingPlace, seat: &mut Seat, waiting: Waiting)
+pub(crate) fn lay_put<R: Wait>(rt: &R, place: &HintsPlace, seat: &mut Seat, waiting: Waiting)
     requires queue { IsPassOf place.now seat.old × (ruled_capacity place.now ≡ 1) }
     requires has { (known_by seat.old).has ≡ true }
     requires part { IsPart (known_by seat.old).share }
@@ -52,7 +52,7 @@ pub(crate) fn lay_put<R: Wait>(rt: &R, place: &RingPlace, seat: &mut Seat, waiti
 /// Lays down the hints that wait behind the first one, which was taken.
 pub(crate) fn lay_taken<R: Wait>(
     rt: &R,
-    place: &RingPlace,
+    place: &HintsPlace,
     seat: &mut Seat,
     waiting: Waiting,
     slot: u32,

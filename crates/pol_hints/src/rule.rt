@@ -8,7 +8,7 @@ use crossbeam_queue::{Pass, RuledArrayQueue};
 pub(crate) type Waiting = HeapCircularBuffer<u32>;
 
 /// The one place in which the hints lie while nobody has them in their hands.
-pub(crate) type RingPlace = RuledArrayQueue<Waiting, Standing, InOrder>;
+pub(crate) type HintsPlace = RuledArrayQueue<Waiting, Standing, InOrder>;
 
 /// What one caller knows of the place.
 pub(crate) type Seat = Pass<Waiting, Standing>;

@@ -5,7 +5,7 @@ ghost use Rattle.pol_hints.specs.History.{hints_put, waiting};
 ghost use Rattle.pol_hints.specs.Passes.{IsHintPassOf, IsOnly};
 ghost use Rattle.pol_hints.specs.Serving.{Serves, StopsServing};
 
-use crate::calls::{Calls, Over};
+use crate::calls::{Calls, End, Over};
 use crate::hints::Hints;
 use crate::job::{Gate, Job};
 use crate::pass::HintPass;
@@ -20,7 +20,7 @@ const OPENING: u64 = 1;
 ///
 /// It ends once the end was told and a later take found no hint. At want of memory the hints that it took stay taken, the
 /// numbers that it gave stay given, and what the jobs did stands.
-pub fn work<J: Job, G: Gate, R: Wait>(
+pub fn work<J: Job, G: Gate, E: End, R: Wait>(
     rt: &R,
     alloc: Global,
     hints: &Hints,
@@ -28,7 +28,7 @@ pub fn work<J: Job, G: Gate, R: Wait>(
     job: &J,
     gate: &G,
     calls: &Calls,
-    over: &Over,
+    over: &Over<E>,
 ) -> Result<(), Memory>
     requires pass { pass.old.queue ≡ hints.now.name }
     ensures pass { IsHintPassOf hints.now pass.new }
@@ -37,6 +37,7 @@ pub fn work<J: Job, G: Gate, R: Wait>(
     ensures puts_none { IsOnly pass.old → hints_put pass.new.seen ≡ hints_put pass.old.seen }
     ensures serves { OnOk result (Serves (J.has_run job.now) pass.old pass.new) }
     ensures stops { OnErr result (StopsServing (J.has_run job.now) pass.old pass.new) }
+    ensures over { OnOk result E.is_so }
     ensures empty { OnOk result (waiting pass.new.seen ≡ []) }
 {
     if !over.is_set() {
