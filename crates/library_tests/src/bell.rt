@@ -1,7 +1,7 @@
 //! What no clause says: that a worker that sleeps wakes where it rings, and at the end.
 ghost use Rattle.std.specs.Prelude.{◌≡◌};
 
-use pol_hints::{Calls, HintPass, Hints, Job, OpenGate, Over, work};
+use pol_hints::{AnyEnd, Calls, HintPass, Hints, Job, OpenGate, Over, work};
 use std::alloc::{AllocError as Memory, Global};
 use std::sync::Wait;
 use std::sync::atomic::{AtomicU32, Ordering};
@@ -45,7 +45,7 @@ fn put_each<R: Wait>(
     hints: &Hints,
     mut pass: HintPass,
     count: &Count,
-    over: &Over,
+    over: &Over<AnyEnd>,
     many: u32,
 ) -> bool
     requires { pass.queue ≡ hints.now.name }
@@ -72,7 +72,7 @@ fn is_each_rung_for<R: Threads + Wait + Sync>(
     let count = Count {
         runs: AtomicU32::new(0),
     };
-    let (calls, over) = (Calls::new(), Over::new());
+    let (calls, over) = (Calls::new(), Over::<AnyEnd>::new());
     hints.ring();
     let (shared, runs, end) = (&hints, &count, &over);
     let (worked, put) = thread::join(

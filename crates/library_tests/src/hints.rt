@@ -2,7 +2,7 @@
 //! the same time.
 ghost use Rattle.std.specs.Prelude.{◌≡◌, true, Some, None, IfOk};
 
-use pol_hints::{Calls, Gate, HintPass, HintRound, Hints, HintsFull, Job, Over, work};
+use pol_hints::{AnyEnd, Calls, Gate, HintPass, HintRound, Hints, HintsFull, Job, Over, work};
 use std::alloc::{AllocError as Memory, Global};
 use std::sync::Wait;
 use std::sync::atomic::{AtomicBool, AtomicU32, Ordering};
@@ -113,7 +113,7 @@ fn a_worker_numbers_its_calls(rt: HostRuntime) -> Result<(), Fail> {
     let digits = Digits {
         written: AtomicU32::new(0),
     };
-    let (calls, over) = (Calls::new(), Over::new());
+    let (calls, over) = (Calls::new(), Over::<AnyEnd>::new());
     over.set();
     let done = work(
         &rt,
@@ -198,7 +198,7 @@ struct Yard {
     counts: Counts,
     gate: FirstWaits,
     calls: Calls,
-    over: Over,
+    over: Over<AnyEnd>,
 }
 
 impl Yard {
@@ -290,7 +290,7 @@ fn is_each_worked_on_once<R: Threads + Wait + Sync>(
             saw: AtomicBool::new(false),
         },
         calls: Calls::new(),
-        over: Over::new(),
+        over: Over::<AnyEnd>::new(),
     };
     let shared = &yard;
     let (put, taken) = thread::join(
