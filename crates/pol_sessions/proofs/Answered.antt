@@ -1,5 +1,5 @@
 -- What the calls of the node say is what lines of a session may answer.
-use Rattle.std.proofs.Common.{◌≡◌, ℕ, [], ◌∷◌, sym, ap, ◌∙◌}
+use Rattle.std.proofs.Common.{◌≡◌, ℕ, [], ◌∷◌, Result, Ok, Err, IfOk, sym, ap, ◌∙◌}
 use Rattle.pol_answer.specs.declared.answer.Answer.{Answer}
 use Rattle.pol_answer.specs.declared.answer.Answer.TheVariants as answer
 use Rattle.pol_model.specs.declared.answer.Committed.{Committed}
@@ -29,3 +29,8 @@ refused options old new session request why grew is = record { allowed = is; gro
 pub looked : (options : Options) (old new : PassState) (session : ℕ) (query : Query) (told : Answer) (found : Looked)
     → look options new.has.history query ≡ found → told ≡ answer_found found → PassGrows options old new [] → GoesOn options old (command.Look session query) told new
 looked options old new session query told found is tells grew = record { allowed = tells ∙ ap answer_found (sym is); grows = grew }
+
+-- what holds for every session holds for this one
+pub for_session : {A E : Type 0} (P : ℕ → A → Type 0) (session : ℕ) (r : Result A E) → IfOk r (λ x. (one : ℕ) → P one x) → IfOk r (λ x. P session x)
+for_session P session (Ok x) holds = holds session
+for_session P session (Err e) holds = tt

@@ -1,5 +1,5 @@
 -- Which hints lines of a session put.
-use Rattle.std.proofs.Common.{ℕ, List, [], ◌∷◌, ◌++◌, None, Some, Option, refl, sym, subst, arith}
+use Rattle.std.proofs.Common.{ℕ, List, [], ◌∷◌, ◌++◌, None, Some, Option, refl, sym, ap, subst, arith}
 use mathlib.Core.List.{IsPrefix}
 use Rattle.pol_answer.specs.declared.answer.Answer.{Answer}
 use Rattle.pol_model.specs.declared.answer.Committed.{Committed}
@@ -13,15 +13,24 @@ use Rattle.pol_history.specs.Calls.{IsAccepted}
 use Rattle.pol_history.proofs.Cuts.{revision-append, state-cut}
 use Rattle.pol_history.proofs.Own.{commit-counts}
 use Rattle.pol_hints.specs.Passes.{Pass as HintState, PutsRound}
-use Rattle.pol_sessions.specs.Hinting.{HasHinted, HaveHinted, HintsAt, HintsIf, committed_at}
+use Rattle.pol_sessions.specs.Hinting.{AreInUse, HasHinted, HaveHinted, HintsAt, HintsIf, PutsIf, committed_at}
 
--- a commit that was accepted put hints at its revision
-pub commit_hints : (options : Options) (room pass : ℕ) (old new : List HistoryEvent) (request : Request) (done : Committed) (before after : HintState)
-    → IsAccepted options pass old new request done → PutsRound room done.slots before after → HintsAt options room new done.revision before after
-commit_hints options room pass old new request done before after it puts = record {
-  within = (let count = commit-counts new it.place pass it.number request it.there in let is = it.revision in omega (arith, count, is));
-  puts = subst (λ (slots : ℕ). PutsRound room slots before after) it.slots puts;
+-- behind a commit that was accepted so many slots are in use as it tells
+pub slots_in_use : (options : Options) (pass : ℕ) (old new : List HistoryEvent) (request : Request) (done : Committed)
+    → IsAccepted options pass old new request done → AreInUse options new (Some done.revision) (Some done.slots)
+slots_in_use options pass old new request done it = (
+  (let count = commit-counts new it.place pass it.number request it.there in let is = it.revision in omega (arith, count, is)),
+  ap Some it.slots,
+)
+
+-- hints that are put for each slot in use are those of the line
+pub hints_put : (options : Options) (room : ℕ) (history : List HistoryEvent) (at slots : Option ℕ) (before after : HintState)
+    → AreInUse options history at slots → PutsIf room slots before after → HintsIf options room history at before after
+hints_put options room history (Some revision) slots before after used puts = record {
+  within = used.0;
+  puts = subst (λ (s : Option ℕ). PutsIf room s before after) used.1 puts;
 }
+hints_put options room history None slots before after used puts = subst (λ (s : Option ℕ). PutsIf room s before after) used puts
 
 -- ---- in a history that goes on, the same hints were put
 

@@ -28,6 +28,17 @@ abbrev pub HintsIf : Options → ℕ → List HistoryEvent → Option ℕ → Hi
 HintsIf options room history (Some revision) before after = HintsAt options room history revision before after
 HintsIf options room history None before after = after ≡ before
 
+-- how many slots are in use at the revision that a line has committed; none is told of a line that committed nothing
+abbrev pub AreInUse : Options → List HistoryEvent → Option ℕ → Option ℕ → Type 0
+AreInUse options history (Some revision) slots =
+    (revision ≤ revision_of history) × (slots ≡ Some (slots_of (state_after options history revision).endpoints))
+AreInUse options history None slots = slots ≡ None
+
+-- one hint was put for each of so many slots, in a queue with this room, until it was full; or nothing was put
+abbrev pub PutsIf : ℕ → Option ℕ → HintState → HintState → Type 0
+PutsIf room (Some slots) before after = PutsRound room slots before after
+PutsIf room None before after = after ≡ before
+
 abbrev pub HasHinted : Options → ℕ → List HistoryEvent → Command × Answer → HintState → HintState → Type 0
 HasHinted options room history line before after = HintsIf options room history (committed_at line) before after
 

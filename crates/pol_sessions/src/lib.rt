@@ -5,6 +5,7 @@
 //! What they promise is said over the definitions of `pol_run_laws` (`specs/Seats`).
 #![tactic(auto)]
 
+mod in_play;
 mod line;
 mod pace;
 mod phase;
@@ -12,6 +13,7 @@ mod script;
 mod session;
 mod worker;
 
+pub use in_play::NodeInPlay;
 pub use phase::{PlayedPhase, PlayedPhases, play_phase, play_phases};
 pub use pol_node::{Config, SeenHistory};
 pub use script::{PlayedScript, play_script};

@@ -6,15 +6,30 @@ ghost use Rattle.pol_history.specs.Meet.{has};
 ghost use Rattle.pol_run_laws.specs.Seats.{ArePhases, HasGoneOn, HaveGoneOn, IsPhase};
 ghost use Rattle.pol_script.specs.declared.command.Command.{Command};
 
+use crate::in_play::NodeInPlay;
 use crate::session::play_session;
 use pol_data::{Items, Memory};
-use pol_hints::{Gate, HintPass, Hints};
-use pol_node::{Node, NodeName, Pass};
+use pol_hints::{Gate, HintPass};
+use pol_node::{NodeName, Pass};
 use pol_phases::{Answers, Commands};
 use std::alloc::Global;
 use std::collections::VecDeque;
 use std::sync::Wait;
 use std::thread::{Threads, join};
+
+/// The sessions of a phase: the pass of each, and its lines.
+#[derive(Drop)]
+struct Sessions<N: NodeName> {
+    passes: Vec<Pass<N>>,
+    lines: Vec<Commands>,
+}
+
+/// What one of them has: its pass, and its lines.
+#[derive(Drop)]
+struct Session<N: NodeName> {
+    pass: Pass<N>,
+    lines: Commands,
+}
 
 /// A session's pass after a phase, and what it was told in it.
 #[derive(Drop)]
@@ -41,24 +56,30 @@ pub struct PlayedPhases<N: NodeName> {
 fn play_one<N: NodeName, W: Wait, R: Wait + Drop, G: Gate>(
     rt: &W,
     alloc: Global,
-    node: &Node<N, R>,
-    hints: &Hints,
-    gate: &G,
-    session: u32,
-    pass: Pass<N>,
+    play: &NodeInPlay<N, R, G>,
     hint_pass: HintPass,
-    lines: Commands,
+    number: u32,
+    session: Session<N>,
 ) -> Result<Done<N>, Memory>
-    requires handed_out { has N.passes pass.number ≡ true }
-    requires hints { hint_pass.queue ≡ hints.now.name }
-    ensures { IfOk result (λ done. HasGoneOn N.options pass lines done.answers done.pass) }
+    requires handed_out { has N.passes session.pass.number ≡ true }
+    requires hints { hint_pass.queue ≡ play.now.hints.now.name }
+    ensures { IfOk result (λ done. HasGoneOn N.options session.pass session.lines done.answers done.pass) }
 {
+    let Session { pass, lines } = session;
     if !lines.is_empty() {
-        gate.start(rt, session);
+        play.gate.start(rt, number);
     }
     let mut pass = pass;
     let mut hint_pass = hint_pass;
-    let answers = play_session(rt, alloc, node, &mut pass, hints, &mut hint_pass, lines)?;
+    let answers = play_session(
+        rt,
+        alloc,
+        play.node,
+        &mut pass,
+        play.hints,
+        &mut hint_pass,
+        lines,
+    )?;
     Ok(Done { pass, answers })
 }
 
@@ -72,9 +93,7 @@ fn play_sessions<
 >(
     rt: &W,
     alloc: Global,
-    node: &Node<N, R>,
-    hints: &Hints,
-    gate: &G,
+    play: &NodeInPlay<N, R, G>,
     hint_pass: HintPass,
     passes: Vec<Pass<N>>,
     lines: Vec<Commands>,
@@ -82,7 +101,7 @@ fn play_sessions<
     requires handed_out { AllByRecursion (λ pass. has N.passes pass.number ≡ true) passes.items }
     requires one_each { length lines.items ≡ length passes.items }
     requires few { length passes.items ≤ 40 }
-    requires hints { hint_pass.queue ≡ hints.now.name }
+    requires hints { hint_pass.queue ≡ play.now.hints.now.name }
     ensures { IfOk result (λ played.
         HaveGoneOn N.options passes.items lines.items played.told.items played.passes.items) }
 {
@@ -97,14 +116,13 @@ fn play_sessions<
     let Some(own) = lines.pop() else {
         unreachable!();
     };
-    if is_alone(&own, &lines) {
-        play_in_turn(
-            rt, alloc, node, hints, gate, hint_pass, passes, lines, pass, own,
-        )
+    let is_alone = is_alone(&own, &lines);
+    let others = Sessions { passes, lines };
+    let last = Session { pass, lines: own };
+    if is_alone {
+        play_in_turn(rt, alloc, play, hint_pass, others, last)
     } else {
-        play_at_once(
-            rt, alloc, node, hints, gate, hint_pass, passes, lines, pass, own,
-        )
+        play_at_once(rt, alloc, play, hint_pass, others, last)
     }
 }
 
@@ -118,28 +136,25 @@ fn play_in_turn<
 >(
     rt: &W,
     alloc: Global,
-    node: &Node<N, R>,
-    hints: &Hints,
-    gate: &G,
+    play: &NodeInPlay<N, R, G>,
     hint_pass: HintPass,
-    passes: Vec<Pass<N>>,
-    lines: Vec<Commands>,
-    pass: Pass<N>,
-    own: Commands,
+    others: Sessions<N>,
+    last: Session<N>,
 ) -> Result<PlayedPhase<N>, Memory>
-    requires handed_out { AllByRecursion (λ pass. has N.passes pass.number ≡ true) passes.items }
-    requires one_each { length lines.items ≡ length passes.items }
-    requires few { length passes.items ≤ 39 }
-    requires last { has N.passes pass.number ≡ true }
-    requires hints { hint_pass.queue ≡ hints.now.name }
-    ensures { IfOk result (λ played. HaveGoneOn N.options
-        (passes.items ++ pass ∷ []) (lines.items ++ own ∷ []) played.told.items played.passes.items) }
+    requires handed_out { AllByRecursion (λ pass. has N.passes pass.number ≡ true) others.passes.items }
+    requires one_each { length others.lines.items ≡ length others.passes.items }
+    requires few { length others.passes.items ≤ 39 }
+    requires last { has N.passes last.pass.number ≡ true }
+    requires hints { hint_pass.queue ≡ play.now.hints.now.name }
+    ensures { IfOk result (λ played. HaveGoneOn N.options (others.passes.items ++ last.pass ∷ [])
+        (others.lines.items ++ last.lines ∷ []) played.told.items played.passes.items) }
 {
+    let Sessions { passes, lines } = others;
     let mut hint_pass = hint_pass;
-    let session = passes.len() as u32 + 1;
-    let other = hints.split(rt, &mut hint_pass)?;
-    let front = play_sessions(rt, alloc, node, hints, gate, hint_pass, passes, lines)?;
-    let back = play_one(rt, alloc, node, hints, gate, session, pass, other, own)?;
+    let number = passes.len() as u32 + 1;
+    let other = play.hints.split(rt, &mut hint_pass)?;
+    let front = play_sessions(rt, alloc, play, hint_pass, passes, lines)?;
+    let back = play_one(rt, alloc, play, other, number, last)?;
     more(front, back)
 }
 
@@ -153,41 +168,38 @@ fn play_at_once<
 >(
     rt: &W,
     alloc: Global,
-    node: &Node<N, R>,
-    hints: &Hints,
-    gate: &G,
+    play: &NodeInPlay<N, R, G>,
     hint_pass: HintPass,
-    passes: Vec<Pass<N>>,
-    lines: Vec<Commands>,
-    pass: Pass<N>,
-    own: Commands,
+    others: Sessions<N>,
+    last: Session<N>,
 ) -> Result<PlayedPhase<N>, Memory>
-    requires handed_out { AllByRecursion (λ pass. has N.passes pass.number ≡ true) passes.items }
-    requires one_each { length lines.items ≡ length passes.items }
-    requires few { length passes.items ≤ 39 }
-    requires last { has N.passes pass.number ≡ true }
-    requires hints { hint_pass.queue ≡ hints.now.name }
-    ensures { IfOk result (λ played. HaveGoneOn N.options
-        (passes.items ++ pass ∷ []) (lines.items ++ own ∷ []) played.told.items played.passes.items) }
+    requires handed_out { AllByRecursion (λ pass. has N.passes pass.number ≡ true) others.passes.items }
+    requires one_each { length others.lines.items ≡ length others.passes.items }
+    requires few { length others.passes.items ≤ 39 }
+    requires last { has N.passes last.pass.number ≡ true }
+    requires hints { hint_pass.queue ≡ play.now.hints.now.name }
+    ensures { IfOk result (λ played. HaveGoneOn N.options (others.passes.items ++ last.pass ∷ [])
+        (others.lines.items ++ last.lines ∷ []) played.told.items played.passes.items) }
 {
+    let Sessions { passes, lines } = others;
     let mut hint_pass = hint_pass;
-    let session = passes.len() as u32 + 1;
-    let other = hints.split(rt, &mut hint_pass)?;
+    let number = passes.len() as u32 + 1;
+    let other = play.hints.split(rt, &mut hint_pass)?;
     let (front, back) = join(
         rt,
         || -> Result<PlayedPhase<N>, Memory>
             requires handed_out { AllByRecursion (λ pass. has N.passes pass.number ≡ true) passes.items }
             requires one_each { length lines.items ≡ length passes.items }
             requires few { length passes.items ≤ 39 }
-            requires hints { hint_pass.queue ≡ hints.now.name }
+            requires hints { hint_pass.queue ≡ play.now.hints.now.name }
             ensures { IfOk result (λ played.
                 HaveGoneOn N.options passes.items lines.items played.told.items played.passes.items) }
-        { play_sessions(rt, alloc, node, hints, gate, hint_pass, passes, lines) },
+        { play_sessions(rt, alloc, play, hint_pass, passes, lines) },
         || -> Result<Done<N>, Memory>
-            requires handed_out { has N.passes pass.number ≡ true }
-            requires hints { other.queue ≡ hints.now.name }
-            ensures { IfOk result (λ done. HasGoneOn N.options pass own done.answers done.pass) }
-        { play_one(rt, alloc, node, hints, gate, session, pass, other, own) },
+            requires handed_out { has N.passes last.pass.number ≡ true }
+            requires hints { other.queue ≡ play.now.hints.now.name }
+            ensures { IfOk result (λ done. HasGoneOn N.options last.pass last.lines done.answers done.pass) }
+        { play_one(rt, alloc, play, other, number, last) },
     );
     more(front?, back?)
 }
@@ -223,9 +235,7 @@ pub fn play_phase<
 >(
     rt: &W,
     alloc: Global,
-    node: &Node<N, R>,
-    hints: &Hints,
-    gate: &G,
+    play: &NodeInPlay<N, R, G>,
     hint_pass: HintPass,
     passes: Vec<Pass<N>>,
     lines: Vec<Commands>,
@@ -233,12 +243,12 @@ pub fn play_phase<
     requires handed_out { AllByRecursion (λ pass. has N.passes pass.number ≡ true) passes.items }
     requires one_each { length lines.items ≡ length passes.items }
     requires few { length passes.items ≤ 40 }
-    requires hints { hint_pass.queue ≡ hints.now.name }
+    requires hints { hint_pass.queue ≡ play.now.hints.now.name }
     ensures { IfOk result (λ played.
         IsPhase N.options N.passes passes.items lines.items played.told.items played.passes.items) }
 {
-    let mut played = play_sessions(rt, alloc, node, hints, gate, hint_pass, passes, lines)?;
-    node.meet(rt, &mut played.passes);
+    let mut played = play_sessions(rt, alloc, play, hint_pass, passes, lines)?;
+    play.node.meet(rt, &mut played.passes);
     Ok(played)
 }
 
@@ -251,9 +261,7 @@ pub fn play_phases<
 >(
     rt: &W,
     alloc: Global,
-    node: &Node<N, R>,
-    hints: &Hints,
-    gate: &G,
+    play: &NodeInPlay<N, R, G>,
     hint_pass: HintPass,
     passes: Vec<Pass<N>>,
     phases: Vec<Items<Commands>>,
@@ -261,7 +269,7 @@ pub fn play_phases<
     requires handed_out { AllByRecursion (λ pass. has N.passes pass.number ≡ true) passes.items }
     requires one_each { AllByRecursion (λ lines. length lines ≡ length passes.items) phases.items }
     requires few { length passes.items ≤ 40 }
-    requires hints { hint_pass.queue ≡ hints.now.name }
+    requires hints { hint_pass.queue ≡ play.now.hints.now.name }
     ensures phases { IfOk result (λ played.
         ArePhases N.options N.passes passes.items phases.items played.told.items played.passes.items) }
     ensures as_many { IfOk result (λ played. length played.passes.items ≡ length passes.items) }
@@ -271,17 +279,8 @@ pub fn play_phases<
     let mut told = Vec::with_capacity(alloc, phases.len())?;
     let mut left = VecDeque::from_vec(phases);
     while let Some(lines) = left.pop_front() {
-        let other = hints.split(rt, &mut hint_pass)?;
-        let played = play_phase(
-            rt,
-            alloc,
-            node,
-            hints,
-            gate,
-            other,
-            passes,
-            lines.into_vec(),
-        )?;
+        let other = play.hints.split(rt, &mut hint_pass)?;
+        let played = play_phase(rt, alloc, play, other, passes, lines.into_vec())?;
         passes = played.passes;
         told.push(Items::from_vec(played.told))?;
     }

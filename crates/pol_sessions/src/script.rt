@@ -6,6 +6,7 @@ ghost use Rattle.pol_board.specs.Counts.{new_passes};
 ghost use Rattle.pol_sessions.specs.Sessions.{IsScriptPlayed};
 ghost use Rattle.pol_sessions.specs.Again.{IsAgain};
 
+use crate::in_play::NodeInPlay;
 use crate::phase::PlayedPhases;
 use crate::worker::play_beside;
 use pol_board::{Board, BoardError};
@@ -26,6 +27,13 @@ const HINTS_MAX: u32 = 1024;
 pub struct PlayedScript {
     pub told: Vec<Items<Answers>>,
     pub last: SeenHistory,
+}
+
+/// With what a script is played: how its node is made, and how many workers there are.
+#[derive(Clone, Copy)]
+struct Settings {
+    config: Config,
+    workers: u32,
 }
 
 /// Why no script was played.
@@ -54,9 +62,10 @@ pub fn play_script<W: Threads + Wait + Sync, G: Gate + Sync>(
         IsScriptPlayed (record { mode = config.mode; localhost = config.localhost; map_max = Some config.map_max })
         config.passes phases.items played.told.items played.last) }
 {
+    let settings = Settings { config, workers };
     let mut left = phases;
     for _ in rt.forever() {
-        match play_once(rt, alloc, config, workers, gate, left) {
+        match play_named::<Brand, W, G>(rt, alloc, NewBook::new(), settings, gate, left) {
             Ok(played) => return Ok(played),
             Err(Stopped::NoPlace(again)) => left = again,
             Err(Stopped::Memory) => return Err(Memory),
@@ -65,52 +74,35 @@ pub fn play_script<W: Threads + Wait + Sync, G: Gate + Sync>(
     unreachable!()
 }
 
-// Over a board that may be refused a place. It picks the name of the node.
-fn play_once<W: Threads + Wait + Sync, G: Gate + Sync>(
-    rt: &W,
-    alloc: Global,
-    config: Config,
-    workers: u32,
-    gate: &G,
-    phases: Vec<Items<Commands>>,
-) -> Result<PlayedScript, Stopped>
-    requires limit { config.map_max ≤ 65536 }
-    requires sessions { (0 < config.passes) × (config.passes ≤ 40) }
-    requires one_each { AllByRecursion (λ lines. length lines ≡ config.passes) phases.items }
-    ensures played { IfOk result (λ played.
-        IsScriptPlayed (record { mode = config.mode; localhost = config.localhost; map_max = Some config.map_max })
-        config.passes phases.items played.told.items played.last) }
-    ensures again { IfErr result (IsAgain phases.items) }
-{
-    play_named::<Brand, W, G>(rt, alloc, NewBook::new(), config, workers, gate, phases)
-}
-
-// Over the board of this name.
+// Over the board of this name, which may be refused a place.
 fn play_named<N: NodeName + Send + Sync, W: Threads + Wait + Sync, G: Gate + Sync>(
     rt: &W,
     alloc: Global,
     book: NewBook,
-    config: Config,
-    workers: u32,
+    settings: Settings,
     gate: &G,
     phases: Vec<Items<Commands>>,
 ) -> Result<PlayedScript, Stopped>
     // What the name says.
     requires book { book ≡ N.book }
-    requires options { N.options
-        ≡ record { mode = config.mode; localhost = config.localhost; map_max = Some config.map_max } }
-    requires passes { N.passes ≡ map (λ pass. pass.number) (drop 257 (new_passes (257 + config.passes))) }
+    requires options { N.options ≡ record {
+      mode = settings.config.mode;
+      localhost = settings.config.localhost;
+      map_max = Some settings.config.map_max;
+    } }
+    requires passes { N.passes ≡ map (λ pass. pass.number) (drop 257 (new_passes (257 + settings.config.passes))) }
 
     // What is to be played.
-    requires limit { config.map_max ≤ 65536 }
-    requires sessions { (0 < config.passes) × (config.passes ≤ 40) }
-    requires one_each { AllByRecursion (λ lines. length lines ≡ config.passes) phases.items }
+    requires limit { settings.config.map_max ≤ 65536 }
+    requires sessions { (0 < settings.config.passes) × (settings.config.passes ≤ 40) }
+    requires one_each { AllByRecursion (λ lines. length lines ≡ settings.config.passes) phases.items }
 
     // It was played, or is given back.
     ensures played { IfOk result (λ played.
-        IsScriptPlayed N.options config.passes phases.items played.told.items played.last) }
+        IsScriptPlayed N.options settings.config.passes phases.items played.told.items played.last) }
     ensures again { IfErr result (IsAgain phases.items) }
 {
+    let Settings { config, workers } = settings;
     let places = 257 + config.passes;
     let (writer, passes) = match Board::with_readers::<N, &W>(
         rt,
@@ -137,9 +129,13 @@ fn play_named<N: NodeName + Send + Sync, W: Threads + Wait + Sync, G: Gate + Syn
         Ok(made) => made,
         Err(_) => return Err(Stopped::Memory),
     };
-    let played = play_beside(
-        rt, alloc, &node, &hints, gate, hint_pass, workers, seats, phases,
-    );
+    let play = NodeInPlay {
+        node: &node,
+        hints: &hints,
+        gate,
+        workers,
+    };
+    let played = play_beside(rt, alloc, &play, hint_pass, seats, phases);
     node.close(rt);
     match played {
         Ok(played) => Ok(ended(played)),

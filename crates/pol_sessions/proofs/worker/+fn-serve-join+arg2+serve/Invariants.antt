@@ -5,4 +5,4 @@ abbrev pub decreases-join+arg2 : goal.decreases-join+arg2
 decreases-join+arg2 g l = 2 * l.left + 1
 
 abbrev pub decreases-serve : goal.decreases-serve
-decreases-serve g l = 2 * l.workers
+decreases-serve g l = 2 * l.count
