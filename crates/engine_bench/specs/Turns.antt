@@ -40,14 +40,18 @@ pub record AreNumbered (filters : Filters) : Type 0 where
 abbrev pub Extends : Filters → Filters → Type 0
 Extends few many = (more : List Filter) × (many.ingress ≡ few.ingress ++ more)
 
--- these changes lead from the one set to the other
-pub record Turns (was is : List ℕ) (count : ℕ) (changes : Changes) : Type 0 where
-  pub rows : AllAt (RowAt is) changes.sets
+-- The changes give each of so many peers this set, by moves of these numbers.
+pub record GiveSets (set gained lost : List ℕ) (count : ℕ) (changes : Changes) : Type 0 where
+  pub rows : AllAt (RowAt set) changes.sets
   pub row_count : length changes.sets ≡ count
   pub moves : List Move
   pub some : changes.moves ≡ Some moves
   pub move_count : length moves ≡ count
-  pub exact : AllAt (MoveAt (without is was) (without was is)) moves
+  pub exact : AllAt (MoveAt gained lost) moves
+
+-- these changes lead from the one set to the other
+abbrev pub Turns : List ℕ → List ℕ → ℕ → Changes → Type 0
+Turns was is = GiveSets is (without is was) (without was is)
 
 -- The work is of the filters, and each peer that they list selects these numbers.
 pub record IsAt (set : List ℕ) (filters : Filters) (work : WorkOf) : Type 0 where

@@ -12,6 +12,7 @@ ghost use Rattle.pol_selcache.specs.Live.{AreExact};
 use crate::cache::asked::{Ask, holder_for};
 use crate::cache::selectors::{add_all, time_oldest};
 use crate::cache::turns::rounds;
+use crate::watch::Watch;
 use anyhow::Result;
 use pol_data::Steps;
 use pol_ident::Identities;
@@ -30,6 +31,7 @@ enum WhatMoves {
 /// Makes so many selectors live, and times what moves.
 fn time_all<R: Clock + AllocGlobal, L: Ledger>(
     rt: &R,
+    watch: Watch,
     cache: &mut SelectorCache,
     identities: &mut Identities,
     moves: WhatMoves,
@@ -42,10 +44,10 @@ fn time_all<R: Clock + AllocGlobal, L: Ledger>(
 {
     add_all(rt.alloc(), cache, identities, ask, count, steps)?;
     match moves {
-        WhatMoves::Selector => Ok(Some(time_oldest(rt, cache, identities, ask, steps)?)),
+        WhatMoves::Selector => Ok(Some(time_oldest(rt, watch, cache, identities, ask, steps)?)),
         WhatMoves::Identity => {
             let holder = holder_for(rt.alloc(), ask)?;
-            Ok(rounds(rt, cache, identities, &holder, steps))
+            Ok(rounds(rt, watch, cache, identities, &holder, steps))
         }
     }
 }
@@ -53,6 +55,7 @@ fn time_all<R: Clock + AllocGlobal, L: Ledger>(
 /// The same from an empty cache.
 fn time_over<R: Clock + AllocGlobal, L: Ledger>(
     rt: &R,
+    watch: Watch,
     blank: Blank,
     moves: WhatMoves,
     ask: Ask,
@@ -67,6 +70,7 @@ fn time_over<R: Clock + AllocGlobal, L: Ledger>(
     let mut cache = SelectorCache::new(rt.alloc());
     time_all(
         rt,
+        watch,
         &mut cache,
         &mut identities,
         moves,
@@ -78,12 +82,13 @@ fn time_over<R: Clock + AllocGlobal, L: Ledger>(
 
 fn measure<R: Clock + Eprint + AllocGlobal>(
     rt: &R,
+    watch: Watch,
     what: &str,
     moves: WhatMoves,
     ask: Ask,
     count: u32,
 ) -> Result<()> {
-    match time_over::<R, Brand>(rt, Blank::new(1), moves, ask, count)? {
+    match time_over::<R, Brand>(rt, watch, Blank::new(1), moves, ask, count)? {
         Some((coming, going)) => eprintln!(rt;
             "{count:>6} selectors, {what:<48} comes in {coming:>6} ns, goes in {going:>6} ns"
         )?,
@@ -93,32 +98,67 @@ fn measure<R: Clock + Eprint + AllocGlobal>(
 }
 
 /// Identities that come and go.
-fn of_identities<R: Clock + Eprint + AllocGlobal>(rt: &R) -> Result<()> {
+fn of_identities<R: Clock + Eprint + AllocGlobal>(rt: &R, watch: Watch) -> Result<()> {
     let one = "an identity that one takes";
     let all = "an identity that all take";
     let none_filed = "the same, where none is filed under a value";
     let prefix = "an identity of a prefix that one takes";
-    measure(rt, one, WhatMoves::Identity, Ask::OwnValue, 10)?;
-    measure(rt, one, WhatMoves::Identity, Ask::OwnValue, 1_000)?;
-    measure(rt, one, WhatMoves::Identity, Ask::OwnValue, 10_000)?;
-    measure(rt, all, WhatMoves::Identity, Ask::SameValue, 1_000)?;
-    measure(rt, none_filed, WhatMoves::Identity, Ask::NoValue, 1_000)?;
-    measure(rt, prefix, WhatMoves::Identity, Ask::OwnPrefix, 1_000)?;
-    measure(rt, prefix, WhatMoves::Identity, Ask::OwnPrefix, 10_000)
+    measure(rt, watch, one, WhatMoves::Identity, Ask::OwnValue, 10)?;
+    measure(rt, watch, one, WhatMoves::Identity, Ask::OwnValue, 1_000)?;
+    measure(rt, watch, one, WhatMoves::Identity, Ask::OwnValue, 10_000)?;
+    measure(rt, watch, all, WhatMoves::Identity, Ask::SameValue, 1_000)?;
+    measure(
+        rt,
+        watch,
+        none_filed,
+        WhatMoves::Identity,
+        Ask::NoValue,
+        1_000,
+    )?;
+    measure(
+        rt,
+        watch,
+        prefix,
+        WhatMoves::Identity,
+        Ask::OwnPrefix,
+        1_000,
+    )?;
+    measure(
+        rt,
+        watch,
+        prefix,
+        WhatMoves::Identity,
+        Ask::OwnPrefix,
+        10_000,
+    )
 }
 
 /// Selectors that go and come again.
-fn of_selectors<R: Clock + Eprint + AllocGlobal>(rt: &R) -> Result<()> {
+fn of_selectors<R: Clock + Eprint + AllocGlobal>(rt: &R, watch: Watch) -> Result<()> {
     let value = "the oldest, of a value";
     let prefix = "the oldest, of a prefix";
-    measure(rt, value, WhatMoves::Selector, Ask::OwnValue, 1_000)?;
-    measure(rt, value, WhatMoves::Selector, Ask::OwnValue, 10_000)?;
-    measure(rt, prefix, WhatMoves::Selector, Ask::OwnPrefix, 1_000)?;
-    measure(rt, prefix, WhatMoves::Selector, Ask::OwnPrefix, 10_000)
+    measure(rt, watch, value, WhatMoves::Selector, Ask::OwnValue, 1_000)?;
+    measure(rt, watch, value, WhatMoves::Selector, Ask::OwnValue, 10_000)?;
+    measure(
+        rt,
+        watch,
+        prefix,
+        WhatMoves::Selector,
+        Ask::OwnPrefix,
+        1_000,
+    )?;
+    measure(
+        rt,
+        watch,
+        prefix,
+        WhatMoves::Selector,
+        Ask::OwnPrefix,
+        10_000,
+    )
 }
 
 /// Times both.
-pub(crate) fn time<R: Clock + Eprint + AllocGlobal>(rt: &R) -> Result<()> {
-    of_identities(rt)?;
-    of_selectors(rt)
+pub(crate) fn time<R: Clock + Eprint + AllocGlobal>(rt: &R, watch: Watch) -> Result<()> {
+    of_identities(rt, watch)?;
+    of_selectors(rt, watch)
 }

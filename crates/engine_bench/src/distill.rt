@@ -3,6 +3,7 @@ ghost use Rattle.std.specs.Prelude.{◌≤◌, ◌^◌};
 ghost use Rattle.pol_distill.specs.Sorted.{HaveSets};
 
 use crate::filter::{enforced, filter, peer, port};
+use crate::watch::Watch;
 use anyhow::Result;
 use pol_data::Memory;
 use pol_distill::{MapTable, distill, have_sets};
@@ -14,7 +15,6 @@ use pol_sets::{IdSet, SetRow, Sets, SharedPeer};
 use std::alloc::{AllocError, Global};
 use std::rt::Clock;
 use std::sync::Arc;
-use std::time::Instant;
 
 /// How often a map is made; the shortest time counts.
 const ROUNDS: u32 = 20;
@@ -77,72 +77,115 @@ fn allowed(table: &MapTable, identities: u32) -> u32
     count
 }
 
-/// How many microseconds it took to make the map, in the shortest of all rounds.
-fn making<R: Clock + AllocGlobal>(rt: &R, filters: &Filters, sets: &Sets) -> Result<u128>
+/// How many microseconds it took to make the map, and how many entries it has.
+fn made_in<R: Clock + AllocGlobal>(
+    rt: &R,
+    watch: Watch,
+    filters: &Filters,
+    sets: &Sets,
+) -> Result<(u128, u64), Memory>
     requires { HaveSets sets.now filters.now }
 {
-    let mut best = u128::MAX;
-    for _ in 0..ROUNDS {
-        let start = Instant::now(rt)?;
-        let _table = distill(rt.alloc(), filters, sets)?;
-        best = best.min(start.elapsed(rt)?.as_nanos() / 1000);
+    let start = watch.nanos(rt);
+    let table = distill(rt.alloc(), filters, sets)?;
+    let micros = watch.nanos(rt).wrapping_sub(start) / 1000;
+    Ok((micros, table.count()))
+}
+
+/// The shortest of all rounds, and how many entries the map has.
+fn making<R: Clock + AllocGlobal>(
+    rt: &R,
+    watch: Watch,
+    filters: &Filters,
+    sets: &Sets,
+) -> Result<(u128, u64), Memory>
+    requires { HaveSets sets.now filters.now }
+{
+    let (mut best, entries) = made_in(rt, watch, filters, sets)?;
+    for _ in 1..ROUNDS {
+        let (micros, _) = made_in(rt, watch, filters, sets)?;
+        best = best.min(micros);
     }
-    Ok(best)
+    Ok((best, entries))
 }
 
 /// How many nanoseconds a look-up took, and how many packets were allowed.
-fn looking<R: Clock>(rt: &R, table: &MapTable, identities: u32) -> Result<(u128, u32)>
-    requires { 1 ≤ identities }
+fn looking<R: Clock + AllocGlobal>(
+    rt: &R,
+    watch: Watch,
+    filters: &Filters,
+    sets: &Sets,
+    identities: u32,
+) -> Result<(u128, u32), Memory>
+    requires some { 1 ≤ identities }
+    requires sets { HaveSets sets.now filters.now }
 {
-    let start = Instant::now(rt)?;
-    let found = allowed(table, identities);
-    let look = start.elapsed(rt)?.as_nanos() / u128::from(LOOK_UPS);
-    Ok((look, found))
+    let table = distill(rt.alloc(), filters, sets)?;
+    let start = watch.nanos(rt);
+    let found = allowed(&table, identities);
+    let nanos = watch.nanos(rt).wrapping_sub(start) / u128::from(LOOK_UPS);
+    Ok((nanos, found))
 }
 
 /// Both of one map, and how many entries it has.
 fn tell<R: Clock + Eprint + AllocGlobal>(
     rt: &R,
+    watch: Watch,
     filters: &Filters,
     sets: &Sets,
     filter_count: u32,
     count: u32,
 ) -> Result<()>
-    requires some { 1 ≤ count }
-    requires sets { HaveSets sets.now filters.now }
+    requires { 1 ≤ count }
 {
-    let best = making(rt, filters, sets)?;
-    let table = distill(rt.alloc(), filters, sets)?;
-    let (look, found) = looking(rt, &table, count)?;
-    let entries = table.count();
-    drop(table);
+    if !have_sets(filters, sets) {
+        eprintln!(rt; "a peer without a row")?;
+        return Ok(());
+    }
+    let (best, entries) = making(rt, watch, filters, sets)?;
+    let (look, found) = looking(rt, watch, filters, sets, count)?;
     eprintln!(rt;
         "{filter_count} filters of {count} identities: {entries} entries, made in {best} us, look {look} ns ({found} allowed)"
     )?;
     Ok(())
 }
 
-fn measure<R: Clock + Eprint + AllocGlobal>(rt: &R, filter_count: u32, count: u32) -> Result<()>
+/// The same with the identities that the filters' peers select.
+fn measure_rows<R: Clock + Eprint + AllocGlobal>(
+    rt: &R,
+    watch: Watch,
+    filters: &Filters,
+    filter_count: u32,
+    count: u32,
+) -> Result<()>
+    requires some { 1 ≤ count }
+    requires few { count ≤ 2 ^ 16 }
+{
+    let rows = sets(rt.alloc(), filter_count, count)?;
+    tell(rt, watch, filters, &rows, filter_count, count)
+}
+
+fn measure<R: Clock + Eprint + AllocGlobal>(
+    rt: &R,
+    watch: Watch,
+    filter_count: u32,
+    count: u32,
+) -> Result<()>
     requires some { 1 ≤ count }
     requires few { count ≤ 2 ^ 16 }
 {
     let given = filters(rt.alloc(), filter_count)?;
-    let rows = sets(rt.alloc(), filter_count, count)?;
-    if !have_sets(&given, &rows) {
-        eprintln!(rt; "a peer without a row")?;
-        return Ok(());
-    }
-    tell(rt, &given, &rows, filter_count, count)
+    measure_rows(rt, watch, &given, filter_count, count)
 }
 
 /// Times maps of one filter and of many, and two at the limit of entries.
-pub(crate) fn time<R: Clock + Eprint + AllocGlobal>(rt: &R) -> Result<()> {
-    measure(rt, 1, 1_000)?;
-    measure(rt, 1, 4_000)?;
-    measure(rt, 1, 16_000)?;
-    measure(rt, 100, 10)?;
-    measure(rt, 400, 10)?;
-    measure(rt, 1_600, 10)?;
-    measure(rt, 1, 16_384)?;
-    measure(rt, 1, 16_385)
+pub(crate) fn time<R: Clock + Eprint + AllocGlobal>(rt: &R, watch: Watch) -> Result<()> {
+    measure(rt, watch, 1, 1_000)?;
+    measure(rt, watch, 1, 4_000)?;
+    measure(rt, watch, 1, 16_000)?;
+    measure(rt, watch, 100, 10)?;
+    measure(rt, watch, 400, 10)?;
+    measure(rt, watch, 1_600, 10)?;
+    measure(rt, watch, 1, 16_384)?;
+    measure(rt, watch, 1, 16_385)
 }

@@ -3,6 +3,7 @@
 ghost use Rattle.std.specs.Prelude.{◌≤◌};
 
 use crate::holder::{Holder, label_set};
+use crate::watch::Watch;
 use anyhow::Result;
 use pol_addr::{Addr, Family, Prefix};
 use pol_headings::HeadingRef;
@@ -11,7 +12,6 @@ use pol_labels::LabelSet;
 use pol_model::has_reserved;
 use std::alloc::Global;
 use std::rt::Clock;
-use std::time::Instant;
 
 /// How many take a number in one turn, and give it back in the same.
 const WINDOW: u32 = 500;
@@ -95,48 +95,41 @@ fn give_back(identities: &mut Identities, numbers: &[u32]) -> u32 {
 /// How many nanoseconds it took to take a number for each.
 fn time_takes<R: Clock + AllocGlobal>(
     rt: &R,
+    watch: Watch,
     identities: &mut Identities,
     holders: &[Holder],
     numbers: &mut Vec<u32>,
 ) -> Result<u128> {
-    let start = Instant::now(rt)?;
+    let start = watch.nanos(rt);
     take_all(identities, holders, numbers)?;
-    Ok(start.elapsed(rt)?.as_nanos())
+    Ok(watch.nanos(rt).wrapping_sub(start))
 }
 
-/// How many nanoseconds it took to give the numbers back.
-fn time_returns<R: Clock + AllocGlobal>(
-    rt: &R,
-    identities: &mut Identities,
-    numbers: &[u32],
-) -> Result<u128> {
-    let start = Instant::now(rt)?;
-    give_back(identities, numbers);
-    Ok(start.elapsed(rt)?.as_nanos())
-}
-
-/// Both of one turn.
+/// Both of one turn: how many nanoseconds it took to take a number for each, and to give the numbers back.
 fn time_turn<R: Clock + AllocGlobal>(
     rt: &R,
+    watch: Watch,
     identities: &mut Identities,
     holders: &[Holder],
 ) -> Result<(u128, u128)> {
     let mut numbers = Vec::with_capacity(rt.alloc(), holders.len())?;
-    let taking = time_takes(rt, identities, holders, &mut numbers)?;
-    let returning = time_returns(rt, identities, numbers.as_slice())?;
-    Ok((taking, returning))
+    let taking = time_takes(rt, watch, identities, holders, &mut numbers)?;
+    let start = watch.nanos(rt);
+    give_back(identities, numbers.as_slice());
+    Ok((taking, watch.nanos(rt).wrapping_sub(start)))
 }
 
 /// The share of one call in the shortest of all turns.
 fn time_turns<R: Clock + AllocGlobal>(
     rt: &R,
+    watch: Watch,
     identities: &mut Identities,
     holders: &[Holder],
 ) -> Result<(u128, u128)> {
     let mut taking = u128::MAX;
     let mut returning = u128::MAX;
     for _ in 0..TURNS {
-        let (took, returned) = time_turn(rt, identities, holders)?;
+        let (took, returned) = time_turn(rt, watch, identities, holders)?;
         taking = taking.min(took);
         returning = returning.min(returned);
     }
@@ -147,6 +140,7 @@ fn time_turns<R: Clock + AllocGlobal>(
 /// Takes a number for so many more, and gives the nanoseconds that it took.
 fn grow<R: Clock + AllocGlobal>(
     rt: &R,
+    watch: Watch,
     identities: &mut Identities,
     kind: HolderKind,
     first: u32,
@@ -154,12 +148,13 @@ fn grow<R: Clock + AllocGlobal>(
 ) -> Result<u128> {
     let holders = holders(rt.alloc(), kind, first, count)?;
     let mut numbers = Vec::new(rt.alloc());
-    time_takes(rt, identities, holders.as_slice(), &mut numbers)
+    time_takes(rt, watch, identities, holders.as_slice(), &mut numbers)
 }
 
 /// Takes this many numbers, and gives the mean of an acquire on the way.
 fn fill<R: Clock + AllocGlobal>(
     rt: &R,
+    watch: Watch,
     identities: &mut Identities,
     kind: HolderKind,
     count: u32,
@@ -170,7 +165,7 @@ fn fill<R: Clock + AllocGlobal>(
     for turn in 0..count / WINDOW + 1 {
         let first = turn.wrapping_mul(WINDOW);
         let more = count.saturating_sub(first).min(WINDOW);
-        taking = taking.wrapping_add(grow(rt, identities, kind, first, more)?);
+        taking = taking.wrapping_add(grow(rt, watch, identities, kind, first, more)?);
     }
     Ok(taking / u128::from(count))
 }
@@ -178,14 +173,15 @@ fn fill<R: Clock + AllocGlobal>(
 /// How many nanoseconds it took to find the numbers under a heading, in the shortest of all turns.
 fn time_heading<R: Clock + AllocGlobal>(
     rt: &R,
+    watch: Watch,
     identities: &Identities,
     heading: &HeadingRef<'_>,
 ) -> Result<u128> {
     let mut finding = u128::MAX;
     for _ in 0..TURNS {
-        let start = Instant::now(rt)?;
+        let start = watch.nanos(rt);
         let _numbers = identities.numbers_under(rt.alloc(), heading)?;
-        finding = finding.min(start.elapsed(rt)?.as_nanos());
+        finding = finding.min(watch.nanos(rt).wrapping_sub(start));
     }
     Ok(finding)
 }
@@ -212,9 +208,22 @@ fn headings(kind: HolderKind) -> (HeadingRef<'static>, HeadingRef<'static>) {
     }
 }
 
+/// Both of turns that go up to so many rows.
+fn time_turns_at<R: Clock + AllocGlobal>(
+    rt: &R,
+    watch: Watch,
+    identities: &mut Identities,
+    kind: HolderKind,
+    rows: u32,
+) -> Result<(u128, u128)> {
+    let holders = holders(rt.alloc(), kind, rows, WINDOW)?;
+    time_turns(rt, watch, identities, holders.as_slice())
+}
+
 /// Fills the identities up to so many rows of a kind, and times turns that go up to there.
 fn time_at<R: Clock + Eprint + AllocGlobal>(
     rt: &R,
+    watch: Watch,
     identities: &mut Identities,
     what: &str,
     kind: HolderKind,
@@ -222,12 +231,11 @@ fn time_at<R: Clock + Eprint + AllocGlobal>(
 ) -> Result<()>
     requires { 501 ≤ rows }
 {
-    let filling = fill(rt, identities, kind, rows - WINDOW)?;
-    let holders = holders(rt.alloc(), kind, rows, WINDOW)?;
-    let (taking, returning) = time_turns(rt, identities, holders.as_slice())?;
+    let filling = fill(rt, watch, identities, kind, rows - WINDOW)?;
+    let (taking, returning) = time_turns_at(rt, watch, identities, kind, rows)?;
     let (first, second) = headings(kind);
-    let one = time_heading(rt, identities, &first)?;
-    let each = time_heading(rt, identities, &second)?;
+    let one = time_heading(rt, watch, identities, &first)?;
+    let each = time_heading(rt, watch, identities, &second)?;
     eprintln!(rt;
         "{rows:>6} {what:<10} acquire {taking:>4} ns, release {returning:>4} ns, acquire on the way there {filling:>4} ns; the numbers under a heading of one {one:>4} ns, of each {each} ns"
     )?;
@@ -236,6 +244,7 @@ fn time_at<R: Clock + Eprint + AllocGlobal>(
 
 fn measure<R: Clock + Eprint + AllocGlobal>(
     rt: &R,
+    watch: Watch,
     what: &str,
     kind: HolderKind,
     rows: u32,
@@ -243,13 +252,13 @@ fn measure<R: Clock + Eprint + AllocGlobal>(
     requires { 501 ≤ rows }
 {
     let mut identities = Identities::new(rt.alloc())?;
-    time_at(rt, &mut identities, what, kind, rows)
+    time_at(rt, watch, &mut identities, what, kind, rows)
 }
 
 /// Times both kinds at 1,000 rows and at 65,280.
-pub(crate) fn time<R: Clock + Eprint + AllocGlobal>(rt: &R) -> Result<()> {
-    measure(rt, "label sets", HolderKind::Labels, 1_000)?;
-    measure(rt, "label sets", HolderKind::Labels, 65_280)?;
-    measure(rt, "prefixes", HolderKind::Prefix, 1_000)?;
-    measure(rt, "prefixes", HolderKind::Prefix, 65_280)
+pub(crate) fn time<R: Clock + Eprint + AllocGlobal>(rt: &R, watch: Watch) -> Result<()> {
+    measure(rt, watch, "label sets", HolderKind::Labels, 1_000)?;
+    measure(rt, watch, "label sets", HolderKind::Labels, 65_280)?;
+    measure(rt, watch, "prefixes", HolderKind::Prefix, 1_000)?;
+    measure(rt, watch, "prefixes", HolderKind::Prefix, 65_280)
 }

@@ -8,9 +8,12 @@ mod distill;
 mod filter;
 mod holder;
 mod ident;
+mod watch;
 
+use crate::watch::Watch;
 use anyhow::{Result, bail};
 use std::rt::Clock;
+use std::time::Instant;
 use std::{env, io};
 
 /// The first word behind the program's name.
@@ -19,26 +22,27 @@ fn word_of(rt: &HostRuntime) -> io::Result<Option<String>> {
 }
 
 /// Times what the word names.
-fn time_one<R: Clock + Eprint + AllocGlobal>(rt: &R, word: &str) -> Result<()> {
+fn time_one<R: Clock + Eprint + AllocGlobal>(rt: &R, watch: Watch, word: &str) -> Result<()> {
     match word {
-        "ident" => ident::time(rt),
-        "distill" => distill::time(rt),
-        "cache" => cache::time(rt),
-        "delta" => delta::time(rt),
+        "ident" => ident::time(rt, watch),
+        "distill" => distill::time(rt, watch),
+        "cache" => cache::time(rt, watch),
+        "delta" => delta::time(rt, watch),
         _ => bail!("engine_bench times no {word}"),
     }
 }
 
-fn time_all<R: Clock + Eprint + AllocGlobal>(rt: &R) -> Result<()> {
-    ident::time(rt)?;
-    distill::time(rt)?;
-    cache::time(rt)?;
-    delta::time(rt)
+fn time_all<R: Clock + Eprint + AllocGlobal>(rt: &R, watch: Watch) -> Result<()> {
+    ident::time(rt, watch)?;
+    distill::time(rt, watch)?;
+    cache::time(rt, watch)?;
+    delta::time(rt, watch)
 }
 
 fn main(rt: HostRuntime) -> Result<()> {
+    let watch = Watch::since(Instant::now(&rt)?);
     match word_of(&rt)? {
-        Some(word) => time_one(&rt, word.as_str()),
-        None => time_all(&rt),
+        Some(word) => time_one(&rt, watch, word.as_str()),
+        None => time_all(&rt, watch),
     }
 }

@@ -3,6 +3,7 @@ ghost use Rattle.std.specs.Prelude.{◌≡◌};
 ghost use Rattle.pol_selcache.specs.Live.{AreExact};
 
 use crate::cache::asked::{Ask, peers};
+use crate::watch::Watch;
 use anyhow::Result;
 use pol_data::{Memory, Steps};
 use pol_ident::Identities;
@@ -11,7 +12,6 @@ use pol_selcache::{SelectorCache, laws};
 use std::alloc::Global;
 use std::rt::Clock;
 use std::sync::ledger::Ledger;
-use std::time::Instant;
 
 /// How many selectors go and come again in one round.
 const BATCH: u32 = 20;
@@ -81,26 +81,28 @@ fn drop_each(cache: &mut SelectorCache, identities: &Identities, peers: &[Peer])
 /// The selectors of these peers go and come again: the nanoseconds that each takes.
 fn time_both<R: Clock, L: Ledger>(
     rt: &R,
+    watch: Watch,
     cache: &mut SelectorCache,
     identities: &Identities,
     peers: &[Peer],
     steps: &mut Steps<L>,
-) -> Result<(u128, u128)>
+) -> Result<(u128, u128), Memory>
     requires exact { AreExact identities.now cache.old.live }
     ensures exact { AreExact identities.now cache.new.live }
 {
-    let start = Instant::now(rt)?;
+    let start = watch.nanos(rt);
     drop_each(cache, identities, peers);
-    let going = start.elapsed(rt)?.as_nanos();
-    let start = Instant::now(rt)?;
+    let gone = watch.nanos(rt);
     add_each(cache, identities, peers, steps)?;
-    let coming = start.elapsed(rt)?.as_nanos();
+    let coming = watch.nanos(rt).wrapping_sub(gone);
+    let going = gone.wrapping_sub(start);
     Ok((coming / u128::from(BATCH), going / u128::from(BATCH)))
 }
 
 /// The oldest selectors go and come again, which makes others the oldest: the shortest of all rounds.
 pub(crate) fn time_oldest<R: Clock + AllocGlobal, L: Ledger>(
     rt: &R,
+    watch: Watch,
     cache: &mut SelectorCache,
     identities: &Identities,
     ask: Ask,
@@ -112,7 +114,7 @@ pub(crate) fn time_oldest<R: Clock + AllocGlobal, L: Ledger>(
     let mut going = u128::MAX;
     for round in 0..ROUNDS {
         let peers = peers(rt.alloc(), ask, round.wrapping_mul(BATCH), BATCH)?;
-        let (came, went) = time_both(rt, cache, identities, peers.as_slice(), steps)?;
+        let (came, went) = time_both(rt, watch, cache, identities, peers.as_slice(), steps)?;
         coming = coming.min(came);
         going = going.min(went);
     }

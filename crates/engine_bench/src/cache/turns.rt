@@ -9,6 +9,7 @@ ghost use Rattle.pol_selcache.specs.Cache.{MayCome, MayPlan};
 ghost use Rattle.pol_selcache.specs.Live.{AreExact, Live, rows_without};
 
 use crate::holder::Holder;
+use crate::watch::Watch;
 use pol_addr::Prefix;
 use pol_data::Steps;
 use pol_ident::Identities;
@@ -17,7 +18,6 @@ use pol_model::has_reserved;
 use pol_selcache::SelectorCache;
 use std::rt::Clock;
 use std::sync::ledger::Ledger;
-use std::time::Instant;
 
 /// How many times the identity comes and goes in one round.
 const TURNS: u32 = 20;
@@ -140,15 +140,10 @@ fn is_given_back(identities: &mut Identities, number: u32) -> bool
     !identities.held(number)
 }
 
-/// The nanoseconds since a time.
-fn nanos_since<R: Clock>(rt: &R, start: &Instant) -> Option<u128> {
-    let took = start.elapsed(rt).ok()?;
-    Some(took.as_nanos())
-}
-
 /// The identity comes at a revision and goes at the next: the nanoseconds that the sets took for each.
 fn turn<R: Clock, L: Ledger>(
     rt: &R,
+    watch: Watch,
     cache: &mut SelectorCache,
     identities: &mut Identities,
     holder: &Holder,
@@ -162,25 +157,25 @@ fn turn<R: Clock, L: Ledger>(
     ensures exact { IfSome result (λ took. AreExact identities.new cache.new.live) }
 {
     let number = taken(identities, holder)?;
-    let start = Instant::now(rt).ok()?;
+    let start = watch.nanos(rt);
     if !comes(cache, identities, number, revision, steps) {
         return None;
     }
-    let coming = nanos_since(rt, &start)?;
-    let start = Instant::now(rt).ok()?;
+    let came = watch.nanos(rt);
     if !goes(cache, identities, number, revision + 1, steps) {
         return None;
     }
-    let going = nanos_since(rt, &start)?;
+    let went = watch.nanos(rt);
     if !is_given_back(identities, number) {
         return None;
     }
-    Some((coming, going))
+    Some((came.wrapping_sub(start), went.wrapping_sub(came)))
 }
 
 /// The means of a round of turns, whose revisions are above the given one.
 fn round<R: Clock, L: Ledger>(
     rt: &R,
+    watch: Watch,
     cache: &mut SelectorCache,
     identities: &mut Identities,
     holder: &Holder,
@@ -197,7 +192,7 @@ fn round<R: Clock, L: Ledger>(
     let mut going = 0u128;
     for i in 0..TURNS {
         let revision = before + 2 * u64::from(i) + 1;
-        let (came, went) = turn(rt, cache, identities, holder, revision, steps)?;
+        let (came, went) = turn(rt, watch, cache, identities, holder, revision, steps)?;
         coming = coming.wrapping_add(came);
         going = going.wrapping_add(went);
     }
@@ -208,6 +203,7 @@ fn round<R: Clock, L: Ledger>(
 /// The shortest means of all rounds.
 pub(crate) fn rounds<R: Clock, L: Ledger>(
     rt: &R,
+    watch: Watch,
     cache: &mut SelectorCache,
     identities: &mut Identities,
     holder: &Holder,
@@ -220,7 +216,7 @@ pub(crate) fn rounds<R: Clock, L: Ledger>(
     let mut going = u128::MAX;
     for i in 0..ROUNDS {
         let before = u64::from(i) * 40;
-        let (came, went) = round(rt, cache, identities, holder, before, steps)?;
+        let (came, went) = round(rt, watch, cache, identities, holder, before, steps)?;
         coming = coming.min(came);
         going = going.min(went);
     }

@@ -48,14 +48,14 @@ fn filter_copy(alloc: Global, one: &Filter) -> Result<Filter, Memory>
 
 /// These filters, and one more behind them.
 #[tactic(auto, using(crate::proofs::Numbered::pushed_at))]
-fn with_one(alloc: Global, few: &[Filter], one: Filter) -> Result<FilterList, Memory>
-    ensures { IfOk result (λ list. list ≡ few.now ++ one ∷ []) }
+fn with_one(alloc: Global, few: &[Filter], one: &Filter) -> Result<FilterList, Memory>
+    ensures { IfOk result (λ list. list ≡ few.now ++ one.now ∷ []) }
 {
     let mut list = Vec::new(alloc);
     for own in few {
         list.push(filter_copy(alloc, own)?)?;
     }
-    list.push(one)?;
+    list.push(filter_copy(alloc, one)?)?;
     Ok(FilterList::from_vec(list))
 }
 
@@ -82,7 +82,7 @@ pub(crate) fn more_filters(
     ensures extends { IfOk result (Extends few.now) }
 {
     let one = filter(alloc, count, own == 0, ports(alloc, count, own)?)?;
-    let list = with_one(alloc, few.ingress.as_slice(), one)?;
+    let list = with_one(alloc, few.ingress.as_slice(), &one)?;
     Ok(enforced(alloc, list))
 }
 

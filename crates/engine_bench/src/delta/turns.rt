@@ -2,7 +2,7 @@
 ghost use Rattle.std.specs.Prelude.{◌≡◌, IfOk, OnOk};
 ghost use Rattle.std.specs.Arc.{arc_value};
 ghost use Rattle.pol_distill.specs.Sorted.{HaveSets};
-ghost use Rattle.engine_bench.specs.Turns.{AreNumbered, Extends, IsAt, Turns, eleven, ten};
+ghost use Rattle.engine_bench.specs.Turns.{AreNumbered, Extends, GiveSets, IsAt, Turns, eleven, ten};
 
 use crate::delta::inputs::{eleven, moves, rows, ten};
 use pol_data::Memory;
@@ -15,18 +15,36 @@ use std::sync::Arc;
 /// How often the work goes there and back in one round.
 pub(crate) const TURNS: u32 = 128;
 
+/// Changes to these filters that give each of so many peers the set, by moves of these numbers.
+fn changes(
+    alloc: Global,
+    filters: &Arc<Filters>,
+    set: &Arc<IdSet>,
+    gained: &IdSet,
+    lost: &IdSet,
+    count: u32,
+) -> Result<Changes, Memory>
+    ensures sets { IfOk result (GiveSets (arc_value set.now) gained.now lost.now count) }
+    ensures filters { IfOk result (λ changes. arc_value changes.filters ≡ arc_value filters.now) }
+{
+    let told = moves(alloc, count, gained, lost)?;
+    let sets = rows(alloc, count, set)?;
+    Ok(Changes {
+        filters: Arc::try_clone(filters)?,
+        sets,
+        moves: Some(told),
+    })
+}
+
 /// The changes by which the identity comes.
 pub(crate) fn coming(alloc: Global, filters: &Arc<Filters>, count: u32) -> Result<Changes, Memory>
     ensures turns { IfOk result (Turns ten eleven count) }
     ensures filters { IfOk result (λ changes. arc_value changes.filters ≡ arc_value filters.now) }
 {
     let set = Arc::new(alloc, eleven(alloc)?)?;
-    let told = moves(alloc, count, &IdSet::one(266), &IdSet::new(alloc))?;
-    Ok(Changes {
-        filters: Arc::try_clone(filters)?,
-        sets: rows(alloc, count, &set)?,
-        moves: Some(told),
-    })
+    let gained = IdSet::one(266);
+    let lost = IdSet::new(alloc);
+    changes(alloc, filters, &set, &gained, &lost, count)
 }
 
 /// The changes by which it goes.
@@ -35,12 +53,9 @@ pub(crate) fn going(alloc: Global, filters: &Arc<Filters>, count: u32) -> Result
     ensures filters { IfOk result (λ changes. arc_value changes.filters ≡ arc_value filters.now) }
 {
     let set = Arc::new(alloc, ten(alloc)?)?;
-    let told = moves(alloc, count, &IdSet::new(alloc), &IdSet::one(266))?;
-    Ok(Changes {
-        filters: Arc::try_clone(filters)?,
-        sets: rows(alloc, count, &set)?,
-        moves: Some(told),
-    })
+    let gained = IdSet::new(alloc);
+    let lost = IdSet::one(266);
+    changes(alloc, filters, &set, &gained, &lost, count)
 }
 
 /// The identity comes.
@@ -68,17 +83,13 @@ fn go(work: &mut Work, changes: &Changes, count: u32) -> Result<usize, Memory>
 }
 
 /// Changes of filters alone: each peer keeps its set.
-pub(crate) fn still(alloc: Global, filters: Filters, count: u32) -> Result<Changes, Memory>
+pub(crate) fn still(alloc: Global, filters: &Arc<Filters>, count: u32) -> Result<Changes, Memory>
     ensures turns { IfOk result (Turns ten ten count) }
-    ensures filters { IfOk result (λ changes. arc_value changes.filters ≡ filters) }
+    ensures filters { IfOk result (λ changes. arc_value changes.filters ≡ arc_value filters.now) }
 {
     let set = Arc::new(alloc, ten(alloc)?)?;
-    let told = moves(alloc, count, &IdSet::new(alloc), &IdSet::new(alloc))?;
-    Ok(Changes {
-        filters: Arc::new(alloc, filters)?,
-        sets: rows(alloc, count, &set)?,
-        moves: Some(told),
-    })
+    let none = IdSet::new(alloc);
+    changes(alloc, filters, &set, &none, &none, count)
 }
 
 /// A filter comes.
