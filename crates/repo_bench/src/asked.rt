@@ -3,7 +3,7 @@
 use crate::peers::PeersOf;
 use crate::pods::{endpoint, identity, no_endpoint, no_identity};
 use crate::policies::{no_policy, policy};
-use anyhow::Result;
+use pol_data::Memory;
 use pol_model::{Mode, Request};
 use std::alloc::Global;
 
@@ -60,12 +60,17 @@ fn family(named: PeersOf) -> &'static str {
 }
 
 /// The policy of that number that the repository is filled with: nobody else lists its peers.
-pub(crate) fn filling(alloc: Global, named: PeersOf, number: u32) -> Result<Request> {
+pub(crate) fn filling(alloc: Global, named: PeersOf, number: u32) -> Result<Request, Memory> {
     policy(alloc, family(named), number, named, number)
 }
 
 /// A policy. The one that takes its place has the peers that the policy before it had.
-fn policy_request(alloc: Global, step: Step, named: PeersOf, number: u32) -> Result<Request> {
+fn policy_request(
+    alloc: Global,
+    step: Step,
+    named: PeersOf,
+    number: u32,
+) -> Result<Request, Memory> {
     match step {
         Step::Comes => policy(alloc, "new", number, named, number.wrapping_add(1)),
         Step::Replaces => policy(alloc, "new", number, named, number),
@@ -73,21 +78,26 @@ fn policy_request(alloc: Global, step: Step, named: PeersOf, number: u32) -> Res
     }
 }
 
-fn oldest_request(alloc: Global, step: Step, named: PeersOf, number: u32) -> Result<Request> {
+fn oldest_request(
+    alloc: Global,
+    step: Step,
+    named: PeersOf,
+    number: u32,
+) -> Result<Request, Memory> {
     match step {
         Step::Goes => no_policy(alloc, family(named), number),
         _ => filling(alloc, named, number),
     }
 }
 
-fn identity_request(alloc: Global, step: Step, number: u32) -> Result<Request> {
+fn identity_request(alloc: Global, step: Step, number: u32) -> Result<Request, Memory> {
     match step {
         Step::Goes => no_identity(alloc, number, "other"),
         _ => identity(alloc, number, "other"),
     }
 }
 
-fn endpoint_request(alloc: Global, step: Step, number: u32) -> Result<Request> {
+fn endpoint_request(alloc: Global, step: Step, number: u32) -> Result<Request, Memory> {
     match step {
         Step::Goes => no_endpoint(alloc, number, "another"),
         _ => endpoint(alloc, number, "another"),
@@ -109,7 +119,7 @@ fn request(
     step: Step,
     run: u32,
     number: u32,
-) -> Result<Request> {
+) -> Result<Request, Memory> {
     match kind {
         TimedRequest::Identity => identity_request(alloc, step, number),
         TimedRequest::Endpoint => endpoint_request(alloc, step, number),
@@ -128,7 +138,7 @@ pub(crate) fn requests(
     kind: TimedRequest,
     step: Step,
     run: u32,
-) -> Result<Vec<Request>> {
+) -> Result<Vec<Request>, Memory> {
     let mut list = Vec::with_capacity(alloc, BATCH as usize)?;
     for number in 0..BATCH {
         list.push(request(alloc, kind, step, run, number)?)?;

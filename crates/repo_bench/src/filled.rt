@@ -6,7 +6,7 @@ use crate::peers::PeersOf;
 use crate::pods::{endpoint, identity};
 use crate::runs::commit;
 use anyhow::Result;
-use pol_data::Steps;
+use pol_data::{Memory, Steps};
 use pol_model::Request;
 use pol_repo::Repo;
 use std::alloc::Global;
@@ -33,7 +33,7 @@ enum Filling {
     Policies(PeersOf),
 }
 
-fn filling_request(alloc: Global, filled: Filling, number: u32) -> Result<Request> {
+fn filling_request(alloc: Global, filled: Filling, number: u32) -> Result<Request, Memory> {
     match filled {
         Filling::Identities => identity(alloc, number, "default"),
         Filling::Endpoints => endpoint(alloc, number.wrapping_add(BATCH), "default"),

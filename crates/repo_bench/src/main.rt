@@ -9,6 +9,7 @@ mod pods;
 mod policies;
 mod runs;
 mod table;
+mod watch;
 
 ghost use Rattle.std.specs.Prelude.{◌≡◌, None};
 
@@ -16,6 +17,7 @@ use crate::figures::Figures;
 use crate::filled::{Sizes, fill};
 use crate::runs::time_runs;
 use crate::table::{Column, KINDS, tell};
+use crate::watch::Watch;
 use anyhow::Result;
 use pol_data::Steps;
 use pol_model::Mode;
@@ -23,10 +25,12 @@ use pol_repo::Repo;
 use std::marker::Brand;
 use std::rt::Clock;
 use std::sync::ledger::{Blank, Ledger};
+use std::time::Instant;
 
 /// Times each kind.
 fn time_all<R: Clock + AllocGlobal, L: Ledger>(
     rt: &R,
+    watch: Watch,
     repo: &mut Repo,
     steps: &mut Steps<L>,
 ) -> Result<Vec<Figures>>
@@ -34,7 +38,7 @@ fn time_all<R: Clock + AllocGlobal, L: Ledger>(
 {
     let mut figures = Vec::new(rt.alloc());
     for kind in &KINDS {
-        figures.push(time_runs(rt, repo, *kind, steps)?)?;
+        figures.push(time_runs(rt, watch, repo, *kind, steps)?)?;
     }
     Ok(figures)
 }
@@ -42,6 +46,7 @@ fn time_all<R: Clock + AllocGlobal, L: Ledger>(
 /// Fills the repository up to the sizes, and times each kind there.
 fn measure_in<R: Clock + AllocGlobal, L: Ledger>(
     rt: &R,
+    watch: Watch,
     repo: &mut Repo,
     sizes: Sizes,
     steps: &mut Steps<L>,
@@ -49,12 +54,13 @@ fn measure_in<R: Clock + AllocGlobal, L: Ledger>(
     requires idle { repo.old.prepared ≡ None }
 {
     fill(rt.alloc(), repo, sizes, steps)?;
-    time_all(rt, repo, steps)
+    time_all(rt, watch, repo, steps)
 }
 
 /// The same from an empty repository.
 fn measure_over<R: Clock + AllocGlobal, L: Ledger>(
     rt: &R,
+    watch: Watch,
     blank: Blank,
     sizes: Sizes,
 ) -> Result<Vec<Figures>>
@@ -64,11 +70,11 @@ fn measure_over<R: Clock + AllocGlobal, L: Ledger>(
 {
     let mut steps = Steps::<L>::new(blank);
     let mut repo = Repo::new(rt.alloc(), Mode::Default, true)?;
-    measure_in(rt, &mut repo, sizes, &mut steps)
+    measure_in(rt, watch, &mut repo, sizes, &mut steps)
 }
 
-fn measure<R: Clock + AllocGlobal>(rt: &R, sizes: Sizes) -> Result<Vec<Figures>> {
-    measure_over::<R, Brand>(rt, Blank::new(1), sizes)
+fn measure<R: Clock + AllocGlobal>(rt: &R, watch: Watch, sizes: Sizes) -> Result<Vec<Figures>> {
+    measure_over::<R, Brand>(rt, watch, Blank::new(1), sizes)
 }
 
 /// What is doubled.
@@ -103,6 +109,7 @@ fn sizes_with(doubled: Doubled, count: u32) -> Sizes {
 /// Doubles it from a count on, and tells the figures at so many counts.
 fn double<R: Clock + Eprint + AllocGlobal>(
     rt: &R,
+    watch: Watch,
     doubled: Doubled,
     what: &str,
     least: u32,
@@ -111,7 +118,7 @@ fn double<R: Clock + Eprint + AllocGlobal>(
     let mut columns = Vec::new(rt.alloc());
     let mut count = least;
     for _ in 0..times {
-        let figures = measure(rt, sizes_with(doubled, count))?;
+        let figures = measure(rt, watch, sizes_with(doubled, count))?;
         columns.push(Column { count, figures })?;
         count = count.wrapping_mul(2);
     }
@@ -119,9 +126,10 @@ fn double<R: Clock + Eprint + AllocGlobal>(
 }
 
 fn main(rt: HostRuntime) -> Result<()> {
+    let watch = Watch::since(Instant::now(&rt)?);
     eprintln!(rt; "microseconds of a commit, and how many times the figure on the left they are")?;
-    double(&rt, Doubled::Policies, "policies", 250, 4)?;
-    double(&rt, Doubled::Identities, "identities", 250, 7)?;
-    double(&rt, Doubled::Endpoints, "endpoints", 64, 3)?;
-    double(&rt, Doubled::Prefixes, "prefixes", 1_000, 5)
+    double(&rt, watch, Doubled::Policies, "policies", 250, 4)?;
+    double(&rt, watch, Doubled::Identities, "identities", 250, 7)?;
+    double(&rt, watch, Doubled::Endpoints, "endpoints", 64, 3)?;
+    double(&rt, watch, Doubled::Prefixes, "prefixes", 1_000, 5)
 }

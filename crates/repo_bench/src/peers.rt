@@ -2,8 +2,8 @@
 ghost use Rattle.std.specs.Prelude.{◌≤◌};
 
 use crate::pods::{all_but, pods, with_account};
-use anyhow::Result;
 use pol_addr::{Addr, Prefix};
+use pol_data::Memory;
 use pol_rule::{Peer, Prefixes};
 use std::alloc::Global;
 
@@ -34,7 +34,7 @@ fn cidr(alloc: Global, bits: u32, len: u8) -> Peer
 }
 
 /// The other side of that number.
-pub(crate) fn peer(alloc: Global, named: PeersOf, number: u32) -> Result<Peer> {
+pub(crate) fn peer(alloc: Global, named: PeersOf, number: u32) -> Result<Peer, Memory> {
     Ok(match named {
         PeersOf::Pods => Peer::Labels(pods(alloc, number)?),
         PeersOf::OtherPods => Peer::Labels(with_account(alloc, number)?),

@@ -2,12 +2,12 @@
 
 use crate::peers::{PeersOf, peer};
 use crate::pods::pods;
-use anyhow::Result;
 use pol_data::{Memory, Text};
 use pol_model::Request;
 use pol_ports::{PortRange, Proto};
 use pol_rule::{
-    Entries, Entry, PeerList, Peers, Policy, PolicyKey, PortSpec, PortSpecs, Rule, Rules,
+    DefaultDeny, Entries, Entry, PeerList, Peers, Policy, PolicyKey, PortSpec, PortSpecs, Rule,
+    Rules,
 };
 use std::alloc::Global;
 
@@ -29,15 +29,17 @@ fn port(number: u32) -> PortSpec {
     }
 }
 
-fn entry(alloc: Global, named: PeersOf, number: u32) -> Result<Entry> {
+fn entry(alloc: Global, named: PeersOf, number: u32) -> Result<Entry, Memory> {
+    let ports = PortSpecs::one(alloc, port(number))?;
+    let peers = PeerList::one(alloc, peer(alloc, named, number)?)?;
     Ok(Entry {
-        peers: Peers::Listed(PeerList::one(alloc, peer(alloc, named, number)?)?),
-        ports: PortSpecs::one(alloc, port(number))?,
+        peers: Peers::Listed(peers),
+        ports,
     })
 }
 
 /// Entries of the other sides from a number on.
-fn entries(alloc: Global, named: PeersOf, first: u32) -> Result<Entries> {
+fn entries(alloc: Global, named: PeersOf, first: u32) -> Result<Entries, Memory> {
     let mut list = Vec::new(alloc);
     for i in 0..HALF {
         list.push(entry(alloc, named, first.wrapping_add(i))?)?;
@@ -55,11 +57,18 @@ fn key(alloc: Global, family: &str, number: u32) -> Result<PolicyKey, Memory> {
 }
 
 /// One rule for the pods of an application.
-fn rule(alloc: Global, subject: u32, named: PeersOf, first: u32) -> Result<Rule> {
-    let mut rule = Rule::new(alloc, pods(alloc, subject)?);
-    rule.ingress = entries(alloc, named, first)?;
-    rule.egress = entries(alloc, named, first.wrapping_add(HALF))?;
-    Ok(rule)
+fn rule(alloc: Global, number: u32, named: PeersOf, first: u32) -> Result<Rule, Memory> {
+    let subject = pods(alloc, number)?;
+    let ingress = entries(alloc, named, first)?;
+    let egress = entries(alloc, named, first.wrapping_add(HALF))?;
+    Ok(Rule {
+        subject,
+        ingress,
+        ingress_deny: Entries::empty(alloc),
+        egress,
+        egress_deny: Entries::empty(alloc),
+        default_deny: DefaultDeny::nothing_said(),
+    })
 }
 
 /// The policy of that name, with ten entries of the other sides from ten times a number on.
@@ -69,15 +78,16 @@ pub(crate) fn policy(
     number: u32,
     named: PeersOf,
     ten: u32,
-) -> Result<Request> {
+) -> Result<Request, Memory> {
+    let key = key(alloc, family, number)?;
     let rule = rule(alloc, number % SUBJECTS, named, ten.wrapping_mul(10))?;
     Ok(Request::Apply(Policy {
-        key: key(alloc, family, number)?,
+        key,
         rules: Rules::one(alloc, rule)?,
     }))
 }
 
 /// It goes.
-pub(crate) fn no_policy(alloc: Global, family: &str, number: u32) -> Result<Request> {
+pub(crate) fn no_policy(alloc: Global, family: &str, number: u32) -> Result<Request, Memory> {
     Ok(Request::Remove(key(alloc, family, number)?))
 }

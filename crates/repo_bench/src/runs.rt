@@ -4,13 +4,13 @@ ghost use Rattle.std.specs.Prelude.{◌≡◌, None};
 use crate::asked::{BATCH, Step, TimedRequest, requests, steps_of};
 use crate::figures::{Figures, none};
 use crate::peers::PeersOf;
+use crate::watch::Watch;
 use anyhow::Result;
 use pol_data::Steps;
 use pol_model::{CommitError, Request};
 use pol_repo::Repo;
 use std::rt::Clock;
 use std::sync::ledger::Ledger;
-use std::time::Instant;
 
 /// How many runs of a kind there are; the shortest counts. There are no more policies of a kind than 100 in the least
 /// repository, and each run on the oldest policies takes the next ones.
@@ -54,21 +54,23 @@ fn commit_all<L: Ledger>(
 /// The nanoseconds that it took to commit the requests.
 fn time_all<R: Clock, L: Ledger>(
     rt: &R,
+    watch: Watch,
     repo: &mut Repo,
     requests: Vec<Request>,
     steps: &mut Steps<L>,
-) -> Result<u128>
+) -> Result<u128, CommitError>
     requires idle { repo.old.prepared ≡ None }
     ensures idle { repo.new.prepared ≡ None }
 {
-    let start = Instant::now(rt)?;
+    let start = watch.nanos(rt);
     commit_all(repo, requests, steps)?;
-    Ok(start.elapsed(rt)?.as_nanos())
+    Ok(watch.nanos(rt).wrapping_sub(start))
 }
 
 /// The share of one commit in a run of one step.
 fn time_step<R: Clock + AllocGlobal, L: Ledger>(
     rt: &R,
+    watch: Watch,
     repo: &mut Repo,
     kind: TimedRequest,
     step: Step,
@@ -79,13 +81,14 @@ fn time_step<R: Clock + AllocGlobal, L: Ledger>(
     ensures idle { repo.new.prepared ≡ None }
 {
     let requests = requests(rt.alloc(), kind, step, run)?;
-    let took = time_all(rt, repo, requests, steps)?;
+    let took = time_all(rt, watch, repo, requests, steps)?;
     Ok(took / u128::from(BATCH))
 }
 
 /// Times each step of a kind.
 fn time_run<R: Clock + AllocGlobal, L: Ledger>(
     rt: &R,
+    watch: Watch,
     repo: &mut Repo,
     kind: TimedRequest,
     run: u32,
@@ -96,7 +99,7 @@ fn time_run<R: Clock + AllocGlobal, L: Ledger>(
 {
     let mut figures = none();
     for step in steps_of(kind) {
-        figures = figures.with(*step, time_step(rt, repo, kind, *step, run, steps)?);
+        figures = figures.with(*step, time_step(rt, watch, repo, kind, *step, run, steps)?);
     }
     Ok(figures)
 }
@@ -104,6 +107,7 @@ fn time_run<R: Clock + AllocGlobal, L: Ledger>(
 /// The least figures of all runs.
 pub(crate) fn time_runs<R: Clock + AllocGlobal, L: Ledger>(
     rt: &R,
+    watch: Watch,
     repo: &mut Repo,
     kind: TimedRequest,
     steps: &mut Steps<L>,
@@ -111,9 +115,9 @@ pub(crate) fn time_runs<R: Clock + AllocGlobal, L: Ledger>(
     requires idle { repo.old.prepared ≡ None }
     ensures idle { repo.new.prepared ≡ None }
 {
-    let mut least = time_run(rt, repo, kind, 0, steps)?;
+    let mut least = time_run(rt, watch, repo, kind, 0, steps)?;
     for run in 1..runs_of(kind) {
-        least = least.lesser(time_run(rt, repo, kind, run, steps)?);
+        least = least.lesser(time_run(rt, watch, repo, kind, run, steps)?);
     }
     Ok(least)
 }

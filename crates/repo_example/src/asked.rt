@@ -7,7 +7,8 @@ use pol_labels::{Label, LabelSet, Selector};
 use pol_model::Request;
 use pol_repo::Repo;
 use pol_rule::{
-    Entries, Entry, Peer, PeerList, Peers, Policy, PolicyKey, PortSpecs, Prefixes, Rule, Rules,
+    DefaultDeny, Entries, Entry, Peer, PeerList, Peers, Policy, PolicyKey, PortSpecs, Prefixes,
+    Rule, Rules,
 };
 use std::alloc::Global;
 use std::sync::ledger::Ledger;
@@ -20,8 +21,9 @@ fn labels(alloc: Global) -> Option<LabelSet> {
 
 /// An endpoint `web` of the namespace `default`, with the address 192.168.0.1.
 pub(crate) fn endpoint(alloc: Global) -> Option<Request> {
+    let name = Text::from_str(alloc, "web").ok()?;
     Some(Request::AddEndpoint {
-        name: Text::from_str(alloc, "web").ok()?,
+        name,
         labels: labels(alloc)?,
         address: Addr::from_octets(192, 168, 0, 1),
     })
@@ -58,11 +60,22 @@ fn entries(alloc: Global) -> Option<Entries> {
     Entries::one(alloc, entry).ok()
 }
 
+/// A rule of what these endpoints may reach.
+fn rule(alloc: Global, subject: Selector, egress: Entries) -> Rule {
+    Rule {
+        subject,
+        ingress: Entries::empty(alloc),
+        ingress_deny: Entries::empty(alloc),
+        egress,
+        egress_deny: Entries::empty(alloc),
+        default_deny: DefaultDeny::nothing_said(),
+    }
+}
+
 fn rules(alloc: Global) -> Option<Rules> {
     let everyone = Selector::from_requirements(alloc, Vec::new(alloc)).ok()?;
-    let mut rule = Rule::new(alloc, everyone);
-    rule.egress = entries(alloc)?;
-    Rules::one(alloc, rule).ok()
+    let egress = entries(alloc)?;
+    Rules::one(alloc, rule(alloc, everyone, egress)).ok()
 }
 
 fn key(alloc: Global) -> Option<PolicyKey> {

@@ -42,6 +42,21 @@ fn taken_first<L: Ledger>(alloc: Global, repo: &mut Repo, steps: &mut Steps<L>) 
     repo.take(alloc, 0, None).ok()
 }
 
+/// How many have the table that was taken first once the request is committed, and how many the one that is taken then.
+fn holders_after<L: Ledger>(
+    alloc: Global,
+    repo: &mut Repo,
+    request: Request,
+    steps: &mut Steps<L>,
+    first: &Taken,
+) -> Option<(usize, usize)>
+    requires idle { repo.old.prepared ≡ None }
+    ensures idle { IfSome result (λ _. repo.new.prepared ≡ None) }
+{
+    let last = taken_after(alloc, repo, request, steps)?;
+    Some((holders(first), holders(&last)))
+}
+
 /// With the policy its prefixes go: the repository has a new table, and who has the old one keeps it.
 fn show_without_policy<R: Print + AllocGlobal, L: Ledger>(
     rt: &R,
@@ -54,14 +69,10 @@ fn show_without_policy<R: Print + AllocGlobal, L: Ledger>(
     let Some(request) = no_policy(rt.alloc()) else {
         return Ok(());
     };
-    let Some(last) = taken_after(rt.alloc(), repo, request, steps) else {
+    let Some((kept, made)) = holders_after(rt.alloc(), repo, request, steps, first) else {
         return Ok(());
     };
-    println!(rt;
-        "without the policy: {} have the old table, {} a new one",
-        holders(first),
-        holders(&last)
-    )?;
+    println!(rt; "without the policy: {kept} have the old table, {made} a new one")?;
     Ok(())
 }
 
@@ -75,14 +86,24 @@ fn show_other_mode<R: Print + AllocGlobal, L: Ledger>(
     requires idle { repo.old.prepared ≡ None }
 {
     let request = Request::SetMode(Mode::Always);
-    let Some(_second) = taken_after(rt.alloc(), repo, request, steps) else {
+    let Some((kept, _)) = holders_after(rt.alloc(), repo, request, steps, first) else {
         return Ok(());
     };
-    println!(rt;
-        "in another mode: {} have the table of prefixes",
-        holders(first)
-    )?;
+    println!(rt; "in another mode: {kept} have the table of prefixes")?;
     show_without_policy(rt, repo, steps, first)
+}
+
+/// Shows who has the table that was taken first, and then the same after each request.
+fn show_first<R: Print + AllocGlobal, L: Ledger>(
+    rt: &R,
+    repo: &mut Repo,
+    steps: &mut Steps<L>,
+    first: &Taken,
+) -> Result<()>
+    requires idle { repo.old.prepared ≡ None }
+{
+    println!(rt; "taken once: {} have the table of prefixes", holders(first))?;
+    show_other_mode(rt, repo, steps, first)
 }
 
 fn show_in<R: Print + AllocGlobal, L: Ledger>(
@@ -92,14 +113,10 @@ fn show_in<R: Print + AllocGlobal, L: Ledger>(
 ) -> Result<()>
     requires idle { repo.old.prepared ≡ None }
 {
-    let Some(first) = taken_first(rt.alloc(), repo, steps) else {
-        return Ok(());
-    };
-    println!(rt;
-        "taken once: {} have the table of prefixes",
-        holders(&first)
-    )?;
-    show_other_mode(rt, repo, steps, &first)
+    match taken_first(rt.alloc(), repo, steps) {
+        Some(first) => show_first(rt, repo, steps, &first),
+        None => Ok(()),
+    }
 }
 
 fn show_over<R: Print + AllocGlobal, L: Ledger>(rt: &R, blank: Blank) -> Result<()>

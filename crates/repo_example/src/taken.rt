@@ -92,14 +92,16 @@ fn show_moves<R: Print>(rt: &R, taken: &Taken, since: u64) -> Result<()> {
     Ok(())
 }
 
+fn show_taken<R: Print>(rt: &R, taken: &Taken, since: u64) -> Result<()> {
+    show_endpoint(rt, taken)?;
+    show_sets(rt, taken)?;
+    show_addresses(rt, taken)?;
+    show_moves(rt, taken, since)
+}
+
 fn show_since<R: Print + AllocGlobal>(rt: &R, since: u64) -> Result<()> {
     match taken_over::<Brand>(Blank::new(1), rt.alloc(), since) {
-        Some(taken) => {
-            show_endpoint(rt, &taken)?;
-            show_sets(rt, &taken)?;
-            show_addresses(rt, &taken)?;
-            show_moves(rt, &taken, since)
-        }
+        Some(taken) => show_taken(rt, &taken, since),
         None => Ok(()),
     }
 }
