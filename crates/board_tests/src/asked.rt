@@ -5,8 +5,9 @@ ghost use Rattle.pol_history.specs.Meet.{has};
 use pol_addr::Addr;
 use pol_data::{Memory, Steps, Text};
 use pol_labels::{Label, LabelSet};
-use pol_model::Request;
+use pol_model::{Query, Remote, Request};
 use pol_node::{Node, NodeName, Pass};
+use pol_ports::{Direction, Proto};
 use std::alloc::Global;
 use std::sync::Wait;
 use std::sync::ledger::Ledger;
@@ -28,6 +29,17 @@ pub(crate) fn endpoint(alloc: Global) -> Result<Request, Memory> {
         name: Text::from_str(alloc, "a")?,
         labels,
         address: Addr::from_octets(10, 0, 0, 1),
+    })
+}
+
+/// What is asked again and again: TCP to port 80 of the endpoint `a` from outside the cluster.
+pub(crate) fn query(alloc: Global) -> Result<Query, Memory> {
+    Ok(Query {
+        endpoint: Text::from_str(alloc, "a")?,
+        dir: Direction::Ingress,
+        remote: Remote::Identity(2),
+        proto: Proto::Tcp,
+        port: 80,
     })
 }
 

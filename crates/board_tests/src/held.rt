@@ -5,8 +5,9 @@ ghost use Rattle.pol_board.specs.Counts.{new_passes};
 ghost use Rattle.pol_history.specs.Meet.{has};
 ghost use Rattle.pol_model.specs.declared.options.Mode.TheVariants.{Default};
 
-use crate::looks::{endpoint, query, turn};
-use crate::stand::{Seats, open, seated};
+use crate::asked::{endpoint, query};
+use crate::looks::turn;
+use crate::stand::{LIMIT, PASSES, Seats, commit, open, seated};
 use pol_board::{LookError, NewBook, Verdict};
 use pol_data::{Memory, Steps};
 use pol_mapkey::Word;
@@ -47,25 +48,6 @@ fn sees(sign: &AtomicBool) -> bool {
     false
 }
 
-/// Commits a mode under the lock that is held.
-fn set_mode<N: NodeName, W: Wait, R: Wait + Drop, L: Ledger>(
-    rt: &W,
-    alloc: Global,
-    desk: &mut Desk<N, R>,
-    pass: &mut Pass<N>,
-    mode: Mode,
-    steps: &mut Steps<L>,
-) -> bool
-    requires handed_out { has N.passes pass.old.number ≡ true }
-    ensures number { pass.new.number ≡ pass.old.number }
-{
-    let request = Request::SetMode(mode);
-    if !request.is_short() {
-        return false;
-    }
-    desk.commit(rt, alloc, pass, request, steps).is_ok()
-}
-
 /// Whether both commits were made, and all looks were answered between them, while the lock was held.
 fn hold<N: NodeName, W: Wait, R: Wait + Drop, L: Ledger>(
     rt: &W,
@@ -78,12 +60,14 @@ fn hold<N: NodeName, W: Wait, R: Wait + Drop, L: Ledger>(
     requires handed_out { has N.passes pass.old.number ≡ true }
 {
     let mut desk = desk.lock(rt);
-    let first = set_mode(rt, alloc, &mut desk, pass, Mode::Always, steps);
+    let always = Request::SetMode(Mode::Always);
+    let first = commit(rt, alloc, &mut desk, pass, always, steps);
     signs.held.store(true, Ordering::SeqCst);
     let looked = sees(&signs.looked);
-    let second = set_mode(rt, alloc, &mut desk, pass, Mode::Default, steps);
+    let default = Request::SetMode(Mode::Default);
+    let second = commit(rt, alloc, &mut desk, pass, default, steps);
     MutexGuard::unlock(desk);
-    first && looked && second
+    first.is_ok() && looked && second.is_ok()
 }
 
 /// The same, with steps of its own.
@@ -175,17 +159,10 @@ fn publish<N: NodeName, W: Wait, R: Wait + Drop, L: Ledger>(
     requires handed_out { has N.passes pass.old.number ≡ true }
     ensures number { pass.new.number ≡ pass.old.number }
 {
+    let request = endpoint(alloc)?;
     let mut steps = Steps::<L>::new(blank);
     let mut slot = Slot::open(slot);
-    turn(
-        rt,
-        alloc,
-        desk,
-        &mut slot,
-        pass,
-        endpoint(alloc)?,
-        &mut steps,
-    )
+    turn(rt, alloc, desk, &mut slot, pass, request, &mut steps)
 }
 
 /// Whether the lock was held as long as the other looked, and how many of its answers are right.
@@ -226,8 +203,8 @@ fn run_seated<N: NodeName + Send + Sync, W: Threads + Wait + Sync, R: Wait + Dro
     desk: &Mutex<Desk<N, R>>,
     passes: Vec<Pass<N>>,
 ) -> Result<(bool, u32), Memory>
-    requires new { passes.items ≡ new_passes 4 }
-    requires passes { N.passes ≡ map (λ pass. pass.number) (new_passes 4) }
+    requires new { passes.items ≡ new_passes PASSES }
+    requires passes { N.passes ≡ map (λ pass. pass.number) (new_passes PASSES) }
 {
     let seats = seated(passes)?;
     run(rt, alloc, desk, seats)
@@ -240,8 +217,8 @@ fn run_named<N: NodeName + Send + Sync, W: Threads + Wait + Sync>(
     book: NewBook,
 ) -> Result<(bool, u32), Memory>
     requires book { book ≡ N.book }
-    requires options { N.options ≡ record { mode = Default; localhost = true; map_max = Some 16384 } }
-    requires passes { N.passes ≡ map (λ pass. pass.number) (new_passes 4) }
+    requires options { N.options ≡ record { mode = Default; localhost = true; map_max = Some LIMIT } }
+    requires passes { N.passes ≡ map (λ pass. pass.number) (new_passes PASSES) }
 {
     let (desk, passes) = open::<N, W>(rt, alloc, book)?;
     let desk = Mutex::new(desk);

@@ -5,14 +5,13 @@ ghost use Rattle.pol_board.specs.Counts.{new_passes};
 ghost use Rattle.pol_history.specs.Meet.{has};
 ghost use Rattle.pol_model.specs.declared.options.Mode.TheVariants.{Default};
 
-use crate::reading::commit;
-use crate::stand::{Seats, open, seated};
+use crate::asked::{endpoint, query};
+use crate::stand::{LIMIT, PASSES, Seats, commit_under, open, seated};
 use pol_board::{LookError, NewBook, Verdict};
 use pol_data::{Memory, Steps};
 use pol_mapkey::Word;
 use pol_model::{Mode, Query, Request};
 use pol_node::{Desk, NodeName, Pass, Regen, Slot};
-use pol_script::{Command, read_line};
 use std::alloc::Global;
 use std::marker::Brand;
 use std::sync::atomic::{AtomicBool, AtomicU32, Ordering};
@@ -33,33 +32,6 @@ const BURST: u64 = 1_024;
 
 /// How often the thread that publishes asks whether the others have looked.
 const TURNS: u32 = 100_000_000;
-
-const ENDPOINT: &str =
-    "{\"op\":\"endpoint\",\"name\":\"a\",\"labels\":[\"k8s:io.kubernetes.pod.namespace=default\"],\"address\":\"10.0.0.1\"}";
-
-const VERDICT: &str =
-    "{\"op\":\"verdict\",\"endpoint\":\"a\",\"direction\":\"ingress\",\"identity\":2,\"protocol\":\"TCP\",\"port\":80}";
-
-/// The endpoint comes.
-pub(crate) fn endpoint(alloc: Global) -> Result<Request, Memory> {
-    match read_line(alloc, ENDPOINT.as_bytes()) {
-        Ok(
-            Command::Commit {
-                session: _,
-                request,
-            },
-        ) => Ok(request),
-        _ => Err(Memory),
-    }
-}
-
-/// What is asked again and again.
-pub(crate) fn query(alloc: Global) -> Result<Query, Memory> {
-    match read_line(alloc, VERDICT.as_bytes()) {
-        Ok(Command::Look { session: _, query }) => Ok(query),
-        _ => Err(Memory),
-    }
-}
 
 /// What the threads share.
 #[derive(Drop)]
@@ -251,7 +223,7 @@ pub(crate) fn turn<N: NodeName, W: Wait, R: Wait + Drop, L: Ledger>(
     requires handed_out { has N.passes pass.old.number ≡ true }
     ensures number { pass.new.number ≡ pass.old.number }
 {
-    commit(rt, alloc, desk, pass, request, steps)?;
+    commit_under(rt, alloc, desk, pass, request, steps)?;
     match slot.regenerate_over(rt, alloc, desk, 0) {
         Ok(Regen::Published(revision)) => Ok(revision),
         _ => Err(Memory),
@@ -369,8 +341,8 @@ fn run_seated<N: NodeName + Send + Sync, W: Threads + Wait + Sync, R: Wait + Dro
     desk: &Mutex<Desk<N, R>>,
     passes: Vec<Pass<N>>,
 ) -> Result<(Looked, Looked, u64), Memory>
-    requires new { passes.items ≡ new_passes 4 }
-    requires passes { N.passes ≡ map (λ pass. pass.number) (new_passes 4) }
+    requires new { passes.items ≡ new_passes PASSES }
+    requires passes { N.passes ≡ map (λ pass. pass.number) (new_passes PASSES) }
 {
     let seats = seated(passes)?;
     run(rt, alloc, desk, seats)
@@ -383,8 +355,8 @@ fn run_named<N: NodeName + Send + Sync, W: Threads + Wait + Sync>(
     book: NewBook,
 ) -> Result<(Looked, Looked, u64), Memory>
     requires book { book ≡ N.book }
-    requires options { N.options ≡ record { mode = Default; localhost = true; map_max = Some 16384 } }
-    requires passes { N.passes ≡ map (λ pass. pass.number) (new_passes 4) }
+    requires options { N.options ≡ record { mode = Default; localhost = true; map_max = Some LIMIT } }
+    requires passes { N.passes ≡ map (λ pass. pass.number) (new_passes PASSES) }
 {
     let (desk, passes) = open::<N, W>(rt, alloc, book)?;
     let desk = Mutex::new(desk);

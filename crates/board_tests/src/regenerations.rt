@@ -5,6 +5,7 @@ ghost use Rattle.pol_history.specs.Meet.{has};
 
 use crate::asked::{commit, endpoint};
 use crate::running::{config, open};
+use crate::stand::LIMIT;
 use pol_data::{Memory, Steps};
 use pol_model::{Mode, Request};
 use pol_node::{Config, NewBook, Node, NodeName, Pass, Regen};
@@ -81,7 +82,7 @@ fn regenerations_named<N: NodeName, W: Wait>(
 }
 
 fn regenerations_told<W: Wait>(rt: &W, alloc: Global) -> Result<Vec<Regen>, Memory> {
-    regenerations_named::<Brand, W>(rt, alloc, NewBook::new(), config(16384))
+    regenerations_named::<Brand, W>(rt, alloc, NewBook::new(), config(LIMIT))
 }
 
 #[test]

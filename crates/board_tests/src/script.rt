@@ -5,7 +5,7 @@ ghost use Rattle.pol_history.specs.Meet.{has};
 ghost use Rattle.pol_model.specs.declared.options.Mode.TheVariants.{Default};
 
 use crate::reading::play_line;
-use crate::stand::{Seats, open, seated};
+use crate::stand::{LIMIT, PASSES, Seats, open, seated};
 use pol_answer::answer_text;
 use pol_board::NewBook;
 use pol_data::{Memory, Steps};
@@ -49,7 +49,24 @@ static ENDPOINT_ADDED_AGAIN: [&str; 8] = [
 const ADDED_AGAIN: &[u8] = b"ok 1 identity 256\nnotyet at 1\nsynced 1\nallowed at 1\nok 2\n\
 noendpoint at 2\nok 3 identity 256\nnotyet at 3\n";
 
-/// Plays a line, and writes its answer behind the others.
+/// Plays a line, and tells its answer.
+fn told_one<N: NodeName, W: Wait, R: Wait + Drop, L: Ledger>(
+    rt: &W,
+    alloc: Global,
+    desk: &Mutex<Desk<N, R>>,
+    slot: &mut Slot<N>,
+    pass: &mut Pass<N>,
+    line: &str,
+    steps: &mut Steps<L>,
+) -> Result<Vec<u8>, Memory>
+    requires handed_out { has N.passes pass.old.number ≡ true }
+    ensures number { pass.new.number ≡ pass.old.number }
+{
+    let answer = play_line(rt, alloc, desk, slot, pass, line, steps)?;
+    answer_text(alloc, &answer)
+}
+
+/// The same, and writes it behind the others.
 fn play_one<N: NodeName, W: Wait, R: Wait + Drop, L: Ledger>(
     rt: &W,
     alloc: Global,
@@ -63,8 +80,7 @@ fn play_one<N: NodeName, W: Wait, R: Wait + Drop, L: Ledger>(
     requires handed_out { has N.passes pass.old.number ≡ true }
     ensures number { pass.new.number ≡ pass.old.number }
 {
-    let answer = play_line(rt, alloc, desk, slot, pass, line, steps)?;
-    let text = answer_text(alloc, &answer)?;
+    let text = told_one(rt, alloc, desk, slot, pass, line, steps)?;
     answers.extend_from_slice(text.as_slice())?;
     Ok(())
 }
@@ -121,8 +137,8 @@ fn play_seated<N: NodeName, W: Wait, R: Wait + Drop>(
     lines: &[&str],
     answers: &mut Vec<u8>,
 ) -> Result<(), Memory>
-    requires new { passes.items ≡ new_passes 4 }
-    requires passes { N.passes ≡ map (λ pass. pass.number) (new_passes 4) }
+    requires new { passes.items ≡ new_passes PASSES }
+    requires passes { N.passes ≡ map (λ pass. pass.number) (new_passes PASSES) }
 {
     let seats = seated(passes)?;
     play::<N, W, R, Brand>(Blank::new(1), rt, alloc, desk, seats, lines, answers)
@@ -137,8 +153,8 @@ fn play_named<N: NodeName, W: Wait>(
     answers: &mut Vec<u8>,
 ) -> Result<(), Memory>
     requires book { book ≡ N.book }
-    requires options { N.options ≡ record { mode = Default; localhost = true; map_max = Some 16384 } }
-    requires passes { N.passes ≡ map (λ pass. pass.number) (new_passes 4) }
+    requires options { N.options ≡ record { mode = Default; localhost = true; map_max = Some LIMIT } }
+    requires passes { N.passes ≡ map (λ pass. pass.number) (new_passes PASSES) }
 {
     let (desk, passes) = open::<N, W>(rt, alloc, book)?;
     let desk = Mutex::new(desk);

@@ -1,21 +1,23 @@
 //! A desk over a new board and a new repository.
 ghost use Rattle.std.specs.Prelude.{◌≡◌, Some, IfOk, true};
 ghost use Rattle.pol_board.specs.Counts.{new_passes};
+ghost use Rattle.pol_history.specs.Meet.{has};
 ghost use Rattle.pol_model.specs.declared.options.Mode.TheVariants.{Default};
 
 use pol_board::{Board, NewBook};
-use pol_data::Memory;
-use pol_model::Mode;
+use pol_data::{Memory, Steps};
+use pol_model::{Mode, Request};
 use pol_node::{Desk, NodeName, Pass};
 use pol_repo::Repo;
 use std::alloc::Global;
-use std::sync::Wait;
+use std::sync::ledger::Ledger;
+use std::sync::{Mutex, MutexGuard, Wait};
 
 /// Maps of more entries aren't published.
-const LIMIT: u32 = 16_384;
+pub(crate) const LIMIT: u32 = 16_384;
 
 /// As many passes as the tests need.
-const PASSES: u32 = 4;
+pub(crate) const PASSES: u32 = 4;
 
 /// Who has which pass.
 #[derive(Drop)]
@@ -84,4 +86,43 @@ pub(crate) fn open<N: NodeName, W: Wait>(
             Err(Memory)
         }
     }
+}
+
+/// Commits the request. A refusal is want of memory here.
+pub(crate) fn commit<N: NodeName, W: Wait, R: Wait + Drop, L: Ledger>(
+    rt: &W,
+    alloc: Global,
+    desk: &mut Desk<N, R>,
+    pass: &mut Pass<N>,
+    request: Request,
+    steps: &mut Steps<L>,
+) -> Result<(), Memory>
+    requires handed_out { has N.passes pass.old.number ≡ true }
+    ensures number { pass.new.number ≡ pass.old.number }
+{
+    if !request.is_short() {
+        return Err(Memory);
+    }
+    match desk.commit(rt, alloc, pass, request, steps) {
+        Ok(_) => Ok(()),
+        Err(_) => Err(Memory),
+    }
+}
+
+/// The same under the desk's lock.
+pub(crate) fn commit_under<N: NodeName, W: Wait, R: Wait + Drop, L: Ledger>(
+    rt: &W,
+    alloc: Global,
+    desk: &Mutex<Desk<N, R>>,
+    pass: &mut Pass<N>,
+    request: Request,
+    steps: &mut Steps<L>,
+) -> Result<(), Memory>
+    requires handed_out { has N.passes pass.old.number ≡ true }
+    ensures number { pass.new.number ≡ pass.old.number }
+{
+    let mut desk = desk.lock(rt);
+    let done = commit(rt, alloc, &mut desk, pass, request, steps);
+    MutexGuard::unlock(desk);
+    done
 }
