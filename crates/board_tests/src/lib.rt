@@ -5,6 +5,8 @@
 #[cfg(test)]
 mod asked;
 #[cfg(test)]
+mod gone;
+#[cfg(test)]
 mod held;
 pub mod laws;
 #[cfg(test)]
