@@ -101,6 +101,7 @@ pub(crate) fn commit<N: NodeName, W: Wait, R: Wait + Drop, L: Ledger>(
     ensures number { pass.new.number ≡ pass.old.number }
 {
     if !request.is_short() {
+        drop(request);
         return Err(Memory);
     }
     match desk.commit(rt, alloc, pass, request, steps) {
