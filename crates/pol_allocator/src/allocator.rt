@@ -21,7 +21,6 @@ use std::sync::Arc;
 
 /// The security identities that are held, and the selectors, whose sets are of their numbers (Cilium, Terminology,
 /// "Identity", and "Selector cache"). Contracts see the rows and the selectors.
-#[derive(Drop)]
 pub struct Allocator {
     pub(crate) alloc: Global,
     pub(crate) identities: Identities,
@@ -45,6 +44,19 @@ impl Model for Allocator {
 
     ghost invariant = { λ n. KeepsRows n.identities
         × IsTableOf n.identities n.prefixes × IfSome n.shared (λ table. IsTableOf n.identities (arc_value table)) };
+}
+
+/// A destructor of its own, so that how the parts go is proved here, and not in each crate that lets an allocator go.
+impl Drop for Allocator {
+    fn drop(self) {
+        let Allocator {
+            alloc: _alloc,
+            identities: _identities,
+            prefixes: _prefixes,
+            shared: _shared,
+            selectors: _selectors,
+        } = self;
+    }
 }
 
 impl Allocator {

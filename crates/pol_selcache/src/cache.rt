@@ -16,7 +16,6 @@ use std::sync::Arc;
 /// The sets of identity numbers that the peers of policies select, kept as numbers come and go (Cilium, "Selector
 /// cache"). Equal peers share one selector, whose number of 64 bits no other ever has, and which goes with its last
 /// reference ('profile').
-#[derive(Drop)]
 pub struct SelectorCache {
     pub(crate) alloc: Global,
     pub(crate) table: Selectors,
@@ -33,6 +32,18 @@ impl Model for SelectorCache {
     ghost view = { λ c. record { live = c.table; next = c.next; log = c.log } };
 
     ghost invariant = { λ c. IsSound (record { live = c.table; next = c.next; log = c.log }) };
+}
+
+/// A destructor of its own, so that how the parts go is proved here, and not in each crate that lets a cache go.
+impl Drop for SelectorCache {
+    fn drop(self) {
+        let SelectorCache {
+            alloc: _alloc,
+            table: _table,
+            next: _next,
+            log: _log,
+        } = self;
+    }
 }
 
 impl SelectorCache {

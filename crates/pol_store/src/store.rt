@@ -23,7 +23,6 @@ use std::sync::Arc;
 
 /// The state of the policy core under its indexes, with the sets of the selectors that its policies list. Contracts see
 /// the rows and the selectors (`specs/Store`).
-#[derive(Drop)]
 pub struct Store {
     pub(crate) alloc: Global,
     pub(crate) revision: u64,
@@ -67,6 +66,23 @@ impl Model for Store {
         × AreKeptOf store.policies.list store.mode store.kept
         × Told store.endpoints.list store.numbers.rows store.addresses
         × IsKeptIn store.numbers.cache store.kept };
+}
+
+/// A destructor of its own, so that how the parts go is proved here, and not in each crate that lets a store go.
+impl Drop for Store {
+    fn drop(self) {
+        let Store {
+            alloc: _alloc,
+            revision: _revision,
+            mode: _mode,
+            endpoints: _endpoints,
+            named: _named,
+            policies: _policies,
+            numbers: _numbers,
+            kept: _kept,
+            addresses: _addresses,
+        } = self;
+    }
 }
 
 impl Store {
