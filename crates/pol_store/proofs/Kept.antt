@@ -1,5 +1,5 @@
 -- What a store keeps for takes, as its parts change.
-use Rattle.std.proofs.Common.{◌≡◌, ℕ, not, List, [], map, IfOk, OnErr, Option, None, Some, Result, Ok, Err, sym, ap, subst, ◌∙◌}
+use Rattle.std.proofs.Common.{◌≡◌, ℕ, not, List, [], ◌∷◌, map, IfOk, OnOk, OnErr, Option, None, Some, Result, Ok, Err, sym, ap, subst, ◌∙◌}
 use Rattle.std.specs.Arc.{arc_value}
 use Rattle.std.specs.List.{AllByRecursion, IsDistinct}
 use Rattle.std.specs.declared.sync.Arc.{Arc}
@@ -23,7 +23,7 @@ use Rattle.pol_model.specs.declared.row.Endpoint.{Endpoint}
 use Rattle.pol_model.specs.declared.row.IdentityRow.{IdentityRow}
 use Rattle.pol_model.specs.declared.row.Stamped.{Stamped}
 use Rattle.pol_model.specs.Policies.{applied, policy_at, removed}
-use Rattle.pol_model.specs.Prefixes.{number_of_prefix}
+use Rattle.pol_model.specs.Prefixes.{number_of_prefix, prefixes_held, prefixes_released}
 use Rattle.pol_model.specs.Sizes.{IsShortPolicy}
 use Rattle.pol_ident.specs.declared.error.IdentError.{IdentError}
 use Rattle.pol_prefixes.proofs.Numbers.{number_of_labelled}
@@ -33,7 +33,7 @@ use Rattle.pol_kept_filters.specs.Kept.{AreKeptOf, AreListedIn, IsListedIn, Keys
 use Rattle.pol_kept_filters.proofs.Unselected.{left_with, left_without}
 use Rattle.pol_allocator.specs.declared.hold.LabelsHeld.{LabelsHeld}
 use Rattle.pol_allocator.specs.Held.{Held, HoldsLabels}
-use Rattle.pol_store.specs.Inside.{IsKeptIn, Told, TellsAddresses}
+use Rattle.pol_store.specs.Inside.{IsKeptIn, Told, TellsAddresses, left_by}
 
 -- ---- filters
 none_differ : KeysDiffer []
@@ -156,6 +156,34 @@ module _ {Z : Type 0} (endpoints : List Endpoint) (rows others : List IdentityRo
 
   pub told_still : (told : Option (Arc AddressTable Z)) → others ≡ rows → Told endpoints rows told → Told endpoints others told
   told_still told same tells = subst (λ (r : List IdentityRow). Told endpoints r told) (sym same) tells
+
+-- where prefixes come or go, and it was let go unless there are none
+module _ {Z : Type 0} (endpoints : List Endpoint) (rows : List IdentityRow) (told left : Option (Arc AddressTable Z)) where
+  -- as long as the rows are as they were
+  pub told_left : (prefixes : List Prefix) → left ≡ left_by prefixes told → Told endpoints rows told → Told endpoints rows left
+  told_left [] is tells = subst (Told endpoints rows) (sym is) tells
+  told_left (_ ∷ _) is tells = subst (Told endpoints rows) (sym is) tt
+
+  -- once they are held
+  pub told_held : (prefixes : List Prefix) → left ≡ left_by prefixes told → Told endpoints rows told → Told endpoints (prefixes_held prefixes rows) left
+  told_held [] is tells = subst (Told endpoints rows) (sym is) tells
+  told_held (prefix ∷ others) is tells = subst (Told endpoints (prefixes_held (prefix ∷ others) rows)) (sym is) tt
+
+  -- once they are released
+  pub told_released : (prefixes : List Prefix) → left ≡ left_by prefixes told → Told endpoints rows told → Told endpoints (prefixes_released prefixes rows) left
+  told_released [] is tells = subst (Told endpoints rows) (sym is) tells
+  told_released (prefix ∷ others) is tells = subst (Told endpoints (prefixes_released (prefix ∷ others) rows)) (sym is) tt
+
+-- the same of a policy's request: held, or not after an error, while others are let go
+pub told_on : {Z : Type 0} (endpoints : List Endpoint) (old new : Held) (told mid left : Option (Arc AddressTable Z)) (taken given_up : List Prefix) {A : Type 0} (result : Result A IdentError)
+    → mid ≡ left_by taken told → left ≡ left_by given_up mid → OnOk result (new.rows ≡ prefixes_held taken old.rows) → OnErr result (new ≡ old)
+    → Told endpoints old.rows told → Told endpoints new.rows left
+told_on endpoints old new told mid left taken given_up (Ok held) mid_is left_is ok err tells =
+    told_left endpoints new.rows mid left given_up left_is
+    (told_still endpoints (prefixes_held taken old.rows) new.rows mid ok (told_held endpoints old.rows told mid taken mid_is tells))
+told_on endpoints old new told mid left taken given_up (Err error) mid_is left_is ok err tells =
+    told_left endpoints new.rows mid left given_up left_is
+    (told_still endpoints old.rows new.rows mid (ap (λ (h : Held). h.rows) err) (told_left endpoints old.rows told mid taken mid_is tells))
 
 -- the numbers of prefixes, once a label set is held, or isn't for want of memory
 pub numbers_held : (revision : ℕ) (labels : List Label) (old new : Held) (result : Result LabelsHeld IdentError)

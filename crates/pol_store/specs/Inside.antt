@@ -1,8 +1,9 @@
 -- How the parts of a store fit together. No public clause cites this module.
-use Rattle.std.specs.Prelude.{◌≡◌, List, IfSome, Option, map}
+use Rattle.std.specs.Prelude.{◌≡◌, List, [], ◌∷◌, IfSome, Option, None, map}
 use Rattle.std.specs.Arc.{arc_value}
 use Rattle.std.specs.declared.sync.Arc.{Arc}
 use Rattle.pol_addr.specs.declared.address.Addr.{Addr}
+use Rattle.pol_addr.specs.declared.network.Prefix.{Prefix}
 use Rattle.pol_model.specs.declared.row.Endpoint.{Endpoint}
 use Rattle.pol_model.specs.declared.row.IdentityRow.{IdentityRow}
 use Rattle.pol_model.specs.Ascending.{Ascends}
@@ -24,6 +25,11 @@ pub record TellsAddresses (endpoints : List Endpoint) (rows : List IdentityRow) 
 -- so the table that is kept, if there is one
 abbrev pub Told : {Z : Type 0} → List Endpoint → List IdentityRow → Option (Arc AddressTable Z) → Type 0
 Told endpoints rows told = IfSome told (λ addresses. TellsAddresses endpoints rows (arc_value addresses))
+
+-- What is left of what is kept where these prefixes come or go: all of it where there are none.
+abbrev pub left_by : {A : Type 0} → List Prefix → Option A → Option A
+left_by [] kept = kept
+left_by (_ ∷ _) kept = None
 
 -- What is kept is listed in the cache, whose sets are exact over the rows of some identities.
 pub record IsKeptIn (cache : Cache) (kept : List Kept) : Type 0 where

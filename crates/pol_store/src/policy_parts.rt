@@ -14,6 +14,7 @@ ghost use Rattle.pol_rule.specs.Listed.{listed_peers};
 ghost use Rattle.pol_peers.specs.Numbering.{GainsRefs, LosesRefs};
 ghost use Rattle.pol_peers.specs.References.{HasRefs, IsMoreBy};
 ghost use Rattle.pol_allocator.specs.Held.{AreApart, IsSettled, Prepares};
+ghost use Rattle.pol_store.specs.Inside.{left_by};
 ghost use Rattle.pol_store.specs.Parts.{numbers_of};
 ghost use Rattle.pol_store.specs.PolicyParts.{listed_of, with_cache, with_policies, with_rows};
 ghost use Rattle.pol_store.specs.Store.{with_rooms};
@@ -25,7 +26,19 @@ use pol_ident::IdentError;
 use pol_model::Stamped;
 use pol_rule::{Policy, PolicyKey};
 use pol_selcache::Plan;
+use pol_taken::Addresses;
+use std::sync::Arc;
 use std::sync::ledger::Ledger;
+
+/// What each address is is let go where there are prefixes, which come or go. So the table of prefixes can be changed in place
+/// where no take has it.
+fn let_go(addresses: &mut Option<Arc<Addresses>>, prefixes: &[Prefix])
+    ensures left { addresses.new ≡ left_by prefixes.now addresses.old }
+{
+    if !prefixes.is_empty() {
+        *addresses = None;
+    }
+}
 
 impl Store {
     /// Room for one policy more. The one error is want of memory.
@@ -97,7 +110,8 @@ impl Store {
         // In both cases.
         ensures sets { self.new.cache ≡ with_room self.new.cache.log.spare self.old.cache }
     {
-        self.addresses = None;
+        let_go(&mut self.addresses, taken);
+        let_go(&mut self.addresses, given_up);
         self.numbers
             .hold_prefixes(self.revision + 1, taken, given_up, steps)
     }
@@ -116,7 +130,7 @@ impl Store {
             (prefixes_released given_up.now self.old.state.identities) self.new.cache plan) }
         ensures same { self.new ≡ with_cache (with_room self.new.cache.log.spare self.old.cache) self.old }
     {
-        self.addresses = None;
+        let_go(&mut self.addresses, given_up);
         self.numbers
             .plan_prefixes(self.revision + 1, given_up, steps)
     }
@@ -125,7 +139,7 @@ impl Store {
     pub fn release_prefixes(&mut self, prefixes: &[Prefix])
         ensures rows { self.new ≡ with_rows (prefixes_released prefixes.now self.old.state.identities) self.old }
     {
-        self.addresses = None;
+        let_go(&mut self.addresses, prefixes);
         self.numbers.release_prefixes(prefixes);
     }
 
