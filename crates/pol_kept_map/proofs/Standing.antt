@@ -1,5 +1,5 @@
 -- What a work keeps, before and after it goes to other filters and sets.
-use Rattle.std.proofs.Common.{◌≡◌, ℕ, ◌+◌, ◌≤◌, List, length, Result, Ok, Err, IfOk, OnOk, ◌∙◌, ap, arith}
+use Rattle.std.proofs.Common.{◌≡◌, ℕ, ◌+◌, ◌≤◌, List, length, Result, Ok, Err, Some, IfOk, OnOk, ◌∙◌, ap, arith}
 use Rattle.std.specs.List.{AllByRecursion}
 use Rattle.pol_mapkey.specs.declared.Kind.{Kind}
 use Rattle.pol_mapkey.specs.declared.MapKey.{MapKey}
@@ -42,7 +42,7 @@ module _ (was is come gone : List Entry) (leads : (q : MapKey) (k : Kind) → ti
 
 module _ (was is : Filters) (was_rows is_rows : List SetRow) (come gone : List Entry) (size : ℕ) (old new : Tally)
     (leads : (q : MapKey) (k : Kind) → times (raw_of is is_rows) q k + times gone q k ≡ times (raw_of was was_rows) q k + times come q k)
-    (kept : IsKept was was_rows size old) (have : HaveSets is_rows is) (rest : IsAtRest new) where
+    (kept : IsKept was was_rows size (Some old)) (have : HaveSets is_rows is) (rest : IsAtRest new) where
   small : (filters : Filters) (rows : List SetRow) → AllByRecursion IsSmall (raw_of filters rows)
   small filters rows = raw_small (set_given rows) (filter_parts filters)
 
@@ -54,7 +54,7 @@ module _ (was is : Filters) (was_rows is_rows : List SetRow) (come gone : List E
 
   pub turned_kept : {E : Type 0} (r : Result Changed E) → Counts r
       → IfOk r (λ changed. (before after : List Entry) → AllByRecursion IsSmall before → AllByRecursion IsSmall after → IsTallyOf before old → IsTallyOf after new
-      → size ≡ length (canonical before) → changed.size ≡ length (canonical after)) → IfOk r (λ changed. IsKept is is_rows changed.size new)
+      → size ≡ length (canonical before) → changed.size ≡ length (canonical after)) → IfOk r (λ changed. IsKept is is_rows changed.size (Some new))
   turned_kept (Ok changed) counts sizes = record {
     have = have;
     counts = counts_now counts;

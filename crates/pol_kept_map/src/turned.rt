@@ -1,5 +1,5 @@
 //! A tally that goes to other filters and sets.
-ghost use Rattle.std.specs.Prelude.{◌≡◌, IfOk, IfSome, OnErr};
+ghost use Rattle.std.specs.Prelude.{◌≡◌, IfOk, IfSome, Some};
 ghost use Rattle.pol_distill.specs.Distilled.{distilled};
 ghost use Rattle.pol_distill.specs.Sorted.{HaveSets};
 ghost use Rattle.pol_map_changes.specs.Changes.{IsDifference, table_of};
@@ -35,8 +35,7 @@ fn moved_by(
     }
 }
 
-/// Takes the tally to other filters and sets, and tells what differs and the map's size then. After an error it counts what
-/// it did.
+/// Takes the tally to other filters and sets, and tells what differs and the map's size then.
 pub(crate) fn turned(
     alloc: Global,
     tally: &mut Tally,
@@ -47,15 +46,14 @@ pub(crate) fn turned(
     is_rows: &[SetRow],
     moves: &Option<Moves>,
 ) -> Result<Changed, Memory>
-    requires kept { IsKept was.now was_rows.now size tally.old }
+    requires kept { IsKept was.now was_rows.now size (Some tally.old) }
     requires sets { HaveSets is_rows.now is.now }
     requires named { NamesFilters was.now is.now }
     requires moves { IfSome moves.now
         (MovesTell (record { filters = was.now; rows = was_rows.now }) is.now is_rows.now) }
-    ensures kept { IfOk result (λ changed. IsKept is.now is_rows.now changed.size tally.new) }
+    ensures kept { IfOk result (λ changed. IsKept is.now is_rows.now changed.size (Some tally.new)) }
     ensures list { IfOk result (λ changed. IsDifference changed.list
         (table_of (distilled was.now was_rows.now)) (table_of (distilled is.now is_rows.now))) }
-    ensures err { OnErr result (IsKept was.now was_rows.now size tally.new) }
 {
     let moved = moved_by(alloc, was, was_rows, is, is_rows, moves)?;
     tally.change(alloc, size, &moved.come, &moved.gone)

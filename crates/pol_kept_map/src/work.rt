@@ -1,4 +1,4 @@
-//! What an endpoint's policy map is made of, with how often each of its keys is given.
+//! What an endpoint's policy map is made of, with how often each of its keys is given where it isn't too large.
 ghost use Rattle.std.specs.Prelude.{◌≡◌, IfOk, IfSome, OnErr, OnOk, length};
 ghost use Rattle.std.specs.Arc.{arc_value};
 ghost use Rattle.pol_distill.specs.Distilled.{distilled};
@@ -9,16 +9,16 @@ ghost use Rattle.pol_kept_map.specs.Givers.{allows_of, denies_of};
 ghost use Rattle.pol_kept_map.specs.Applies.{MovesTell, NamesFilters, PlacesDiffer};
 
 use crate::changes::{Changes, Givers};
+use crate::counts::{kept_where, take_tally, tally_where};
 use crate::entries::whole_of;
 use crate::givers::{allows_in, denies_in};
 use crate::origin::Origin;
 use crate::turned::turned;
 use pol_data::Memory;
-use pol_distill::distill;
-use pol_entry_changes::given;
 use pol_entry_tally::Tally;
 use pol_filters::Filters;
 use pol_map_changes::ChangeList;
+use pol_map_size::map_size;
 use pol_mapkey::MapKey;
 use pol_ports::Direction;
 use pol_sets::Sets;
@@ -26,15 +26,17 @@ use std::alloc::Global;
 use std::marker::Model;
 use std::sync::Arc;
 
-/// An endpoint's filters and the sets of their peers, with the size of the policy map that is made of them and a tally of
-/// its entries. A contract sees the filters and the sets.
+/// An endpoint's filters and the sets of their peers, with the size of the policy map that is made of them, and a tally of
+/// its entries where it has no more of them than a limit says. A contract sees the filters and the sets.
 #[derive(Drop)]
 pub struct Work {
     alloc: Global,
     pub(crate) filters: Arc<Filters>,
     pub(crate) sets: Sets,
     size: u64,
-    tally: Tally,
+    // A map of more entries has no tally.
+    limit: u64,
+    tally: Option<Tally>,
 }
 
 impl Model for Work {
@@ -56,22 +58,52 @@ impl Work {
         ensures work { IfOk result (IsWorkOf (arc_value filters) sets) }
         ensures map { IfOk result (λ work. map_of work ≡ distilled (arc_value filters) sets) }
     {
-        let table = distill(alloc, &filters, &sets)?;
-        let raw = given(alloc, &filters, sets.as_slice())?;
-        let tally = Tally::of(alloc, &raw)?;
+        Work::within(alloc, filters, sets, u64::MAX)
+    }
+
+    /// The same, for maps of no more entries than the limit says: its map is counted first, part by part, and what a larger
+    /// one is made of is kept alone. The one error is want of memory.
+    pub fn within(
+        alloc: Global,
+        filters: Arc<Filters>,
+        sets: Sets,
+        limit: u64,
+    ) -> Result<Work, Memory>
+        requires sets { HaveSets sets (arc_value filters) }
+        ensures work { IfOk result (IsWorkOf (arc_value filters) sets) }
+        ensures map { IfOk result (λ work. map_of work ≡ distilled (arc_value filters) sets) }
+    {
+        let size = map_size(alloc, &filters, &sets)?;
+        let tally = tally_where(alloc, size <= limit, &filters, sets.as_slice())?;
         Ok(Work {
             alloc,
             filters,
             sets,
-            size: table.count(),
+            size,
+            limit,
             tally,
         })
+    }
+
+    /// The work of other filters and sets, with the same limit. The one error is want of memory.
+    pub fn anew(&self, filters: Arc<Filters>, sets: Sets) -> Result<Work, Memory>
+        requires sets { HaveSets sets (arc_value filters) }
+        ensures work { IfOk result (IsWorkOf (arc_value filters) sets) }
+        ensures map { IfOk result (λ work. map_of work ≡ distilled (arc_value filters) sets) }
+    {
+        Work::within(self.alloc, filters, sets, self.limit)
+    }
+
+    /// Whether it counts how often each key is given, so that going on costs what changes. It does unless the map has more
+    /// entries than the limit says, or memory was wanting.
+    pub fn is_counted(&self) -> bool {
+        self.tally.is_some()
     }
 
     /// Takes the work to other filters and sets, and gives exactly the keys at which its map changed: `Set` with the kind
     /// that a key has now, `Clear` where it has none any more. A filter with the place and the stamp of one that was there
     /// is that one, and stays. Moves, where they are there, say how the sets of the peers of filters that stay changed.
-    /// The one error is want of memory, and then the work is as before.
+    /// The one error is want of memory, and then the work is as before, but counts anew the next time.
     pub fn apply(&mut self, changes: &Changes) -> Result<ChangeList, Memory>
         requires sets { HaveSets changes.now.sets (arc_value changes.now.filters) }
         requires before { PlacesDiffer self.old.filters }
@@ -87,12 +119,15 @@ impl Work {
     {
         let sets = changes.sets.share()?;
         let filters = Arc::try_clone(&changes.filters)?;
+        let was: &Filters = &self.filters;
+        let was_rows = self.sets.as_slice();
+        let mut tally = take_tally(self.alloc, &mut self.tally, was, was_rows)?;
         let changed = turned(
             self.alloc,
-            &mut self.tally,
+            &mut tally,
             self.size,
-            &self.filters,
-            self.sets.as_slice(),
+            was,
+            was_rows,
             &changes.filters,
             changes.sets.as_slice(),
             &changes.moves,
@@ -100,6 +135,7 @@ impl Work {
         self.filters = filters;
         self.sets = sets;
         self.size = changed.size;
+        self.tally = kept_where(changed.size <= self.limit, tally);
         Ok(changed.list)
     }
 
