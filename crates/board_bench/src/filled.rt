@@ -3,7 +3,7 @@ ghost use Rattle.std.specs.Prelude.{◌≡◌, true};
 ghost use Rattle.pol_history.specs.Meet.{has};
 
 use crate::asked::{endpoint, identity, policy};
-use crate::stand::Seats;
+use crate::stand::{LIMIT, Seats};
 use pol_data::{Memory, Steps};
 use pol_model::Request;
 use pol_node::{Desk, NodeName, Pass, Regen, Slot};
@@ -117,7 +117,7 @@ fn publish_once<N: NodeName, W: Wait, R: Wait + Drop>(
     number: u32,
     pass: Pass<N>,
 ) -> Result<u64, Memory> {
-    let mut slot = Slot::open(pass);
+    let mut slot = Slot::open(pass, LIMIT as u64);
     publish(rt, alloc, desk, &mut slot, number)
 }
 

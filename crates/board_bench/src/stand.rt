@@ -13,7 +13,7 @@ use std::alloc::Global;
 use std::sync::Wait;
 
 /// Maps of more entries aren't published.
-const LIMIT: u32 = 65_536;
+pub(crate) const LIMIT: u32 = 65_536;
 
 /// How many passes a board has, and how many of the last ones may look.
 #[derive(Clone, Copy)]
@@ -63,7 +63,7 @@ pub(crate) fn seated<N: NodeName>(
     Ok(Seats {
         commits,
         looks,
-        slot: Slot::open(first),
+        slot: Slot::open(first, LIMIT as u64),
         others,
     })
 }

@@ -67,7 +67,7 @@ fn make<N: NodeName>(alloc: Global, slot: &Pass<N>, taken: &Taken) -> Result<Fol
     ensures shown { IfOk result (λ followed. followed.shown ≡ None) }
 {
     let _ = slot;
-    Ok(Followed::start(alloc, taken)?)
+    Ok(Followed::start(alloc, taken, LIMIT as u64)?)
 }
 
 /// Reports it, where no report was made of the endpoint. An error is want of memory here.

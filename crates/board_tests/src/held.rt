@@ -161,7 +161,7 @@ fn publish<N: NodeName, W: Wait, R: Wait + Drop, L: Ledger>(
 {
     let request = endpoint(alloc)?;
     let mut steps = Steps::<L>::new(blank);
-    let mut slot = Slot::open(slot);
+    let mut slot = Slot::open(slot, LIMIT as u64);
     turn(rt, alloc, desk, &mut slot, pass, request, &mut steps)
 }
 

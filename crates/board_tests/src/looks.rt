@@ -278,7 +278,7 @@ fn change<N: NodeName, W: Wait, R: Wait + Drop, L: Ledger>(
     requires handed_out { has N.passes pass.number ≡ true }
 {
     let mut steps = Steps::<L>::new(blank);
-    let mut slot = Slot::open(slot);
+    let mut slot = Slot::open(slot, LIMIT as u64);
     let mut pass = pass;
     change_all(rt, alloc, desk, &mut slot, &mut pass, signs, &mut steps)
 }

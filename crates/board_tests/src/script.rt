@@ -121,7 +121,7 @@ fn play<N: NodeName, W: Wait, R: Wait + Drop, L: Ledger>(
 {
     let mut steps = Steps::<L>::new(blank);
     let Seats { commits, slot, .. } = seats;
-    let mut slot = Slot::open(slot);
+    let mut slot = Slot::open(slot, LIMIT as u64);
     let mut pass = commits;
     play_all(
         rt, alloc, desk, &mut slot, &mut pass, lines, answers, &mut steps,

@@ -39,9 +39,14 @@ fn published(last: Option<LastReport>) -> Option<u64>
     }
 }
 
-/// Makes the map of what was taken: by what changed, where one was made before. It gives back what was taken. The one error
-/// is want of memory.
-fn follow(alloc: Global, work: &mut Option<Followed>, taken: Taken) -> (Taken, Result<(), Memory>)
+/// Makes the map of what was taken: by what changed, where one was made before. Of a map of more entries than the limit says
+/// no key is kept. It gives back what was taken. The one error is want of memory.
+fn follow(
+    alloc: Global,
+    limit: u64,
+    work: &mut Option<Followed>,
+    taken: Taken,
+) -> (Taken, Result<(), Memory>)
     requires sets { HaveSets taken.sets (arc_value taken.filters) }
     requires may { MayGo work.old taken }
     ensures same { result.0 ≡ taken }
@@ -49,7 +54,7 @@ fn follow(alloc: Global, work: &mut Option<Followed>, taken: Taken) -> (Taken, R
 {
     match work {
         Some(known) => known.try_go_on(alloc, taken),
-        None => match Followed::start(alloc, &taken) {
+        None => match Followed::start(alloc, &taken, limit) {
             Ok(made) => {
                 *work = Some(made);
                 (taken, Ok(()))
@@ -105,7 +110,8 @@ fn publish(alloc: Global, row: &mut MachineRow, commits: u64, taken: &Taken) -> 
     match &mut row.work {
         None => unreachable!(),
         Some(work) => {
-            show(alloc, &mut row.map, &mut work.pending, taken)?;
+            let mut list = work.pending.list(alloc)?;
+            show(alloc, &mut row.map, &mut list, taken)?;
             work.published(alloc);
             row.report = Some(LastReport {
                 revision: taken.revision,
@@ -193,7 +199,7 @@ fn finish_row(
     if is_reported(row.report, revision) {
         return (taken, Ok(Reply::Already(revision)));
     }
-    let (taken, followed) = follow(alloc, &mut row.work, taken);
+    let (taken, followed) = follow(alloc, limit, &mut row.work, taken);
     match followed {
         Ok(()) => {
             let reply = report(alloc, limit, commits, row, &taken);

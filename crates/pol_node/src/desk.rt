@@ -34,9 +34,9 @@ use pol_board::{BoardWriter, NodeName, Pass};
 use pol_board_view::{Face, FaceOp};
 use pol_data::Steps;
 use pol_history::LastReport;
-use pol_map_changes::ChangeList;
 use pol_model::{CommitError, Committed, Query, Request};
 use pol_repo::{EndpointRow, Repo};
+use pol_slot_map::Pending;
 use pol_taken::{TakeError, Taken};
 use pol_trace::{ExplainError, explain};
 use std::alloc::Global;
@@ -231,7 +231,7 @@ impl<N: NodeName, R: Wait + Drop> Desk<N, R> {
         taken: &Taken,
         count: u64,
         last: Option<LastReport>,
-        changes: &ChangeList,
+        changes: &Pending,
     ) -> Result<Reported, RegenError>
         requires revision { taken.now.revision ≡ revision_of pass.old.has.history }
         requires taken { IsTakenOf N.options
@@ -278,7 +278,8 @@ impl<N: NodeName, R: Wait + Drop> Desk<N, R> {
         }
         let commits = self.repo.revision();
         if count <= self.limit as u64 {
-            self.writer.publish(rt, alloc, pass, taken, changes)?;
+            let list = changes.list(alloc)?;
+            self.writer.publish(rt, alloc, pass, taken, &list)?;
             Ok(Reported {
                 finished: Finished::Published,
                 last: published(taken.revision, commits),

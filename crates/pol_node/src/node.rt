@@ -47,17 +47,18 @@ where
     ghost all: { length slots.items ≡ 256 },
 }
 
-/// A slot for each of these passes.
+/// A slot for each of these passes, with this limit.
 fn slots_of_passes<N: NodeName>(
     alloc: Global,
     passes: Vec<Pass<N>>,
+    limit: u64,
 ) -> Result<Vec<Mutex<Slot<N>>>, Memory>
     requires few { length passes.items ≤ 256 }
     ensures { IfOk result (λ slots. length slots.items ≡ length passes.items) }
 {
     let mut slots = Vec::new(alloc);
     for pass in passes {
-        slots.push(Mutex::new(Slot::open(pass)))?;
+        slots.push(Mutex::new(Slot::open(pass, limit)))?;
     }
     Ok(slots)
 }
@@ -66,6 +67,7 @@ fn slots_of_passes<N: NodeName>(
 fn seated<N: NodeName>(
     alloc: Global,
     places: Vec<Pass<N>>,
+    limit: u64,
 ) -> Result<(Vec<Mutex<Slot<N>>>, Vec<Pass<N>>), Memory>
     requires enough { 257 ≤ length places.items }
     ensures slots { IfOk result (λ seated. length seated.0.items ≡ 256) }
@@ -74,7 +76,7 @@ fn seated<N: NodeName>(
     let mut places = places;
     let handed_out = places.split_off(257)?;
     places.truncate(256);
-    Ok((slots_of_passes(alloc, places)?, handed_out))
+    Ok((slots_of_passes(alloc, places, limit)?, handed_out))
 }
 
 /// Shows the history to the pass, under the lock.
@@ -180,7 +182,7 @@ impl<N: NodeName, R: Wait + Drop> Node<N, R> {
         ensures apart { IfOk result (λ made. (i j : ℕ) (one other : PassState) → slice_get made.1.items i ≡ Some one
             → slice_get made.1.items j ≡ Some other → one.number ≡ other.number → i ≡ j) }
     {
-        let (slots, passes) = match seated(alloc, places) {
+        let (slots, passes) = match seated(alloc, places, config.map_max as u64) {
             Ok(seated) => seated,
             Err(error) => {
                 writer.close(rt);

@@ -34,6 +34,8 @@ use std::sync::{Mutex, MutexGuard, Wait};
 #[derive(Drop)]
 pub struct Slot<N: NodeName> {
     pass: Pass<N>,
+    // Of a map of more entries no key is kept.
+    limit: u64,
     kept: Option<KeptEndpoint>,
 }
 
@@ -117,10 +119,11 @@ fn finish<N: NodeName, W: Wait, R: Wait + Drop>(
     done
 }
 
-/// Makes the map of what was taken: by what changed, where the endpoint is followed. The one error is want of memory, and what
-/// is kept is of the history all the same.
+/// Makes the map of what was taken: by what changed, where the endpoint is followed. Of a map of more entries than the limit
+/// says no key is kept. The one error is want of memory, and what is kept is of the history all the same.
 fn follow<N: NodeName>(
     alloc: Global,
+    limit: u64,
     pass: &Pass<N>,
     kept: &mut Option<KeptEndpoint>,
     taken: Taken,
@@ -140,7 +143,7 @@ fn follow<N: NodeName>(
         None => {}
     }
     *kept = Some(KeptEndpoint {
-        followed: Followed::start(alloc, &taken)?,
+        followed: Followed::start(alloc, &taken, limit)?,
         last: None,
     });
     Ok(taken)
@@ -259,6 +262,7 @@ fn regenerate<N: NodeName, W: Wait, R: Wait + Drop>(
     alloc: Global,
     desk: &Mutex<Desk<N, R>>,
     slot: u32,
+    limit: u64,
     pass: &mut Pass<N>,
     seen: Seen<N>,
     kept: &mut Option<KeptEndpoint>,
@@ -287,7 +291,7 @@ fn regenerate<N: NodeName, W: Wait, R: Wait + Drop>(
         Err(NotTaken::Memory) => return Err(RegenError::Memory),
         Err(NotTaken::Overtaken) => return Err(RegenError::Overtaken),
     };
-    let taken = follow(alloc, pass, kept, taken)?;
+    let taken = follow(alloc, limit, pass, kept, taken)?;
     match kept {
         Some(kept) => report(rt, alloc, desk, pass, taken, kept),
         None => unreachable!(),
@@ -311,6 +315,7 @@ fn regenerate_kept<N: NodeName, W: Wait, R: Wait + Drop>(
     alloc: Global,
     desk: &Mutex<Desk<N, R>>,
     slot: u32,
+    limit: u64,
     pass: &mut Pass<N>,
     seen: Seen<N>,
     kept: &mut Option<KeptEndpoint>,
@@ -329,18 +334,22 @@ fn regenerate_kept<N: NodeName, W: Wait, R: Wait + Drop>(
     ensures left { IfErr result
         (KeepsAfterError N.options pass.new.has.history slot (option_map report_in kept.new)) }
 {
-    let done = regenerate(rt, alloc, desk, slot, pass, seen, kept);
+    let done = regenerate(rt, alloc, desk, slot, limit, pass, seen, kept);
     let_go(kept, tells_lost(&done));
     done
 }
 
 impl<N: NodeName> Slot<N> {
-    /// A slot that follows no endpoint. It takes no memory.
-    pub fn open(pass: Pass<N>) -> Slot<N>
+    /// A slot that follows no endpoint. Of a map of more entries than the limit says it will keep no key. It takes no memory.
+    pub fn open(pass: Pass<N>, limit: u64) -> Slot<N>
         ensures pass { result.pass ≡ pass }
         ensures kept { result.kept ≡ None }
     {
-        Slot { pass, kept: None }
+        Slot {
+            pass,
+            limit,
+            kept: None,
+        }
     }
 
     /// Takes in what another has seen, regenerates the endpoint of the slot of that number, and tells what was done, and what a
@@ -367,6 +376,7 @@ impl<N: NodeName> Slot<N> {
             alloc,
             desk,
             number,
+            self.limit,
             &mut self.pass,
             seen,
             &mut self.kept,
@@ -439,6 +449,7 @@ impl<N: NodeName> Slot<N> {
             alloc,
             desk,
             number,
+            self.limit,
             &mut self.pass,
             seen,
             &mut self.kept,

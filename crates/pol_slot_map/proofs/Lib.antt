@@ -1,4 +1,5 @@
 pub mod Cutting
+pub mod Renewing
 pub mod Places
 pub mod Stamps
 pub mod Listing

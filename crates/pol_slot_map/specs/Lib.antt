@@ -1,3 +1,4 @@
 pub mod Base
+pub mod Renewed
 pub mod Follow
 pub mod Followed

@@ -1,9 +1,11 @@
 //! The map that was published last.
-ghost use Rattle.std.specs.Prelude.{◌≡◌, ◌↔◌, ◌+◌, ◌*◌, ◌≤◌, [], IfOk, IsTrue, OnOk, length};
+ghost use Rattle.std.specs.Prelude.{◌≡◌, ◌↔◌, ◌+◌, ◌*◌, ◌≤◌, IfOk, IsTrue, OnOk, length};
 ghost use Rattle.pol_kept_map.specs.Work.{WorkOf, map_of};
 ghost use Rattle.pol_map_changes.specs.Changes.{changed, table_of, whole};
 ghost use Rattle.pol_slot_map.specs.Base.{IsFew, entries_in};
+ghost use Rattle.pol_slot_map.specs.Renewed.{entries_of};
 
+use crate::pending::no_changes;
 use pol_data::Memory;
 use pol_kept_map::{Origin, Work};
 use pol_map_changes::ChangeList;
@@ -18,13 +20,6 @@ pub enum Base {
     Own,
     /// It was made of this.
     Of(Origin),
-}
-
-/// The list of no changes. It takes no memory.
-pub(crate) fn no_changes(alloc: Global) -> ChangeList
-    ensures { result ≡ [] }
-{
-    ChangeList::from_vec(Vec::new(alloc))
 }
 
 impl Base {
@@ -47,6 +42,18 @@ impl Base {
             Base::Nothing => Ok(no_changes(alloc)),
             Base::Own => work.whole(alloc),
             Base::Of(origin) => origin.whole(alloc),
+        }
+    }
+
+    /// What it was made of, if it was made of anything. It takes no memory: the one error is that a count of those who share
+    /// is at its end.
+    pub(crate) fn origin(&self, work: &Work) -> Result<Option<Origin>, Memory>
+        ensures { IfOk result (λ origin. entries_of origin ≡ entries_in self.now work.now) }
+    {
+        match self {
+            Base::Nothing => Ok(None),
+            Base::Own => Ok(Some(work.origin()?)),
+            Base::Of(origin) => Ok(Some(origin.share()?)),
         }
     }
 

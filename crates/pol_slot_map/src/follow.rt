@@ -6,7 +6,8 @@ ghost use Rattle.pol_distill.specs.Distilled.{distilled};
 ghost use Rattle.pol_distill.specs.Sorted.{HaveSets};
 ghost use Rattle.pol_slot_map.specs.Follow.{GoesOn, IsShown, IsStartOf, MayApply, Stays};
 
-use crate::base::{Base, cut, no_changes};
+use crate::base::{Base, cut};
+use crate::pending::{Pending, no_changes};
 use pol_data::{Memory, Text};
 use pol_entry_changes::sets_ascend;
 use pol_kept_map::{Changes, Work};
@@ -16,7 +17,8 @@ use std::alloc::Global;
 use std::sync::Arc;
 
 /// An endpoint, with the map that was made of it last, and the changes that lead to that map from the one that was
-/// published last. Where all changes are joined, there are at most twice as many as the two maps have entries.
+/// published last. Where all changes are joined, there are at most twice as many as the two maps have entries. Of a map that
+/// has more entries than a limit says, no key is kept, and no change is listed.
 #[derive(Drop)]
 pub struct Followed {
     /// The endpoint's name.
@@ -32,32 +34,32 @@ pub struct Followed {
     /// The map that was made last, with what it is made of.
     pub work: Work,
     /// The changes since the map that was published last.
-    pub pending: ChangeList,
+    pub pending: Pending,
     /// The changes after these, where want of memory came before they were joined.
     pub behind: Option<ChangeList>,
 }
 
 /// The work of what was taken.
-fn work_of(alloc: Global, taken: &Taken) -> Result<Work, Memory>
+fn work_of(alloc: Global, taken: &Taken, limit: u64) -> Result<Work, Memory>
     requires sets { HaveSets taken.now.sets (arc_value taken.now.filters) }
     ensures work { IfOk result (IsWorkOf (arc_value taken.now.filters) taken.now.sets) }
     ensures map { IfOk result (λ work. map_of work ≡ distilled (arc_value taken.now.filters) taken.now.sets) }
 {
     let sets = taken.sets.share()?;
     let filters = Arc::try_clone(&taken.filters)?;
-    Work::from_scratch(alloc, filters, sets)
+    Work::within(alloc, filters, sets, limit)
 }
 
 impl Followed {
-    /// What is kept of an endpoint that was taken, where nothing was kept of it: its map, and `Set` of each entry. The one
-    /// error is want of memory.
-    pub fn start(alloc: Global, taken: &Taken) -> Result<Followed, Memory>
+    /// What is kept of an endpoint that was taken, where nothing was kept of it: its map, and `Set` of each entry. Whatever the
+    /// limit is, it is the same; of a map of more entries no key is kept, then and later. The one error is want of memory.
+    pub fn start(alloc: Global, taken: &Taken, limit: u64) -> Result<Followed, Memory>
         requires sets { HaveSets taken.now.sets (arc_value taken.now.filters) }
         ensures started { IfOk result (IsStartOf taken.now) }
     {
         let name = taken.endpoint.name.copy(alloc)?;
-        let work = work_of(alloc, taken)?;
-        let pending = work.whole(alloc)?;
+        let work = work_of(alloc, taken, limit)?;
+        let pending = Pending::whole(alloc, &work)?;
         Ok(Followed {
             name,
             added: taken.endpoint.added,
@@ -72,22 +74,49 @@ impl Followed {
 
     /// Joins the changes behind to the others, and keeps them few. The one error is want of memory, and then nothing is
     /// changed.
-    fn join(&mut self, alloc: Global) -> Result<(), Memory>
+    fn join_lists(&mut self, alloc: Global) -> Result<(), Memory>
         ensures joined { OnOk result (self.new.behind ≡ None) }
         ensures stays { Stays self.old self.new }
     {
+        self.pending.make_list(alloc)?;
         if let Some(behind) = &self.behind {
             let mut joined = self.pending.then(alloc, behind)?;
             cut(alloc, &mut joined, &self.base, &self.work)?;
-            self.pending = joined;
+            self.pending = Pending::listed(joined);
             self.behind = None;
         }
         Ok(())
     }
 
-    /// Takes the work on, and keeps the changes behind the others. The one error is want of memory, and then nothing is
+    /// The changes are those between the two maps, and are listed no more. It takes no memory: the one error is that a count
+    /// of those who share is at its end, and then nothing is changed.
+    fn unlist(&mut self) -> Result<(), Memory>
+        ensures joined { OnOk result (self.new.behind ≡ None) }
+        ensures stays { Stays self.old self.new }
+    {
+        let base = self.base.origin(&self.work)?;
+        let map = self.work.origin()?;
+        self.pending = Pending::between(base, map);
+        self.behind = None;
+        Ok(())
+    }
+
+    /// All changes are one list, or none where the map is too large. The one error is want of memory, and then nothing is
     /// changed.
-    fn take_on(&mut self, changes: &Changes, revision: u64) -> Result<(), Memory>
+    fn join(&mut self, alloc: Global) -> Result<(), Memory>
+        ensures joined { OnOk result (self.new.behind ≡ None) }
+        ensures stays { Stays self.old self.new }
+    {
+        if self.work.is_counted() {
+            self.join_lists(alloc)
+        } else {
+            self.unlist()
+        }
+    }
+
+    /// Takes the work on by what changed, and keeps the changes behind the others. The one error is want of memory, and then
+    /// nothing is changed.
+    fn take_by(&mut self, changes: &Changes, revision: u64) -> Result<(), Memory>
         requires joined { self.old.behind ≡ None }
         requires may { MayApply self.old.work (arc_value changes.now.filters) changes.now.sets changes.now.moves }
         ensures went { OnOk result
@@ -100,6 +129,46 @@ impl Followed {
         self.kept = revision;
         self.behind = Some(list);
         Ok(())
+    }
+
+    /// Takes the work on to these filters and sets without a list of what changed. The one error is want of memory, and then
+    /// nothing is changed.
+    fn take_anew(&mut self, changes: &Changes, revision: u64) -> Result<(), Memory>
+        requires sets { HaveSets changes.now.sets (arc_value changes.now.filters) }
+        ensures went { OnOk result
+            (GoesOn (arc_value changes.now.filters) changes.now.sets revision self.old self.new) }
+        ensures err { OnErr result (self.new ≡ self.old) }
+    {
+        let sets = changes.sets.share()?;
+        let filters = Arc::try_clone(&changes.filters)?;
+        let work = self.work.anew(filters, sets)?;
+        let base = self.base.apart(&self.work)?;
+        let before = base.origin(&work)?;
+        let map = work.origin()?;
+        self.work = work;
+        self.base = base;
+        self.kept = revision;
+        self.pending = Pending::between(before, map);
+        self.behind = None;
+        Ok(())
+    }
+
+    /// Takes the work on: by what changed where its keys are counted, and anew where they aren't or memory was wanting. The
+    /// one error is want of memory, and then nothing is changed.
+    fn take_on(&mut self, changes: &Changes, revision: u64) -> Result<(), Memory>
+        requires joined { self.old.behind ≡ None }
+        requires may { MayApply self.old.work (arc_value changes.now.filters) changes.now.sets changes.now.moves }
+        ensures went { OnOk result
+            (GoesOn (arc_value changes.now.filters) changes.now.sets revision self.old self.new) }
+        ensures err { OnErr result (self.new ≡ self.old) }
+    {
+        if self.work.is_counted() {
+            match self.take_by(changes, revision) {
+                Ok(()) => return Ok(()),
+                Err(_) => {}
+            }
+        }
+        self.take_anew(changes, revision)
     }
 
     /// Goes on by these changes. Room is taken for the changes that are kept before the work is taken on, and where there is
@@ -228,7 +297,7 @@ impl Followed {
     {
         self.shown = Some(self.kept);
         self.base = Base::Own;
-        self.pending = no_changes(alloc);
+        self.pending = Pending::listed(no_changes(alloc));
         self.behind = None;
     }
 }

@@ -8,6 +8,8 @@
 mod base;
 mod follow;
 pub mod laws;
+mod pending;
 
 pub use base::Base;
 pub use follow::Followed;
+pub use pending::Pending;

@@ -1,6 +1,7 @@
 -- The map is shown with what was pending, and what is kept goes on from it.
-use Rattle.std.proofs.Common.{◌≡◌, Option, Some, None, ap, subst, sym, ◌∙◌}
+use Rattle.std.proofs.Common.{◌≡◌, List, Option, Some, None, ap, subst, sym, ◌∙◌}
 use Rattle.std.proofs.lemmas.Option.{same_Some}
+use Rattle.pol_map_changes.specs.declared.change.Change.{Change}
 use Rattle.pol_slot_map.specs.declared.follow.Followed.{Followed}
 use Rattle.pol_slot_map.specs.Follow.{IsShown}
 use Rattle.pol_machine.specs.declared.row.MachineRow.{MachineRow}
@@ -22,7 +23,8 @@ returns-clause-ok c made is =
     } in
     record {
       shown = map.0;
-      is = subst (λ (f : Followed). IsShownOf c.args.row.now.map f.pending c.args.taken.now map.0) same map.2;
+      is = subst (λ (f : Followed). IsShownOf c.args.row.now.map f.pending c.args.taken.now map.0) same
+          (subst (λ (changes : List Change). IsShownOf c.args.row.now.map changes c.args.taken.now map.0) c.in_ok-list-in-Some.ensures.list map.2);
       work = c.published.new.self;
       follows = subst (λ (f : Followed). IsShown f c.published.new.self) same (record {
         name = on.name;

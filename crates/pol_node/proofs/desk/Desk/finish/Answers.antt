@@ -1,6 +1,9 @@
 -- What was taken is reported behind the history that is shown.
 use Rattle.std.proofs.Common.{[], List, ap, refl, subst, sym, ◌∙◌}
 use mathlib.Core.List.{IsPrefix}
+use Rattle.pol_map_changes.specs.Changes.{changed}
+use Rattle.pol_map_changes.specs.declared.change.Change.{Change}
+use Rattle.pol_slot_map.specs.Followed.{table_then}
 use Rattle.pol_history.specs.declared.event.HistoryEvent.{HistoryEvent}
 use Rattle.pol_history.specs.declared.event.HistoryEvent.TheVariants as event
 use Rattle.pol_history.specs.Machine.{endpoint_id}
@@ -73,7 +76,9 @@ publish-requires-clause-leads g c =
     let was = taken_before options old c.show.new.pass.has.history history taken grown.goes_on grown.legal c.show.ensures.all c.requires.revision c.requires.taken in
     let last_is = sym c.last_report-report.ensures ∙ c.is_same_report.ensures.same c.if-not-is_same_report.false in
     let next = next_here options old history taken was c.args.last c.if-not-is_live.ensures c.requires.last last_is (sym c.is_of.ensures ∙ c.if-is_of.false) in
-    leads_here options old history taken was (published_before c.args.last) c.args.changes.now next c.requires.shown c.requires.leads
+    leads_here options old history taken was (published_before c.args.last) c.in_ok-list.list next c.requires.shown
+    (ap (λ (changes : List Change). changed changes (table_then options old (endpoint_id taken.endpoint) (published_before c.args.last))) c.in_ok-list.ensures.list
+    ∙ c.requires.leads)
 
 pub invariant_of-self-then-count-self : goal.invariant_of-self-then-count-self
 invariant_of-self-then-count-self g c =
@@ -113,11 +118,19 @@ returns-in_ok-publish-clause-reported g c =
     c.revision-commits.result c.published.result c.published.ensures (c.revision-commits.ensures.revision ∙ revision_at options history repo at)
     (c.publish.ensures.shown ∙ c.in_ok-publish.ensures.added)
 
+pub returns-in_err-list-clause-cause : goal.returns-in_err-list-clause-cause
+returns-in_err-list-clause-cause g c =
+    let options = g.N.NodeName.options in let endpoint = endpoint_id c.args.taken.now.endpoint in
+    let last_is = sym c.last_report-report.ensures ∙ c.is_same_report.ensures.same c.if-not-is_same_report.false in
+    memory_fails (NotReported options c.show.new.pass.has.history endpoint c.args.last) c.from_residual.result c.from_residual.ensures.1
+    (subst (λ (h : List HistoryEvent). IsLastNow options h endpoint c.args.last) (sym c.show.ensures.all)
+    (record { live = c.if-not-is_live.ensures; is = last_is }))
+
 pub returns-in_err-publish-clause-cause : goal.returns-in_err-publish-clause-cause
 returns-in_err-publish-clause-cause g c =
     let options = g.N.NodeName.options in let endpoint = endpoint_id c.args.taken.now.endpoint in let new = c.publish.new.pass.has.history in
     let last_is = sym c.last_report-report.ensures ∙ c.is_same_report.ensures.same c.if-not-is_same_report.false in
-    memory_fails (NotReported options new endpoint c.args.last) c.from_residual.result c.from_residual.ensures.1
+    memory_fails (NotReported options new endpoint c.args.last) c.from_residual-in_err-publish.result c.from_residual-in_err-publish.ensures.1
     (subst (λ (h : List HistoryEvent). IsLastNow options h endpoint c.args.last) (sym (c.publish.ensures.shown ∙ c.in_err-publish.ensures.err))
     (record { live = c.if-not-is_live.ensures; is = last_is }))
 

@@ -3,7 +3,7 @@ use Rattle.std.proofs.Common.{List, [], sym, subst}
 use Rattle.std.specs.List.Sorted.{IsStrictlySortedBy}
 use Rattle.pol_map_changes.specs.Changes.{IsAscending}
 use Rattle.pol_map_changes.specs.declared.change.Change.{Change}
-use Rattle.pol_slot_map.proofs.base.no_changes.Goals as goal
+use Rattle.pol_slot_map.proofs.pending.no_changes.Goals as goal
 
 none_ascend : IsAscending []
 unfolding IsStrictlySortedBy

@@ -7,7 +7,7 @@ use Rattle.pol_map_changes.specs.Changes.{changed, table_of}
 use Rattle.pol_map_changes.proofs.Differences.{differences_lead}
 use Rattle.pol_slot_map.specs.Base.{entries_in}
 use Rattle.pol_slot_map.specs.Follow.{base_of, changed_by}
-use Rattle.pol_slot_map.proofs.follow.Followed.take_on.Goals as goal
+use Rattle.pol_slot_map.proofs.follow.Followed.take_by.Goals as goal
 
 pub returns-clause-went : goal.returns-clause-went
 returns-clause-went c =
