@@ -5,7 +5,7 @@ ghost use Rattle.pol_addr.specs.Address.{family_of};
 ghost use Rattle.pol_prefix_table.specs.Table.{IsLongestMatch, NoneMatches};
 
 use crate::bits::Bits;
-use crate::nodes::Nodes;
+use crate::family_trie::FamilyTrie;
 use crate::put::put;
 use crate::start::Start;
 use crate::starts::{copied, grow, longest_over, renew};
@@ -20,7 +20,7 @@ const MOST_NODES: usize = 4_294_967_295;
 /// A finite map from prefixes of one family to numbers.
 #[derive(Drop)]
 pub(crate) struct FamilyTable<B: Bits> {
-    nodes: Nodes<B>,
+    trie: FamilyTrie<B>,
     // In the order of their prefixes, which all have one length. None in a small table.
     starts: Vec<Start<B>>,
 }
@@ -32,13 +32,13 @@ impl<B: Bits> Model for FamilyTable<B> {
 
     ghost coded = { table_code };
 
-    ghost use Rattle.pol_prefix_table.specs.Trie.{map_of, IsTrie};
+    ghost use Rattle.pol_prefix_table.specs.Trie.{map_of};
     ghost use Rattle.pol_prefix_table.specs.Sizes.{IsTight};
     ghost use Rattle.pol_prefix_table.specs.Starts.{AreStarts};
 
-    ghost view = { λ t. map_of t.nodes };
+    ghost view = { λ t. map_of t.trie };
 
-    ghost invariant = { λ t. IsTrie B.family t.nodes × AreStarts B.family t.nodes t.starts.items × IsTight t.nodes };
+    ghost invariant = { λ t. AreStarts B.family t.trie t.starts.items × IsTight t.trie };
 }
 
 impl<B: Bits> FamilyTable<B> {
@@ -47,7 +47,7 @@ impl<B: Bits> FamilyTable<B> {
         ensures { result ≡ map.empty }
     {
         FamilyTable {
-            nodes: Nodes::new(alloc),
+            trie: FamilyTrie::new(alloc),
             starts: Vec::new(alloc),
         }
     }
@@ -59,13 +59,14 @@ impl<B: Bits> FamilyTable<B> {
         ensures ok { OnOk result (self.new ≡ map.insert self.old prefix number) }
         ensures err { OnErr result (self.new ≡ self.old) }
     {
-        self.nodes.reserve(3)?;
-        if self.nodes.capacity() > MOST_NODES {
+        self.trie.reserve(3)?;
+        if self.trie.capacity() > MOST_NODES {
             return Err(Memory);
         }
-        grow(&self.nodes, &mut self.starts)?;
-        let over = put(&mut self.nodes, prefix, number);
-        renew(&self.nodes, &mut self.starts, &over);
+        grow(&self.trie, &mut self.starts)?;
+        let over = put(&mut self.trie, prefix, number);
+        self.trie.fits_together();
+        renew(&self.trie, &mut self.starts, &over);
         Ok(())
     }
 
@@ -75,8 +76,10 @@ impl<B: Bits> FamilyTable<B> {
         ensures value { result ≡ map.get self.old prefix }
         ensures rest { self.new ≡ map.remove self.old prefix }
     {
-        let (number, over) = take(&mut self.nodes, &prefix)?;
-        renew(&self.nodes, &mut self.starts, &over);
+        self.trie.fits_together();
+        let (number, over) = take(&mut self.trie, &prefix)?;
+        self.trie.fits_together();
+        renew(&self.trie, &mut self.starts, &over);
         Some(number)
     }
 
@@ -85,7 +88,8 @@ impl<B: Bits> FamilyTable<B> {
         ensures found { IfSome result (IsLongestMatch self.now (B.seen bits)) }
         ensures none { IsNone result ↔ NoneMatches self.now (B.seen bits) }
     {
-        longest_over(&self.nodes, self.starts.as_slice(), bits)
+        self.trie.fits_together();
+        longest_over(&self.trie, self.starts.as_slice(), bits)
     }
 
     /// How many nodes it takes.
@@ -94,7 +98,7 @@ impl<B: Bits> FamilyTable<B> {
         ensures most { result ≤ 2 * map.len self.now + 1 }
         ensures small { result < 2 ^ 32 }
     {
-        self.nodes.len()
+        self.trie.len()
     }
 
     /// The same table once more. The one error is want of memory.
@@ -102,7 +106,7 @@ impl<B: Bits> FamilyTable<B> {
         ensures { IfOk result (λ copy. copy ≡ self.now) }
     {
         Ok(FamilyTable {
-            nodes: self.nodes.copy(alloc)?,
+            trie: self.trie.copy(alloc)?,
             starts: copied(alloc, self.starts.as_slice())?,
         })
     }

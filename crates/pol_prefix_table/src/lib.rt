@@ -5,8 +5,8 @@
 #![tactic(auto)]
 
 mod bits;
-mod edit;
 mod family_table;
+mod family_trie;
 pub mod laws;
 mod node;
 mod nodes;

@@ -4,11 +4,11 @@ ghost use Rattle.std.specs.List.Sorted.{IsNonDecreasingBy, IsPartitionPoint};
 ghost use Rattle.slab.specs.Slab.{get};
 ghost use Rattle.pol_addr.specs.Address.{bits_of, family_of};
 ghost use Rattle.pol_addr.specs.Prefix.{covers, host_prefix};
-ghost use Rattle.pol_prefix_table.specs.Trie.{IsTrie, HasRoot, IsNumberOver, NoNumberOver};
+ghost use Rattle.pol_prefix_table.specs.Trie.{HasRoot, IsNumberOver, NoNumberOver};
 ghost use Rattle.pol_prefix_table.specs.Starts.{HasReached, AreStarts, AreStartsOutside, beginning};
 
 use crate::bits::Bits;
-use crate::nodes::Nodes;
+use crate::family_trie::FamilyTrie;
 use crate::start::{Start, prefix_at};
 use crate::walk::{Reached, at_root, to_end};
 use pol_addr::{Family, Prefix};
@@ -45,30 +45,28 @@ fn bits_for(family: Family, nodes: usize) -> Option<u8>
 }
 
 /// The start of a prefix.
-fn start_over<B: Bits>(nodes: &Nodes<B>, over: Prefix) -> Reached
-    requires trie { IsTrie B.family nodes.now }
-    requires rooted { HasRoot B.family (get nodes.now) }
+fn start_over<B: Bits>(trie: &FamilyTrie<B>, over: Prefix) -> Reached
+    requires rooted { HasRoot B.family (get trie.now) }
     requires family { family_of over.addr ≡ B.family }
     ensures to { result.to ≡ over }
-    ensures reached { HasReached nodes.now result }
+    ensures reached { HasReached trie.now result }
     ensures key { result.at < 2 ^ 32 }
 {
-    let start = to_end(nodes, at_root(nodes, over));
-    nodes.keys_are_small(start.at);
+    let start = to_end(trie, at_root(trie, over));
+    trie.keys_are_small(start.at);
     start
 }
 
 /// A walk goes on to a prefix that its own covers.
-fn walk_on<B: Bits>(nodes: &Nodes<B>, from: &Reached, to: Prefix) -> Reached
-    requires trie { IsTrie B.family nodes.now }
-    requires reached { HasReached nodes.now from.now }
+fn walk_on<B: Bits>(trie: &FamilyTrie<B>, from: &Reached, to: Prefix) -> Reached
+    requires reached { HasReached trie.now from.now }
     requires over { covers from.now.to to ≡ true }
     ensures to { result.to ≡ to }
-    ensures reached { HasReached nodes.now result }
+    ensures reached { HasReached trie.now result }
     ensures key { result.at < 2 ^ 32 }
 {
     let start = to_end(
-        nodes,
+        trie,
         Reached {
             to,
             at: from.at,
@@ -76,36 +74,34 @@ fn walk_on<B: Bits>(nodes: &Nodes<B>, from: &Reached, to: Prefix) -> Reached
             visits: from.visits,
         },
     );
-    nodes.keys_are_small(start.at);
+    trie.keys_are_small(start.at);
     start
 }
 
 /// Makes starts for more bits, where the table has outgrown those that it has.
-pub(crate) fn grow<B: Bits>(nodes: &Nodes<B>, starts: &mut Vec<Start<B>>) -> Result<(), Memory>
-    requires trie { IsTrie B.family nodes.now }
-    requires starts { AreStarts B.family nodes.now starts.old.items }
-    ensures { AreStarts B.family nodes.now starts.new.items }
+pub(crate) fn grow<B: Bits>(trie: &FamilyTrie<B>, starts: &mut Vec<Start<B>>) -> Result<(), Memory>
+    requires starts { AreStarts B.family trie.now starts.old.items }
+    ensures { AreStarts B.family trie.now starts.new.items }
 {
-    let Some(bits) = bits_for(B::family(), nodes.len()) else {
+    let Some(bits) = bits_for(B::family(), trie.len()) else {
         return Ok(());
     };
-    if starts.len() >= 1 << bits || !nodes.contains(0) {
+    if starts.len() >= 1 << bits || !trie.contains(0) {
         return Ok(());
     }
-    fill(nodes, starts, bits)
+    fill(trie, starts, bits)
 }
 
 /// Makes the starts of all prefixes of this length.
-fn fill<B: Bits>(nodes: &Nodes<B>, starts: &mut Vec<Start<B>>, bits: u8) -> Result<(), Memory>
-    requires trie { IsTrie B.family nodes.now }
-    requires rooted { HasRoot B.family (get nodes.now) }
+fn fill<B: Bits>(trie: &FamilyTrie<B>, starts: &mut Vec<Start<B>>, bits: u8) -> Result<(), Memory>
+    requires rooted { HasRoot B.family (get trie.now) }
     requires some { 0 < bits }
     requires few { bits ≤ START_BITS }
-    ensures { AreStarts B.family nodes.now starts.new.items }
+    ensures { AreStarts B.family trie.now starts.new.items }
 {
     starts.clear();
     for place in 0..1u32 << bits {
-        let start = start_over(nodes, prefix_at::<B>(place, bits));
+        let start = start_over(trie, prefix_at::<B>(place, bits));
         starts.push(Start::of(place, bits, start))?;
     }
     Ok(())
@@ -113,20 +109,24 @@ fn fill<B: Bits>(nodes: &Nodes<B>, starts: &mut Vec<Start<B>>, bits: u8) -> Resu
 
 /// Makes the start once more, where the prefix to which a walk has led covers the start's. Whether it does.
 #[inline(always)]
-fn renew_one<B: Bits>(nodes: &Nodes<B>, over: &Prefix, from: &Reached, start: &mut Start<B>) -> bool
-    requires trie { IsTrie B.family nodes.now }
-    requires from { HasReached nodes.now from.now }
+fn renew_one<B: Bits>(
+    trie: &FamilyTrie<B>,
+    over: &Prefix,
+    from: &Reached,
+    start: &mut Start<B>,
+) -> bool
+    requires from { HasReached trie.now from.now }
     requires from_over { from.now.to ≡ over.now }
-    requires outside { covers over.now start.old.to ≡ false → HasReached nodes.now start.old }
+    requires outside { covers over.now start.old.to ≡ false → HasReached trie.now start.old }
     ensures covered { result ≡ covers over.now start.old.to }
     ensures to { start.new.to ≡ start.old.to }
-    ensures reached { HasReached nodes.now start.new }
+    ensures reached { HasReached trie.now start.new }
 {
     let to = start.to();
     if !over.covers(&to) {
         return false;
     }
-    *start = start.renewed(walk_on(nodes, from, to));
+    *start = start.renewed(walk_on(trie, from, to));
     true
 }
 
@@ -140,19 +140,18 @@ fn starts_below<B: Bits>(starts: &[Start<B>], bits: B) -> usize
 }
 
 /// Makes the starts of all prefixes that this one covers once more. They stand side by side.
-pub(crate) fn renew<B: Bits>(nodes: &Nodes<B>, starts: &mut Vec<Start<B>>, over: &Prefix)
-    requires trie { IsTrie B.family nodes.now }
-    requires rooted { HasRoot B.family (get nodes.now) }
+pub(crate) fn renew<B: Bits>(trie: &FamilyTrie<B>, starts: &mut Vec<Start<B>>, over: &Prefix)
+    requires rooted { HasRoot B.family (get trie.now) }
     requires family { family_of over.now.addr ≡ B.family }
-    requires outside { AreStartsOutside B.family nodes.now over.now starts.old.items }
-    ensures { AreStarts B.family nodes.now starts.new.items }
+    requires outside { AreStartsOutside B.family trie.now over.now starts.old.items }
+    ensures { AreStarts B.family trie.now starts.new.items }
 {
     if over.len() > START_BITS {
         return;
     }
-    let from = start_over(nodes, *over);
+    let from = start_over(trie, *over);
     for i in starts_below(starts.as_slice(), B::of(over.network()))..starts.len() {
-        if !renew_one(nodes, over, &from, &mut starts[i]) {
+        if !renew_one(trie, over, &from, &mut starts[i]) {
             return;
         }
     }
@@ -166,16 +165,15 @@ fn place_of(high: u32, starts: usize) -> usize {
 
 /// Where a walk to an address may begin: at a start whose prefix contains it, or else at the root.
 #[inline(always)]
-fn from_start<B: Bits>(nodes: &Nodes<B>, start: &Start<B>, bits: B) -> Reached
-    requires trie { IsTrie B.family nodes.now }
-    requires rooted { HasRoot B.family (get nodes.now) }
-    requires start { HasReached nodes.now start.now }
+fn from_start<B: Bits>(trie: &FamilyTrie<B>, start: &Start<B>, bits: B) -> Reached
+    requires rooted { HasRoot B.family (get trie.now) }
+    requires start { HasReached trie.now start.now }
     ensures to { result.to ≡ host_prefix (B.seen bits) }
-    ensures reached { HasReached nodes.now result }
+    ensures reached { HasReached trie.now result }
 {
     let to = Prefix::host(bits.addr());
     if !start.contains(bits) {
-        return at_root(nodes, to);
+        return at_root(trie, to);
     }
     let walk = start.reached();
     Reached {
@@ -188,31 +186,33 @@ fn from_start<B: Bits>(nodes: &Nodes<B>, start: &Start<B>, bits: B) -> Reached
 
 /// Where a walk to an address may begin.
 #[inline(always)]
-fn start_of<B: Bits>(nodes: &Nodes<B>, starts: &[Start<B>], bits: B) -> Reached
-    requires trie { IsTrie B.family nodes.now }
-    requires rooted { HasRoot B.family (get nodes.now) }
-    requires starts { AreStarts B.family nodes.now starts.now }
+fn start_of<B: Bits>(trie: &FamilyTrie<B>, starts: &[Start<B>], bits: B) -> Reached
+    requires rooted { HasRoot B.family (get trie.now) }
+    requires starts { AreStarts B.family trie.now starts.now }
     ensures to { result.to ≡ host_prefix (B.seen bits) }
-    ensures reached { HasReached nodes.now result }
+    ensures reached { HasReached trie.now result }
 {
     match starts.get(place_of(bits.high(), starts.len())) {
-        Some(start) => from_start(nodes, start, bits),
-        None => at_root(nodes, Prefix::host(bits.addr())),
+        Some(start) => from_start(trie, start, bits),
+        None => at_root(trie, Prefix::host(bits.addr())),
     }
 }
 
 /// The number of the longest node that covers the address.
 #[inline(always)]
-pub(crate) fn longest_over<B: Bits>(nodes: &Nodes<B>, starts: &[Start<B>], bits: B) -> Option<u32>
-    requires trie { IsTrie B.family nodes.now }
-    requires starts { AreStarts B.family nodes.now starts.now }
-    ensures found { IfSome result (IsNumberOver nodes.now (host_prefix (B.seen bits))) }
-    ensures none { IfNone result (NoNumberOver nodes.now (host_prefix (B.seen bits))) }
+pub(crate) fn longest_over<B: Bits>(
+    trie: &FamilyTrie<B>,
+    starts: &[Start<B>],
+    bits: B,
+) -> Option<u32>
+    requires starts { AreStarts B.family trie.now starts.now }
+    ensures found { IfSome result (IsNumberOver trie.now (host_prefix (B.seen bits))) }
+    ensures none { IfNone result (NoNumberOver trie.now (host_prefix (B.seen bits))) }
 {
-    if !nodes.contains(0) {
+    if !trie.contains(0) {
         return None;
     }
-    to_end(nodes, start_of(nodes, starts, bits)).number
+    to_end(trie, start_of(trie, starts, bits)).number
 }
 
 /// The starts once more. The one error is want of memory.

@@ -3,12 +3,12 @@ ghost use Rattle.std.specs.Prelude.{◌≡◌, ◌+◌, ◌<◌, ◌≤◌, IfSo
 ghost use Rattle.slab.specs.Slab.{get};
 ghost use Rattle.pol_addr.specs.Address.{family_of, width_of};
 ghost use Rattle.pol_addr.specs.Cidr.{IsPrefix};
-ghost use Rattle.pol_prefix_table.specs.Trie.{IsTrie, HasRoot, child_toward, StandsOver, IsDeepest, NoneBetween, IsSpot, len_at};
+ghost use Rattle.pol_prefix_table.specs.Trie.{HasRoot, child_toward, StandsOver, IsDeepest, NoneBetween, IsSpot, len_at};
 ghost use Rattle.pol_prefix_table.specs.Starts.{HasReached};
 
 use crate::bits::Bits;
+use crate::family_trie::FamilyTrie;
 use crate::node::PrefixNode;
-use crate::nodes::Nodes;
 use pol_addr::Prefix;
 
 /// The key of the node below that may cover the target: the one on the target's side.
@@ -27,20 +27,19 @@ fn toward(node: &PrefixNode, target: &Prefix) -> Option<usize>
 /// The next node on the way to the target that covers it and is shorter than the limit.
 #[inline(always)]
 pub(crate) fn step<B: Bits>(
-    nodes: &Nodes<B>,
+    trie: &FamilyTrie<B>,
     at: usize,
     target: &Prefix,
     limit: u8,
 ) -> Option<usize>
-    requires trie { IsTrie B.family nodes.now }
-    requires stands { StandsOver nodes.now target.now limit at }
-    ensures stands { IfSome result (StandsOver nodes.now target.now limit) }
-    ensures deeper { IfSome result (λ next. len_at nodes.now at < len_at nodes.now next) }
-    ensures between { IfSome result (NoneBetween nodes.now target.now at) }
-    ensures deepest { IfNone result (IsDeepest nodes.now target.now limit at) }
+    requires stands { StandsOver trie.now target.now limit at }
+    ensures stands { IfSome result (StandsOver trie.now target.now limit) }
+    ensures deeper { IfSome result (λ next. len_at trie.now at < len_at trie.now next) }
+    ensures between { IfSome result (NoneBetween trie.now target.now at) }
+    ensures deepest { IfNone result (IsDeepest trie.now target.now limit at) }
 {
-    let next = toward(&nodes.at(at), target)?;
-    let prefix = nodes.prefix_at(next);
+    let next = toward(&trie.at(at), target)?;
+    let prefix = trie.prefix_at(next);
     if prefix.len() < limit && prefix.covers(target) {
         Some(next)
     } else {
@@ -50,33 +49,31 @@ pub(crate) fn step<B: Bits>(
 
 /// The key of the longest node that covers the target and is shorter.
 #[inline(always)]
-pub(crate) fn parent_of<B: Bits>(nodes: &Nodes<B>, target: &Prefix) -> usize
-    requires trie { IsTrie B.family nodes.now }
-    requires rooted { HasRoot B.family (get nodes.now) }
+pub(crate) fn parent_of<B: Bits>(trie: &FamilyTrie<B>, target: &Prefix) -> usize
+    requires rooted { HasRoot B.family (get trie.now) }
     requires family { family_of target.now.addr ≡ B.family }
     requires longer { 0 < target.now.len }
-    ensures { IsDeepest nodes.now target.now target.now.len result }
+    ensures { IsDeepest trie.now target.now target.now.len result }
 {
     let limit = target.len();
     let mut at = 0;
-    while let Some(next) = step(nodes, at, target, limit) {
+    while let Some(next) = step(trie, at, target, limit) {
         at = next;
     }
     at
 }
 
 /// Where the prefix belongs: the key of the longest node that covers it and is shorter, and the side.
-pub(crate) fn spot_of<B: Bits>(nodes: &Nodes<B>, prefix: &Prefix) -> (usize, bool)
-    requires trie { IsTrie B.family nodes.now }
-    requires rooted { HasRoot B.family (get nodes.now) }
+pub(crate) fn spot_of<B: Bits>(trie: &FamilyTrie<B>, prefix: &Prefix) -> (usize, bool)
+    requires rooted { HasRoot B.family (get trie.now) }
     requires family { family_of prefix.now.addr ≡ B.family }
     requires longer { 0 < prefix.now.len }
-    ensures spot { IsSpot nodes.now prefix.now result.0 result.1 }
+    ensures spot { IsSpot trie.now prefix.now result.0 result.1 }
     ensures valid { IsPrefix prefix.now }
 {
     let _ = prefix.len();
-    let parent = parent_of(nodes, prefix);
-    (parent, prefix.bit(nodes.at(parent).prefix.len()))
+    let parent = parent_of(trie, prefix);
+    (parent, prefix.bit(trie.at(parent).prefix.len()))
 }
 
 /// How far a walk has come: the prefix that it leads to, the longest node so far that covers it, the number of the longest
@@ -91,18 +88,17 @@ pub(crate) struct Reached {
 
 /// At the root.
 #[inline(always)]
-pub(crate) fn at_root<B: Bits>(nodes: &Nodes<B>, to: Prefix) -> Reached
-    requires trie { IsTrie B.family nodes.now }
-    requires rooted { HasRoot B.family (get nodes.now) }
+pub(crate) fn at_root<B: Bits>(trie: &FamilyTrie<B>, to: Prefix) -> Reached
+    requires rooted { HasRoot B.family (get trie.now) }
     requires family { family_of to.addr ≡ B.family }
     ensures to { result.to ≡ to }
-    ensures reached { HasReached nodes.now result }
+    ensures reached { HasReached trie.now result }
 {
     let _ = to.len();
     Reached {
         to,
         at: 0,
-        number: nodes.at(0).number,
+        number: trie.at(0).number,
         visits: 1,
     }
 }
@@ -110,12 +106,11 @@ pub(crate) fn at_root<B: Bits>(nodes: &Nodes<B>, to: Prefix) -> Reached
 /// On to the longest node that covers the prefix. The walk comes by at most one node of each length: 33 of them, or 129 in the
 /// trie of IPv6.
 #[inline(always)]
-pub(crate) fn to_end<B: Bits>(nodes: &Nodes<B>, from: Reached) -> Reached
-    requires trie { IsTrie B.family nodes.now }
-    requires reached { HasReached nodes.now from }
+pub(crate) fn to_end<B: Bits>(trie: &FamilyTrie<B>, from: Reached) -> Reached
+    requires reached { HasReached trie.now from }
     ensures to { result.to ≡ from.to }
-    ensures reached { HasReached nodes.now result }
-    ensures deepest { IsDeepest nodes.now from.to (from.to.len + 1) result.at }
+    ensures reached { HasReached trie.now result }
+    ensures deepest { IsDeepest trie.now from.to (from.to.len + 1) result.at }
     ensures visits { result.visits ≤ width_of from.to.addr + 1 }
 {
     let to = from.to;
@@ -123,9 +118,9 @@ pub(crate) fn to_end<B: Bits>(nodes: &Nodes<B>, from: Reached) -> Reached
     let mut at = from.at;
     let mut number = from.number;
     let mut visits = from.visits;
-    while let Some(next) = step(nodes, at, &to, limit) {
+    while let Some(next) = step(trie, at, &to, limit) {
         at = next;
-        number = nodes.number_at(at).or(number);
+        number = trie.number_at(at).or(number);
         visits += 1;
     }
     Reached {

@@ -13,7 +13,7 @@ pub returns-then-len-eq0-clause-numbers : goal.returns-then-len-eq0-clause-numbe
 returns-then-len-eq0-clause-numbers g c =
     let (root, is, prefix_is) = c.requires.rooted in
     let same : root.prefix ≡ c.args.prefix = prefix_is ∙ ap world (sym c.requires.family) ∙ sym (world_from_len c.args.prefix c.len.ensures.valid (sym c.len.ensures.value ∙ c.if-len-eq0.true)) in
-    subst (λ p. Numbers c.args.nodes.now c.set_number.new.nodes p (Some c.args.number)) same (c.set_number.ensures.numbers root is)
+    subst (λ p. Numbers c.args.trie.now c.set_number.new.self p (Some c.args.number)) same (c.set_number.ensures.numbers root is)
 
 pub returns-clause-over : goal.returns-clause-over
-returns-clause-over g c = spot_over c.args.nodes.now c.requires.trie.tree c.args.prefix c.spot_of-spot.result.0 c.spot_of-spot.result.1 c.spot_of-spot.ensures.spot c.at-over.result c.at-over.ensures.node
+returns-clause-over g c = spot_over c.args.trie.now c.at-over.ensures.trie.tree c.args.prefix c.spot_of-spot.result.0 c.spot_of-spot.result.1 c.spot_of-spot.ensures.spot c.at-over.result c.at-over.ensures.node

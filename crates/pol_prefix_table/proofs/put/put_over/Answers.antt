@@ -1,4 +1,4 @@
-use Rattle.std.proofs.Common.{◌≢◌, Some, is_some, sym, ap, ◌∙◌, subst, rules}
+use Rattle.std.proofs.Common.{◌≢◌, Some, sym, ap, ◌∙◌, subst, rules}
 use Rattle.std.proofs.lemmas.Option.{same_Some}
 use Rattle.std.proofs.lemmas.Bool.{both_ways}
 use Rattle.pol_addr.specs.Prefix.{covers}
@@ -8,16 +8,9 @@ use Rattle.pol_prefix_table.proofs.Places.{fits_between, over_number}
 use Rattle.pol_prefix_table.proofs.Tight.{needed_with_number}
 use Rattle.pol_prefix_table.proofs.put.put_over.Goals as goal
 
-pub at-other-requires : goal.at-other-requires
-at-other-requires g c =
-    let h = c.requires.spot in
-    let tree = c.requires.trie.tree in
-    let (_, is, _) = tree.linked c.args.spot.0 h.parent c.args.spot.1 c.args.below h.there (c.requires.link h.parent h.there) in
-    ap is_some is
-
 pub over-node-requires-clause-longer : goal.over-node-requires-clause-longer
 over-node-requires-clause-longer g c =
-    let tree = c.requires.trie.tree in
+    let tree = c.at-other.ensures.trie.tree in
     let differs : c.at-other.result.prefix ≢ c.args.prefix = search rules in
     strictly c.args.prefix c.at-other.result.prefix (tree.valid c.args.below c.at-other.result c.at-other.ensures.node) (sym c.covers.ensures.value ∙ c.if-covers.true) differs
 
@@ -25,8 +18,8 @@ pub attach-requires-clause-fits : goal.attach-requires-clause-fits
 attach-requires-clause-fits g c =
     let h = c.requires.spot in
     let differs : c.at-other.result.prefix ≢ c.args.prefix = search rules in
-    subst (FitsBelow c.args.nodes.now c.args.spot.0 c.args.spot.1) (sym c.over-node.ensures)
-    (fits_between c.args.nodes.now c.requires.trie.tree c.args.prefix c.args.spot.0 c.args.spot.1 h c.args.below c.at-other.result (c.requires.link h.parent h.there) c.at-other.ensures.node (Some c.args.number) (sym c.covers.ensures.value ∙ c.if-covers.true) differs)
+    subst (FitsBelow c.args.trie.now c.args.spot.0 c.args.spot.1) (sym c.over-node.ensures)
+    (fits_between c.args.trie.now c.at-other.ensures.trie.tree c.args.prefix c.args.spot.0 c.args.spot.1 h c.args.below c.at-other.result (c.requires.link h.parent h.there) c.at-other.ensures.node (Some c.args.number) (sym c.covers.ensures.value ∙ c.if-covers.true) differs)
 
 pub put_beside-requires-clause-differs : goal.put_beside-requires-clause-differs
 put_beside-requires-clause-differs g c = λ n is.

@@ -29,8 +29,8 @@ loop-place-preserved g c =
     let family = g.B.Bits.family in
     let items = c.loop-place.starts.items in
     let to = ap (λ r. r.to) same ∙ c.start_over-start.ensures.to ∙ c.prefix_at.ensures.value ∙ ap (beginning family c.args.bits) (sym c.loop-place.invariant.length) in
-    let reached = subst (HasReached c.args.nodes.now) (sym same) c.start_over-start.ensures.reached in
+    let reached = subst (HasReached c.args.trie.now) (sym same) c.start_over-start.ensures.reached in
     record {
-      each = λ i r is. starts_pushed family c.args.nodes.now c.args.bits items c.of.result c.loop-place.invariant.each reached to i r (ap (λ xs. slice_get xs i) (sym c.in_ok-push.ensures.items) ∙ is);
+      each = λ i r is. starts_pushed family c.args.trie.now c.args.bits items c.of.result c.loop-place.invariant.each reached to i r (ap (λ xs. slice_get xs i) (sym c.in_ok-push.ensures.items) ∙ is);
       length = omega (arith, ap length c.in_ok-push.ensures.items, length_pushed items c.of.result, c.loop-place.invariant.length);
     }

@@ -6,6 +6,6 @@ use Rattle.pol_prefix_table.proofs.starts.fill.Given as goal
 -- the starts of all places so far
 abbrev pub invariant-loop-place : goal.invariant-loop-place
 invariant-loop-place g l = record {
-  each : (i : ℕ) (r : Reached) → slice_get l.starts.items i ≡ Some r → HasReached l.nodes r × (r.to ≡ beginning g.B.Bits.family l.bits i);
+  each : (i : ℕ) (r : Reached) → slice_get l.starts.items i ≡ Some r → HasReached l.trie r × (r.to ≡ beginning g.B.Bits.family l.bits i);
   length : length l.starts.items ≡ l.place;
 }

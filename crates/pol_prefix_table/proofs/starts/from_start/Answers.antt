@@ -7,7 +7,7 @@ use Rattle.pol_prefix_table.proofs.starts.from_start.Goals as goal
 
 pub returns-clause-reached : goal.returns-clause-reached
 returns-clause-reached g c =
-    let nodes = c.args.nodes.now in
+    let nodes = c.args.trie.now in
     let to = c.host-to.result in
     let is = c.reached-walk.ensures.walk in
     let inside : covers c.args.start.now.to to ≡ true = ap (covers c.args.start.now.to) (c.host-to.ensures ∙ ap host_prefix c.addr.ensures.addr) ∙ c.contains.ensures c.if-not-contains.false in

@@ -8,16 +8,16 @@ use Rattle.pol_prefix_table.proofs.Tight.{tight_all, loosened_if, alone_stays, n
 use Rattle.pol_prefix_table.proofs.take.prune.Goals as goal
 
 pub returns-then-is_needed-clause-tight : goal.returns-then-is_needed-clause-tight
-returns-then-is_needed-clause-tight g c = tight_all (get c.args.nodes.now) c.args.at c.at-node.result c.requires.tight c.at-node.ensures.node (c.is_needed.ensures.0 c.if-is_needed.true)
+returns-then-is_needed-clause-tight g c = tight_all (get c.args.trie.now) c.args.at c.at-node.result c.requires.tight c.at-node.ensures.node (c.is_needed.ensures.0 c.if-is_needed.true)
 
 pub returns-then-is_needed-clause-rooted : goal.returns-then-is_needed-clause-rooted
-returns-then-is_needed-clause-rooted g c = c.requires.trie.rooted c.args.at c.at-node.result c.at-node.ensures.node
+returns-then-is_needed-clause-rooted g c = c.at-node.ensures.trie.rooted c.args.at c.at-node.result c.at-node.ensures.node
 
 pub splice-requires-clause-only : goal.splice-requires-clause-only
 splice-requires-clause-only g c =
     let n = c.at-node.result in
     let free : 2 ≤ weight n → ⊥ = λ enough. both_ways _ c.if-is_needed.false (c.is_needed.ensures.1 enough) in
-    has_only c.args.nodes.now c.requires.trie.tree c.args.spot.0 c.args.at c.args.spot.1 n c.only-only.result (c.requires.spot n c.at-node.ensures.node) c.at-node.ensures.node c.only-only.ensures.key (not_both_below n free)
+    has_only c.args.trie.now c.at-node.ensures.trie.tree c.args.spot.0 c.args.at c.args.spot.1 n c.only-only.result (c.requires.spot n c.at-node.ensures.node) c.at-node.ensures.node c.only-only.ensures.key (not_both_below n free)
 
 pub splice-requires-clause-number : goal.splice-requires-clause-number
 splice-requires-clause-number g c = λ m is.
@@ -26,7 +26,7 @@ splice-requires-clause-number g c = λ m is.
     ap (λ x. x.number) (same_Some m n (sym is ∙ c.at-node.ensures.node)) ∙ no_number n free
 
 pub returns-clause-tight : goal.returns-clause-tight
-returns-clause-tight g c = loosened_if (get c.splice.new.nodes) c.only-only.result c.is_none.result c.args.spot.0 c.is_none.ensures c.splice.ensures.tight
+returns-clause-tight g c = loosened_if (get c.splice.new.self) c.only-only.result c.is_none.result c.args.spot.0 c.is_none.ensures c.splice.ensures.tight
 
 pub returns-clause-left : goal.returns-clause-left
 returns-clause-left g c = λ _ n is root. c.splice.ensures.left n root is

@@ -1,7 +1,7 @@
 use Rattle.std.proofs.Common.{ap, ◌∙◌}
 use Rattle.pol_addr.specs.Address.{family_of}
 use Rattle.pol_prefix_table.proofs.Edits.{with_child-prefix}
-use Rattle.pol_prefix_table.proofs.edit.link.Goals as goal
+use Rattle.pol_prefix_table.proofs.family_trie.link.Goals as goal
 
 pub set-requires-clause-family : goal.set-requires-clause-family
 set-requires-clause-family g c =
