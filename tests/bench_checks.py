@@ -97,10 +97,10 @@ def blocks(first, last):
     return count
 
 
-def too_large_keys():
+def too_large_keys(name, syncs):
     """How the script of this name in bench/growth isn't as it says: 90 keys for each prefix, in maps that are too large."""
     found = bench("growth")
-    make, count = found.MEASURED["too-large-keys"]
+    make, count = found.MEASURED[name]
     lines = [json.loads(line) for line in make(count).splitlines()]
     entries = [entry for line in lines if line["op"] == "apply" for entry in line["policy"]["spec"]["ingress"]]
     items = [port for entry in entries for item in entry["toPorts"] for port in item["ports"]]
@@ -108,14 +108,17 @@ def too_large_keys():
     of = len({prefix for entry in entries for prefix in entry["fromCIDR"]})
     if (keys, of) != (90, count):
         yield f"{keys} keys for each of {of} prefixes"
-    if keys * of <= MAP_MOST or found.WORDS.get("too-large-keys"):
+    if keys * of <= MAP_MOST or found.WORDS.get(name):
         yield f"a map of {keys * of} entries may fit"
     if sum(line["op"] == "endpoint" for line in lines) != 4 or lines[-1]["op"] != "sync":
         yield "it isn't of four endpoints whose maps are asked for at its end"
+    if sum(line["op"] == "sync" for line in lines) != syncs:
+        yield f"maps aren't asked for {syncs} times in it"
 
 
 def checks():
     yield "figures of bench/kept", lambda: list(kept())
-    for name, is_of_memory in (("too-large-keys", True), ("too-large", False)):
+    for name, is_of_memory in (("too-large-keys", True), ("too-large-keys-later", True), ("too-large", False)):
         yield f"figures of bench/growth {name}", lambda name=name, is_of_memory=is_of_memory: list(growth(name, is_of_memory))
-    yield "script of bench/growth too-large-keys", lambda: list(too_large_keys())
+    for name, syncs in (("too-large-keys", 1), ("too-large-keys-later", 2)):
+        yield f"script of bench/growth {name}", lambda name=name, syncs=syncs: list(too_large_keys(name, syncs))

@@ -18,7 +18,7 @@ use pol_mapkey::{Kind, MapKey};
 use pol_model::{EVERY_IDENTITY, HOST_IDENTITY, selects_every_number};
 use pol_ports::Direction;
 use pol_rule::{Peer, Peers};
-use pol_sets::SetRow;
+use pol_sets::{IdSet, SetRow};
 use std::alloc::Global;
 
 /// The kind of a filter's entries.
@@ -26,6 +26,22 @@ pub(crate) fn kind_of(one: &Filter) -> Kind
     ensures { result ≡ kind_of one.now }
 {
     if one.deny { Kind::Deny } else { Kind::Allow }
+}
+
+/// Appends the entries of a set's numbers, where the rows leave room for them.
+fn push_set(
+    out: &mut Vec<(MapKey, Kind)>,
+    keys: &[MapKey],
+    kind: Kind,
+    set: &IdSet,
+    rows: &PeerRows<'_>,
+) -> Result<(), Memory>
+    ensures { OnOk result (out.new.items ≡ out.old.items ++ flat_map (entries_for kind keys.now) set.now) }
+{
+    if !rows.leave_room(out.len(), keys.len(), set.len()) {
+        return Err(Memory);
+    }
+    push_identities(out, keys, kind, set)
 }
 
 /// Appends the entries of a listed peer.
@@ -43,7 +59,7 @@ fn push_peer(
         push_identity(out, keys, kind, EVERY_IDENTITY)
     } else {
         match rows.row_of(peer) {
-            Some(found) => push_identities(out, keys, kind, &found.row.set),
+            Some(found) => push_set(out, keys, kind, &found.row.set, rows),
             None => Ok(()),
         }
     }
@@ -200,8 +216,23 @@ fn all_given(
 }
 
 /// All that filters put into a map, where each peer selects what its row says: each entry as often as the definition of the
-/// map has it. The one error is want of memory.
+/// map has it. The errors are want of memory, and that there are more than so many.
 #[tactic(auto, using(crate::proofs::Raw::raw_times))]
+pub(crate) fn given_within(
+    alloc: Global,
+    filters: &Filters,
+    rows: &[SetRow],
+    most: usize,
+) -> Result<Vec<(MapKey, Kind)>, Memory>
+    ensures { IfOk result (λ raw.
+        (q : OneKey) (k : OneKind) → times raw.items q k ≡ times (raw_of filters.now rows.now) q k) }
+{
+    let index = PeerRows::new(alloc, rows, &[], true, most)?;
+    all_given(alloc, filters, &index)
+}
+
+/// All that filters put into a map, where each peer selects what its row says: each entry as often as the definition of the
+/// map has it. The one error is want of memory.
 pub fn given(
     alloc: Global,
     filters: &Filters,
@@ -210,6 +241,5 @@ pub fn given(
     ensures { IfOk result (λ raw.
         (q : OneKey) (k : OneKind) → times raw.items q k ≡ times (raw_of filters.now rows.now) q k) }
 {
-    let index = PeerRows::new(alloc, rows, &[], true)?;
-    all_given(alloc, filters, &index)
+    given_within(alloc, filters, rows, usize::MAX)
 }

@@ -14,6 +14,10 @@ use std::marker::Model;
 /// As many rows as are gone through one by one sooner than a table of them is made.
 const FEW_ROWS: usize = 16;
 
+/// As many entries come by one change, or go: eight for each key of the largest map. Where there are more, who keeps the map
+/// sooner makes it from scratch, for which it is counted part by part.
+pub(crate) const MOST_MOVED: usize = 8 * 65_536;
+
 /// A row, and where the move of its selector stands if moves stand in the order of the rows. No proof needs the place.
 #[derive(Clone, Copy)]
 pub(crate) struct PlacedRow<'a> {
@@ -29,6 +33,8 @@ pub(crate) struct PlacedRow<'a> {
 pub(crate) struct PeerRows<'a> {
     rows: &'a [SetRow],
     table: Option<HashMap<&'a Peer, PlacedRow<'a>>>,
+    // As many entries as these rows may make a list have.
+    most: usize,
 }
 
 impl<'a> Model for PeerRows<'a> {
@@ -41,6 +47,11 @@ impl<'a> Model for PeerRows<'a> {
     ghost view = { λ it. it.rows.now };
 
     ghost invariant = { λ it. IfSome it.table (λ table. IsIndexOf table it.rows.now) };
+}
+
+/// Whether a list of so many entries may get one for each number under each key besides, and have no more than the most.
+pub(crate) fn is_room(most: usize, entries: usize, keys: usize, numbers: usize) -> bool {
+    entries.saturating_add(keys.saturating_mul(numbers)) <= most
 }
 
 /// The place before this one, if the move there is the row's, and else this one.
@@ -84,13 +95,14 @@ fn first_row<'a>(rows: &'a [SetRow], peer: &Peer) -> Option<PlacedRow<'a>>
 }
 
 impl<'a> PeerRows<'a> {
-    /// These rows, with a table if they are to be asked for and aren't few. The moves tell places alone. The one error is
-    /// want of memory.
+    /// These rows, with a table if they are to be asked for and aren't few, and as many entries as they may make a list have.
+    /// The moves tell places alone. The one error is want of memory.
     pub(crate) fn new(
         alloc: Global,
         rows: &'a [SetRow],
         moves: &[Move],
         asked: bool,
+        most: usize,
     ) -> Result<PeerRows<'a>, Memory>
         ensures { IfOk result (λ it. it ≡ rows.now) }
     {
@@ -99,10 +111,20 @@ impl<'a> PeerRows<'a> {
             Ok(PeerRows {
                 rows,
                 table: Some(table),
+                most,
             })
         } else {
-            Ok(PeerRows { rows, table: None })
+            Ok(PeerRows {
+                rows,
+                table: None,
+                most,
+            })
         }
+    }
+
+    /// Whether a list of so many entries may get one for each number under each key besides.
+    pub(crate) fn leave_room(&self, entries: usize, keys: usize, numbers: usize) -> bool {
+        is_room(self.most, entries, keys, numbers)
     }
 
     /// The first row of the peer.

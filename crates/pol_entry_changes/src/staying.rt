@@ -11,7 +11,7 @@ ghost use Rattle.pol_entry_changes.specs.Told.{IsTold, PeersTold};
 use crate::entries::kind_of;
 use crate::moves::PeerMoves;
 use crate::one_id::push_id;
-use crate::rows::PeerRows;
+use crate::rows::{MOST_MOVED, PeerRows, is_room};
 use pol_data::Memory;
 use pol_distill::{ports_keys, push_identities};
 use pol_filters::Filter;
@@ -31,7 +31,7 @@ pub struct Moved {
     pub gone: Vec<(MapKey, Kind)>,
 }
 
-/// Appends the entries that a filter gives several numbers.
+/// Appends the entries that a filter gives several numbers, where these aren't too many.
 fn push_several(
     alloc: Global,
     out: &mut Vec<(MapKey, Kind)>,
@@ -45,6 +45,9 @@ fn push_several(
         return Ok(());
     }
     let keys = ports_keys(alloc, dir, one.ports.as_slice())?;
+    if !is_room(MOST_MOVED, out.len(), keys.len(), ids.len()) {
+        return Err(Memory);
+    }
     push_identities(out, &keys, kind_of(one), ids)
 }
 

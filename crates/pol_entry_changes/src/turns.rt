@@ -9,10 +9,10 @@ ghost use Rattle.pol_entry_changes.specs.Given.{entry_where, of_filters, of_no_f
 ghost use Rattle.pol_entry_changes.specs.PeerRow.{Ascend};
 ghost use Rattle.pol_entry_changes.specs.Told.{Stays};
 
-use crate::entries::given;
+use crate::entries::given_within;
 use crate::moves::PeerMoves;
 use crate::pairs::walk;
-use crate::rows::{PeerRows, sets_ascend};
+use crate::rows::{MOST_MOVED, PeerRows, sets_ascend};
 use crate::standing::all_filters_stand;
 use crate::staying::Moved;
 use pol_data::Memory;
@@ -110,7 +110,7 @@ fn push_walks(
     )
 }
 
-/// All that was goes, and all that is comes. The one error is want of memory.
+/// All that was goes, and all that is comes. The errors are want of memory, and that too many entries come or go.
 pub fn replaced(
     alloc: Global,
     was: &Filters,
@@ -121,8 +121,8 @@ pub fn replaced(
     ensures { IfOk result (Leads (raw_of was.now was_rows.now) (raw_of is.now is_rows.now)) }
 {
     Ok(Moved {
-        come: given(alloc, is, is_rows)?,
-        gone: given(alloc, was, was_rows)?,
+        come: given_within(alloc, is, is_rows, MOST_MOVED)?,
+        gone: given_within(alloc, was, was_rows, MOST_MOVED)?,
     })
 }
 
@@ -149,8 +149,9 @@ fn walked(
     sets_ascend(is_rows);
     let told = PeerMoves::new(moves);
     let stand = all_filters_stand(was, is);
-    let old = PeerRows::new(alloc, was_rows, &[], !stand)?;
-    let new = PeerRows::new(alloc, is_rows, moves, asks_new(stand, &told))?;
+    let old = PeerRows::new(alloc, was_rows, &[], !stand, MOST_MOVED)?;
+    let asked = asks_new(stand, &told);
+    let new = PeerRows::new(alloc, is_rows, moves, asked, MOST_MOVED)?;
     let mut out = Moved {
         come: Vec::new(alloc),
         gone: Vec::new(alloc),
@@ -161,7 +162,8 @@ fn walked(
 }
 
 /// Which entries come and go when filters and sets change. Filters that come or go are told by place and stamp, and the moves
-/// tell how the sets of the peers of filters that stay changed. The one error is want of memory.
+/// tell how the sets of the peers of filters that stay changed. The errors are want of memory, and that more than
+/// 524,288 entries come, or go, which are counted before they are made.
 pub fn moved(
     alloc: Global,
     was: &Filters,
