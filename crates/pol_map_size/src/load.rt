@@ -10,12 +10,10 @@ use pol_sets::{IdSet, SetRow};
 use std::alloc::Global;
 use std::collections::HashMap;
 
-/// As many entries are made at once, beside those that every part has.
+/// A part has at most so many entries, beside those that every part has.
 const MOST: usize = 65_536;
-
-/// Or as many for each row, since every part goes through all rows: so parts grow where rows are many, and to count takes
-/// time with the entries.
-const MOST_FOR_A_ROW: usize = 8;
+/// Or at most so many for each thing that it goes through: so parts are few where each goes through much.
+const MOST_FOR_EACH: usize = 8;
 
 /// How many entries filters put into a map.
 #[derive(Clone, Copy)]
@@ -24,6 +22,8 @@ struct Load {
     listed: usize,
     /// Those of every number: each part has them.
     every: usize,
+    /// How many rows, ports and listed peers are gone through for each part.
+    through: usize,
 }
 
 /// How many numbers each peer selects.
@@ -35,26 +35,42 @@ fn counts_of<'a>(alloc: Global, rows: &'a [SetRow]) -> Result<HashMap<&'a Peer, 
     Ok(counts)
 }
 
+/// The load with that of a peer which selects every number, for so many keys.
+fn with_every(load: Load, keys: usize) -> Load {
+    Load {
+        listed: load.listed,
+        every: load.every.saturating_add(keys),
+        through: load.through,
+    }
+}
+
+/// The load where so many more things are gone through.
+fn with_steps(load: Load, steps: usize) -> Load {
+    Load {
+        listed: load.listed,
+        every: load.every,
+        through: load.through.saturating_add(steps),
+    }
+}
+
 /// The load with that of a listed peer, for so many keys.
 fn with_peer(load: Load, peer: &Peer, keys: usize, counts: &HashMap<&Peer, usize>) -> Load {
     if selects_every_number(peer) {
-        return Load {
-            listed: load.listed,
-            every: load.every.saturating_add(keys),
-        };
+        return with_every(load, keys);
     }
     match counts.get(&peer) {
         None => load,
         Some(count) => Load {
             listed: load.listed.saturating_add(count.saturating_mul(keys)),
             every: load.every,
+            through: load.through,
         },
     }
 }
 
 /// The load with that of listed peers, for so many keys.
 fn with_peers(load: Load, peers: &[Peer], keys: usize, counts: &HashMap<&Peer, usize>) -> Load {
-    let mut load = load;
+    let mut load = with_steps(load, peers.len());
     for peer in peers {
         load = with_peer(load, peer, keys, counts);
     }
@@ -69,11 +85,9 @@ fn with_filter(
     counts: &HashMap<&Peer, usize>,
 ) -> Result<Load, Memory> {
     let keys = ports_keys(alloc, Direction::Ingress, filter.ports.as_slice())?.len();
+    let load = with_steps(load, filter.ports.len());
     match &filter.peers {
-        Peers::Every => Ok(Load {
-            listed: load.listed,
-            every: load.every.saturating_add(keys),
-        }),
+        Peers::Every => Ok(with_every(load, keys)),
         Peers::Listed(peers) => Ok(with_peers(load, peers.as_slice(), keys, counts)),
     }
 }
@@ -92,17 +106,22 @@ fn with_filters(
     Ok(load)
 }
 
+/// The most entries that are made at once, beside those that every part has.
+fn most(load: Load) -> usize {
+    MOST.max(load.through.saturating_mul(MOST_FOR_EACH))
+}
+
 /// Whether what the filters put into a map is made at once.
 pub(crate) fn is_light(alloc: Global, filters: &Filters, rows: &[SetRow]) -> Result<bool, Memory> {
     let counts = counts_of(alloc, rows)?;
     let none = Load {
         listed: 0,
         every: 0,
+        through: rows.len(),
     };
     let ingress = with_filters(alloc, none, filters.ingress.as_slice(), &counts)?;
     let load = with_filters(alloc, ingress, filters.egress.as_slice(), &counts)?;
-    let most = rows.len().saturating_mul(MOST_FOR_A_ROW).max(MOST);
-    Ok(load.listed <= load.every.max(most))
+    Ok(load.listed <= load.every.max(most(load)))
 }
 
 /// The least and the greatest number, where these two were so far.
