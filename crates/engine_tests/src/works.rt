@@ -280,3 +280,39 @@ fn a_deny_of_wider_ports_is_counted_beside_the_allow(rt: HostRuntime) -> Result<
     );
     Ok(())
 }
+
+/// So many times all TCP ports but the first and the last: 30 keys each time.
+fn nearly_all(alloc: Global, count: usize) -> Result<PortSpecs, Memory> {
+    let range = PortRange {
+        first: 1,
+        last: 65_534,
+    };
+    let mut specs = Vec::with_capacity(alloc, count)?;
+    for _ in 0..count {
+        specs.push(PortSpec {
+            proto: Some(Proto::Tcp),
+            range,
+        })?;
+    }
+    Ok(PortSpecs::from_vec(specs))
+}
+
+#[test]
+fn too_many_entries_are_refused_before_they_come(rt: HostRuntime) -> Result<(), Fail> {
+    let alloc = rt.alloc();
+    let mut work = work(alloc)?;
+    let over = let_in_but(alloc, 2, nearly_all(alloc, 17_477)?)?;
+    assert!(rt; turn(alloc, &mut work, 1, 2, over).is_err());
+    assert!(rt; work.count() == 3);
+    Ok(())
+}
+
+#[test]
+fn as_many_entries_as_may_come_do(rt: HostRuntime) -> Result<(), Fail> {
+    let alloc = rt.alloc();
+    let mut work = work(alloc)?;
+    let within = let_in_but(alloc, 2, nearly_all(alloc, 17_476)?)?;
+    turn(alloc, &mut work, 1, 2, within)?;
+    assert!(rt; work.count() == 32);
+    Ok(())
+}

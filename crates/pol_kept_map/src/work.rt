@@ -103,7 +103,8 @@ impl Work {
     /// Takes the work to other filters and sets, and gives exactly the keys at which its map changed: `Set` with the kind
     /// that a key has now, `Clear` where it has none any more. A filter with the place and the stamp of one that was there
     /// is that one, and stays. Moves, where they are there, say how the sets of the peers of filters that stay changed.
-    /// The one error is want of memory, and then the work is as before, but counts anew the next time.
+    /// The one error is want of memory, as which more than 524,288 entries that come, or go, count too. Then the work is as
+    /// before, but counts anew the next time.
     pub fn apply(&mut self, changes: &Changes) -> Result<ChangeList, Memory>
         requires sets { HaveSets changes.now.sets (arc_value changes.now.filters) }
         requires before { PlacesDiffer self.old.filters }
