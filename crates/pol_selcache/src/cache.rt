@@ -79,6 +79,15 @@ impl SelectorCache {
         self.next
     }
 
+    /// Whether the selector of a number is live, looked for at a place first, and the place behind it: where the next one
+    /// may be looked for. It takes no memory.
+    pub fn holds_near(&self, selector: u64, near: usize) -> (bool, usize)
+        ensures holds { result.0 ≡ is_live selector self.now.live }
+        ensures sound { IsSound self.now }
+    {
+        self.table.holds_near(selector, near)
+    }
+
     /// The set of a live selector: the numbers that its peer selects. `Memory` is want of memory.
     pub fn set_at_now(&self, selector: u64) -> Result<Arc<IdSet>, Memory>
         requires live { is_live selector self.now.live ≡ true }

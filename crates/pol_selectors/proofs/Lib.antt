@@ -1,4 +1,5 @@
 pub mod LiveLists
 pub mod Middle
 pub mod Placed
+pub mod Holding
 pub mod Kept

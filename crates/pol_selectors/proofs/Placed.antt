@@ -110,6 +110,20 @@ placed n spots i ascend live from = by spots i ascend live from.below from.rest
         later (Some l) its less some =
             sym (ap (λ b. b || is_live n (live_in own)) (ne_eqb l.number n (λ same. let own_is = its l refl in omega arith))) ∙ some
 
+-- a spot of the number is the first whose number isn't below
+pub first_there : (n : ℕ) (spots : List Spot) (i : ℕ) → Ascends (spot_numbers spots) → IsSpotOf n spots i → IsFrom n spots i
+first_there n [] i ascend own = absurd (let at = own.at in let wrong : ⊥ = cc in wrong)
+first_there n (f ∷ spots) zero ascend own =
+    let at = own.at in
+    let same : f ≡ own.spot = cc in
+    let is : f.number ≡ n = ap (λ (g : Spot). g.number) same ∙ own.its in
+    record { below = tt; rest = (omega (arith, is), every-weaker (λ m. f.number < m) (λ m. n ≤ m) (λ m less. omega (arith, less, is)) (spot_numbers spots) ascend.0) }
+first_there n (f ∷ spots) (suc i) ascend own =
+    let more = all_at (λ m. f.number < m) spots i own.spot ascend.0 own.at in
+    let its = own.its in
+    let rest = first_there n spots i ascend.1 (record { spot = own.spot; at = own.at; its = own.its }) in
+    record { below = (omega (arith, more, its), rest.below); rest = rest.rest }
+
 -- ---- a search by number
 above_get : (n : ℕ) (spots : List Spot) (j : ℕ) (d : Spot) → AllByRecursion (λ m. n < m) (spot_numbers spots) → j < length spots → n < (get_or spots j d).number
 above_get n [] j d above within = absurd (omega arith)

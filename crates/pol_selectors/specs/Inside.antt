@@ -1,5 +1,5 @@
 -- How the spots of selectors are seen. No public clause cites this module, but for `live_of`.
-use Rattle.std.specs.Prelude.{ℕ, ◌≡◌, ◌<◌, ◌≤◌, List, map, take, drop, Option, Some, option_map, slice_get, slice_set}
+use Rattle.std.specs.Prelude.{ℕ, ◌≡◌, ◌<◌, ◌≤◌, ◌==◌, ◌&&◌, Bool, is_some, List, map, take, drop, Option, Some, option_map, slice_get, slice_set}
 use Rattle.std.specs.Arc.{arc_value}
 use Rattle.std.specs.List.{AllByRecursion, filter_map}
 use Rattle.pol_selectors.specs.declared.spots.Row.{Row}
@@ -13,6 +13,10 @@ live_of number row = record { number = number; peer = row.peer; references = row
 -- the live selector of a spot
 abbrev pub live_at : Spot → Option Live
 live_at spot = option_map (live_of spot.number) spot.row
+
+-- the spot is the number's, and its selector is live
+abbrev pub holds_at : ℕ → Spot → Bool
+holds_at number spot = (spot.number == number) && is_some spot.row
 
 -- those of all spots
 abbrev pub live_in : List Spot → List Live

@@ -8,7 +8,7 @@ ghost use Rattle.pol_selectors.specs.Inside.{live_of};
 ghost use Rattle.pol_selectors.specs.Live.{AreLive, is_live, number_of, selector_of, with_reference, with_set, without_reference};
 
 use crate::known::{add_row, new_row, take_out};
-use crate::spots::{Row, Spot, place_near, put_references, put_set, row_at};
+use crate::spots::{Row, Spot, holds_near, place_near, put_references, put_set, row_at};
 use indexmap::IndexMap;
 use pol_data::Memory;
 use pol_headings::{Filing, Headings};
@@ -64,6 +64,15 @@ impl Selectors {
             None => None,
             Some(number) => Some(*number),
         }
+    }
+
+    /// Whether the selector of a number is live, looked for at a place first, and the place behind it: where the next one
+    /// may be looked for. It takes no memory.
+    pub fn holds_near(&self, number: u64, near: usize) -> (bool, usize)
+        ensures holds { result.0 ≡ is_live number self.now }
+        ensures sound { AreLive self.now }
+    {
+        holds_near(self.spots.as_slice(), number, near)
     }
 
     /// A live selector, looked for at a place first, and the place behind it: where the next one may be looked for.

@@ -4,7 +4,7 @@ ghost use Rattle.std.specs.List.{AllByRecursion};
 ghost use Rattle.std.specs.Arc.{arc_value};
 ghost use Rattle.pol_model.specs.Ascending.{Ascends};
 ghost use Rattle.pol_selectors.specs.declared.spots.Spot.{Spot as OneSpot};
-ghost use Rattle.pol_selectors.specs.Inside.{IsFrom, IsLiveAt, IsPutAt, IsSpotOf, live_at, live_in, spot_numbers};
+ghost use Rattle.pol_selectors.specs.Inside.{IsFrom, IsLiveAt, IsPutAt, IsSpotOf, holds_at, live_at, live_in, spot_numbers};
 ghost use Rattle.pol_selectors.specs.Live.{is_live, with_count, with_numbers};
 
 use pol_rule::Peer;
@@ -51,17 +51,53 @@ fn is_at(spots: &[Spot], place: usize, number: u64) -> bool
     }
 }
 
-/// The place of a live selector, which is looked for at a place first.
-pub(crate) fn place_near(spots: &[Spot], number: u64, near: usize) -> usize
+/// The place of the first spot whose number isn't below this one, looked for at a place first.
+fn first_near(spots: &[Spot], number: u64, near: usize) -> usize
     requires ascend { Ascends (spot_numbers spots.now) }
-    requires live { is_live number (live_in spots.now) ≡ true }
-    ensures place { IsLiveAt number spots.now result }
+    ensures from { IsFrom number spots.now result }
 {
     if is_at(spots, near, number) {
         near
     } else {
         first_from(spots, number)
     }
+}
+
+/// The place of a live selector, which is looked for at a place first.
+pub(crate) fn place_near(spots: &[Spot], number: u64, near: usize) -> usize
+    requires ascend { Ascends (spot_numbers spots.now) }
+    requires live { is_live number (live_in spots.now) ≡ true }
+    ensures place { IsLiveAt number spots.now result }
+{
+    first_near(spots, number, near)
+}
+
+/// Whether a spot is that of the number, and its selector is live.
+fn is_live_spot(spot: &Spot, number: u64) -> bool
+    ensures { result ≡ holds_at number spot.now }
+{
+    spot.number == number && spot.row.is_some()
+}
+
+/// Whether the selector of the number is live, by the place of the first spot whose number isn't below it.
+fn is_live_from(spots: &[Spot], place: usize, number: u64) -> bool
+    requires ascend { Ascends (spot_numbers spots.now) }
+    requires from { IsFrom number spots.now place }
+    ensures { result ≡ is_live number (live_in spots.now) }
+{
+    match spots.get(place) {
+        None => false,
+        Some(spot) => is_live_spot(spot, number),
+    }
+}
+
+/// Whether the selector of the number is live, whose spot is looked for at a place first, and the place behind.
+pub(crate) fn holds_near(spots: &[Spot], number: u64, near: usize) -> (bool, usize)
+    requires ascend { Ascends (spot_numbers spots.now) }
+    ensures { result.0 ≡ is_live number (live_in spots.now) }
+{
+    let place = first_near(spots, number, near);
+    (is_live_from(spots, place, number), place.wrapping_add(1))
 }
 
 /// The row at the place of a live selector.

@@ -15,7 +15,7 @@ use Rattle.pol_selcache.specs.Plan.{Plan, changed}
 use Rattle.pol_selcache.proofs.Exact.{plan_makes_exact}
 use Rattle.pol_peers.specs.Numbering.{GainsRefs, LosesRefs, TakesFreshNumbers}
 use Rattle.pol_peers.proofs.Numbering.{fresh_itself, fresh_less}
-use Rattle.pol_taken.specs.Known.{IsKnownIn, KnownRows}
+use Rattle.pol_taken.specs.Known.{IsKnownIn, IsKnownRow, KnownRows}
 use Rattle.pol_taken.proofs.AsRead.{known_carried, known_on}
 use Rattle.pol_model.specs.Ascending.{Ascends}
 use Rattle.pol_model.specs.declared.options.Mode.{Mode}
@@ -96,6 +96,12 @@ module _ (old new : Cache) (rows : List Kept) where
   pub listed_still : new ≡ old → IsKeptIn old rows → IsKeptIn new rows
   listed_still same was = subst (λ (c : Cache). IsKeptIn c rows) (sym same) was
 
+  known_in_room : (spare : ℕ) (known : KnownRows) → IsKnownIn old known → IsKnownIn (with_room spare old) known
+  known_in_room spare known is = record {
+    before = is.before;
+    rows = every-weaker (IsKnownRow old known.read) (IsKnownRow (with_room spare old) known.read) (λ row its. record { given = its.given; own = its.own; set = its.set }) known.rows is.rows;
+  }
+
   pub listed_in_room : (spare : ℕ) → new ≡ with_room spare old → IsKeptIn old rows → IsKeptIn new rows
   listed_in_room spare same was =
       subst (λ (c : Cache). IsKeptIn c rows) (sym same)
@@ -104,7 +110,7 @@ module _ (old new : Cache) (rows : List Kept) where
         ascend = was.ascend;
         exact = was.exact;
         listed = every-weaker (IsListedIn old) (IsListedIn (with_room spare old))
-            (λ kept is. record { listing = is.listing; known = record { within = is.known.within; numbers = is.known.numbers; before = is.known.before; sets = is.known.sets } }) rows was.listed;
+            (λ kept is. record { listing = is.listing; known = known_in_room spare kept.known is.known }) rows was.listed;
       })
 
   pub listed_carried : (plan : Plan) → IsSound old → IsPlanFor plan old → new ≡ carried plan old → IsKeptIn old rows → IsKeptIn new rows

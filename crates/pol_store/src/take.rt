@@ -43,7 +43,7 @@ fn parts_with(alloc: Global, cache: &SelectorCache, filters: Arc<Filters>) -> Re
 }
 
 /// The filters that are kept, and the sets of the peers that they list: as they are kept where none has changed, else by the
-/// numbers that are kept, and looked for by their peers where a selector came since these were read.
+/// numbers that are kept, and looked for by their peers where one of their selectors has gone.
 fn parts_of(alloc: Global, cache: &SelectorCache, kept: &Kept) -> Result<Parts, Memory>
     requires listed { IsListedIn cache.now kept.now }
     requires live { AllByRecursion (λ p.

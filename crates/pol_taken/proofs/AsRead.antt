@@ -4,7 +4,6 @@ use Rattle.std.specs.Arc.{arc_value}
 use Rattle.std.specs.List.{AllByRecursion}
 use Rattle.std.specs.Option.{option_map_or}
 use Rattle.std.proofs.lemmas.Bool.{cond-false, ne_eqb}
-use Rattle.std.proofs.lemmas.Option.{same_Some}
 use Rattle.pol_data.proofs.Every.{every-weaker}
 use Rattle.pol_data.proofs.Members.{every-in}
 use Rattle.pol_rule.specs.declared.policy.Peer.{Peer}
@@ -19,34 +18,38 @@ use Rattle.pol_set_changes.specs.Log.{IsSound as IsLog}
 use Rattle.pol_set_changes.proofs.Chained.{unchanged_before, unchanged_within}
 use Rattle.pol_set_changes.proofs.LogLemmas.{recorded_sound}
 use Rattle.pol_selcache.specs.Cache.{Cache, IsPlanFor, IsSound, all_recorded, carried, change_at}
-use Rattle.pol_selcache.specs.Live.{AreExact, Live, number_of}
+use Rattle.pol_selcache.specs.Live.{AreExact, Live, is_live, number_of}
 use Rattle.pol_selcache.specs.Plan.{Plan, Planned, after_changes, changed, set_in}
 use Rattle.pol_peers.specs.Numbering.{TakesFreshNumbers}
-use Rattle.pol_peers.proofs.Found.{found_of, is_of}
-use Rattle.pol_taken.specs.Known.{AreUnchanged, HasNumber, IsAsRead, IsKnownIn, IsListingOf, KnownRows}
+use Rattle.pol_peers.proofs.Found.{found_of, is_of, number_lives}
+use Rattle.pol_taken.specs.Known.{AreUnchanged, HaveSelectors, IsKnownIn, IsKnownRow, IsListingOf, KnownRows}
 use Rattle.pol_taken.specs.PeerRows.{AreSetsFor, filter_peers}
 use Rattle.pol_taken.proofs.Adding.{sets_by}
-use Rattle.pol_taken.proofs.Relisting.{below_next, listing_of}
+use Rattle.pol_taken.proofs.Relisting.{below_next, listing_of, one_peer}
 
 -- ---- as they are read
-each_exact : (live : List Live) (rows : List SetRow) → ((identities : List IdentityRow) → AreExact identities live → AllByRecursion (λ row. arc_value row.set ≡ set_at identities row.peer) rows)
-    → AllByRecursion (λ row. (identities : List IdentityRow) → AreExact identities live → arc_value row.set ≡ set_at identities row.peer) rows
-each_exact live [] exact = tt
-each_exact live (row ∷ rows) exact = (λ identities is. (exact identities is).0, each_exact live rows (λ identities is. (exact identities is).1))
-
-pub known_as_read : (cache : Cache) (filters : Filters) (kept : KnownRows) → AreSetsFor cache.live filters kept.rows → kept.next ≡ cache.next → kept.read ≤ newest cache.log
-    → IsListingOf (filter_peers filters) kept.rows × IsKnownIn cache kept
-known_as_read cache filters kept are next read = (
-  listing_of kept.rows cache.live filters are,
+each_known : (cache : Cache) (sound : IsSound cache) (read : ℕ) (rows : List SetRow) → AllByRecursion (λ row. number_of row.peer cache.live ≡ Some row.selector) rows
+    → ((identities : List IdentityRow) → AreExact identities cache.live → AllByRecursion (λ row. arc_value row.set ≡ set_at identities row.peer) rows) → AllByRecursion (IsKnownRow cache read) rows
+each_known cache sound read [] numbers exact = tt
+each_known cache sound read (row ∷ rows) numbers exact = (
   record {
-    within = omega (arith, next);
-    numbers = every-weaker (λ (row : SetRow). number_of row.peer cache.live ≡ Some row.selector) (HasNumber cache kept.next)
-        (λ row it number its below. same_Some number row.selector (sym its ∙ it)) kept.rows are.selectors;
-    before = read;
-    sets = every-weaker (λ (row : SetRow). (identities : List IdentityRow) → AreExact identities cache.live → arc_value row.set ≡ set_at identities row.peer) (IsAsRead cache kept.next kept.read)
-        (λ row is unchanged below number. is) kept.rows (each_exact cache.live kept.rows are.exact);
+    given = below_next cache sound row.peer row.selector numbers.0;
+    own = λ p is. one_peer cache.live sound.live p row.peer row.selector is numbers.0;
+    set = λ unchanged number identities is. (exact identities is).0;
   },
+  each_known cache sound read rows numbers.1 (λ identities is. (exact identities is).1),
 )
+
+pub known_as_read : (cache : Cache) (sound : IsSound cache) (filters : Filters) (kept : KnownRows) → AreSetsFor cache.live filters kept.rows → kept.read ≤ newest cache.log
+    → IsListingOf (filter_peers filters) kept.rows × IsKnownIn cache kept
+known_as_read cache sound filters kept are read = (
+  listing_of kept.rows cache.live filters are,
+  record { before = read; rows = each_known cache sound kept.read kept.rows are.selectors are.exact },
+)
+
+pub selectors_live : (cache : Cache) (rows : List SetRow) → AllByRecursion (λ row. number_of row.peer cache.live ≡ Some row.selector) rows → HaveSelectors cache rows
+selectors_live cache rows numbers = every-weaker (λ (row : SetRow). number_of row.peer cache.live ≡ Some row.selector) (λ (row : SetRow). is_live row.selector cache.live ≡ true)
+    (λ row is. number_lives row.peer cache.live row.selector is) rows numbers
 
 -- none has changed since the newest change
 pub unchanged_now : (cache : Cache) (sound : IsSound cache) (rows : List SetRow) → AreUnchanged cache (newest cache.log) rows
@@ -54,19 +57,19 @@ unchanged_now cache sound [] = tt
 unchanged_now cache sound (row ∷ rows) = (unchanged_within row.selector cache.log sound.log, unchanged_now cache sound rows)
 
 -- ---- as long as nothing changes
-exact_now : (cache : Cache) (sound : IsSound cache) (read : ℕ) (rows : List SetRow) → AreUnchanged cache read rows
-    → AllByRecursion (λ row. number_of row.peer cache.live ≡ Some row.selector) rows → AllByRecursion (IsAsRead cache cache.next read) rows
+exact_now : (cache : Cache) (read : ℕ) (rows : List SetRow) → AreUnchanged cache read rows
+    → AllByRecursion (λ row. number_of row.peer cache.live ≡ Some row.selector) rows → AllByRecursion (IsKnownRow cache read) rows
     → (identities : List IdentityRow) → AreExact identities cache.live → AllByRecursion (λ row. arc_value row.set ≡ set_at identities row.peer) rows
-exact_now cache sound read [] unchanged numbers sets identities exact = tt
-exact_now cache sound read (row ∷ rows) unchanged numbers sets identities exact = (
-  sets.0 unchanged.0 (below_next cache sound row.peer row.selector numbers.0) numbers.0 identities exact,
-  exact_now cache sound read rows unchanged.1 numbers.1 sets.1 identities exact,
+exact_now cache read [] unchanged numbers known identities exact = tt
+exact_now cache read (row ∷ rows) unchanged numbers known identities exact = (
+  known.0.set unchanged.0 numbers.0 identities exact,
+  exact_now cache read rows unchanged.1 numbers.1 known.1 identities exact,
 )
 
 pub sets_as_read : (cache : Cache) (sound : IsSound cache) (filters : Filters) (read : ℕ) (rows : List SetRow) → IsListingOf (filter_peers filters) rows → AreUnchanged cache read rows
-    → AllByRecursion (λ row. number_of row.peer cache.live ≡ Some row.selector) rows → AllByRecursion (IsAsRead cache cache.next read) rows → AreSetsFor cache.live filters rows
-sets_as_read cache sound filters read rows is unchanged numbers sets =
-    sets_by cache.live sound.live filters rows is.listed is.every is.once numbers (exact_now cache sound read rows unchanged numbers sets)
+    → AllByRecursion (λ row. number_of row.peer cache.live ≡ Some row.selector) rows → AllByRecursion (IsKnownRow cache read) rows → AreSetsFor cache.live filters rows
+sets_as_read cache sound filters read rows is unchanged numbers known =
+    sets_by cache.live sound.live filters rows is.listed is.every is.once numbers (exact_now cache read rows unchanged numbers known)
 
 -- ---- as selectors come and go
 module _ (live : List Live) (p : Peer) (number : ℕ) (is : number_of p live ≡ Some number) where
@@ -86,18 +89,20 @@ pub known_on : (old new : Cache) (identities : List IdentityRow) (kept : KnownRo
     → new.log.kept ≡ old.log.kept → new.log.horizon ≡ old.log.horizon → IsKnownIn old kept → IsKnownIn new kept
 known_on old new identities kept before after fresh changes horizon was =
     let rises = fresh.rises in
-    let within = was.within in
     let newer : newest new.log ≡ newest old.log = λ i. newest_of (horizon i) (changes i) in
     record {
-      within = omega (arith, rises, within);
-      numbers = every-weaker (HasNumber old kept.next) (HasNumber new kept.next)
-          (λ row its number is below. its number (fresh.lived row.peer number is (omega (arith, below, within))) below) kept.rows was.numbers;
       before = subst (λ n. kept.read ≤ n) (sym newer) was.before;
-      sets = every-weaker (IsAsRead old kept.next kept.read) (IsAsRead new kept.next kept.read)
-          (λ row its unchanged below number others exact.
-          let same : unchanged_since row.selector new.log ≡ unchanged_since row.selector old.log = λ i. newest_of (horizon i) (filter (shares_chain row.selector) (changes i)) in
-          its (subst (λ n. n ≤ kept.read) same unchanged) below (fresh.lived row.peer row.selector number (omega (arith, below, within))) identities before
-          ∙ one_set new.live row.peer row.selector number identities others after exact) kept.rows was.sets;
+      rows = every-weaker (IsKnownRow old kept.read) (IsKnownRow new kept.read)
+          (λ row its.
+          let given = its.given in
+          record {
+            given = omega (arith, rises, given);
+            own = λ p is. its.own p (fresh.lived p row.selector is given);
+            set = λ unchanged number others exact.
+                let same : unchanged_since row.selector new.log ≡ unchanged_since row.selector old.log = λ i. newest_of (horizon i) (filter (shares_chain row.selector) (changes i)) in
+                its.set (subst (λ n. n ≤ kept.read) same unchanged) (fresh.lived row.peer row.selector number given) identities before
+                ∙ one_set new.live row.peer row.selector number identities others after exact;
+          }) kept.rows was.rows;
     }
 
 -- ---- as a plan is carried out
@@ -147,20 +152,21 @@ known_carried plan cache identities kept sound fits before was =
     let read = was.before in
     let below : kept.read < plan.revision = omega (arith, newer, read) in
     record {
-      within = was.within;
-      numbers = every-weaker (HasNumber cache kept.next) (HasNumber (carried plan cache) kept.next)
-          (λ row its number is. its number (sym (numbers_stay plan.changes row.peer cache.live) ∙ is)) kept.rows was.numbers;
       before = newest_after plan.revision plan.changes cache.log kept.read was.before below;
-      sets = every-weaker (IsAsRead cache kept.next kept.read) (IsAsRead (carried plan cache) kept.next kept.read)
-          (λ row its unchanged under number others exact.
-          let own = sym (numbers_stay plan.changes row.peer cache.live) ∙ number in
-          let s = found_of row.peer cache.live row.selector own in
-          let here = find-In (is_of row.peer) s.0 cache.live s.1 in
-          let stays = unchanged_after plan.revision plan.changes cache.log row.selector kept.read sound.log (omega (arith, newer)) below unchanged in
-          let none = subst (λ n. AllByRecursion (λ (change : Planned). change.selector ≢ n) plan.changes) (sym s.2) stays.0 in
-          its stays.1 under own identities before
-          ∙ sym (own_set cache.live row.peer row.selector own s.0 s.1 identities before)
-          ∙ sym (set_stays s.0 plan.changes none)
-          ∙ every-in (λ (t : Live). set_in plan.changes t ≡ set_at others t.peer) cache.live (every-changed plan.changes others cache.live exact) s.0 here.0
-          ∙ ap (set_at others) (sym ((peer_eq-Decides row.peer s.0.peer).0 here.1))) kept.rows was.sets;
+      rows = every-weaker (IsKnownRow cache kept.read) (IsKnownRow (carried plan cache) kept.read)
+          (λ row its. record {
+            given = its.given;
+            own = λ p is. its.own p (sym (numbers_stay plan.changes p cache.live) ∙ is);
+            set = λ unchanged number others exact.
+                let own = sym (numbers_stay plan.changes row.peer cache.live) ∙ number in
+                let s = found_of row.peer cache.live row.selector own in
+                let here = find-In (is_of row.peer) s.0 cache.live s.1 in
+                let stays = unchanged_after plan.revision plan.changes cache.log row.selector kept.read sound.log (omega (arith, newer)) below unchanged in
+                let none = subst (λ n. AllByRecursion (λ (change : Planned). change.selector ≢ n) plan.changes) (sym s.2) stays.0 in
+                its.set stays.1 own identities before
+                ∙ sym (own_set cache.live row.peer row.selector own s.0 s.1 identities before)
+                ∙ sym (set_stays s.0 plan.changes none)
+                ∙ every-in (λ (t : Live). set_in plan.changes t ≡ set_at others t.peer) cache.live (every-changed plan.changes others cache.live exact) s.0 here.0
+                ∙ ap (set_at others) (sym ((peer_eq-Decides row.peer s.0.peer).0 here.1));
+          }) kept.rows was.rows;
     }

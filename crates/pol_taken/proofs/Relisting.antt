@@ -1,23 +1,26 @@
 -- Rows that are kept, and those that are read anew of the same peers.
-use Rattle.std.proofs.Common.{◌≡◌, ℕ, ◌<◌, ◌||◌, Bool, true, false, nat_eq, List, [], ◌∷◌, map, IsTrue, IsSome, Option, None, Some, refl, sym, ap, ◌∙◌, subst}
+use Rattle.std.proofs.Common.{◌≡◌, ℕ, ◌<◌, ◌==◌, ◌||◌, Bool, true, false, nat_eq, List, [], ◌∷◌, map, find, IsTrue, Some, option_map, inl, inr, refl, sym, ap, ◌∙◌, subst}
 use Rattle.std.specs.List.{AllByRecursion, Contains, IsDistinct, list_any}
+use Rattle.std.proofs.lemmas.Bool.{both_ways, cond-false, cond-true, eqb-true, false_from_ne_true}
 use Rattle.pol_data.proofs.Every.{every-append, every-map, every-weaker}
-use Rattle.pol_data.proofs.Members.{In-from_Contains, every-in}
+use Rattle.pol_data.proofs.Members.{In, every-in}
 use Rattle.pol_rule.specs.contracts.policy.PeerPartialEq.TheImpl as peers
 use Rattle.pol_rule.specs.declared.policy.Peer.{Peer}
 use Rattle.pol_rule.specs.declared.policy.Peers.{Peers}
 use Rattle.pol_rule.specs.declared.policy.Peers.TheVariants.{Every, Listed}
-use Rattle.pol_model_laws.proofs.Membership.{find-In}
+use Rattle.pol_model_laws.proofs.Keyed.{one_of_number}
+use Rattle.pol_model_laws.proofs.Membership.{find-In, found-some}
+use Rattle.pol_rule.proofs.Equality.{peer_eq-Decides}
 use Rattle.pol_sets.specs.declared.sets.SetRow.{SetRow}
 use Rattle.pol_sets.specs.Sets.{has_set}
 use Rattle.pol_filters.specs.declared.filter.Filter.{Filter}
 use Rattle.pol_filters.specs.declared.filter.Filters.{Filters}
 use Rattle.pol_distill.specs.Sorted.{ListHasSets, PeersHaveSets}
 use Rattle.pol_selcache.specs.Cache.{Cache, IsSound}
-use Rattle.pol_selcache.specs.Live.{Live, number_of}
+use Rattle.pol_selcache.specs.Live.{AreLive, Live, is_live, number_of}
 use Rattle.pol_rule.specs.Listed.{peers_in}
 use Rattle.pol_peers.proofs.Found.{found_of, is_of}
-use Rattle.pol_taken.specs.Known.{HasNumber, IsListingOf, KnownRows, key_of}
+use Rattle.pol_taken.specs.Known.{HaveSelectors, IsKnownRow, IsListingOf, key_of}
 use Rattle.pol_taken.specs.PeerRows.{AreSetsFor, IsLiveRow, filter_peers, list_peers}
 use Rattle.pol_taken.proofs.Adding.{are_sets}
 
@@ -40,13 +43,6 @@ module _ (rows : List SetRow) where
     every = every-append Has (list_peers filters.ingress) (list_peers filters.egress) (in_filters filters.ingress is.every.ingress) (in_filters filters.egress is.every.egress);
     once = is.once;
   }
-
--- where the peers of filters have selectors, those that are listed have
-pub listed_live : (cache : Cache) (peers : List Peer) (rows : List SetRow) → AllByRecursion (λ p. IsSome (number_of p cache.live)) peers
-    → AllByRecursion (λ row. Contains peers row.peer) rows → AllByRecursion (λ row. IsSome (number_of row.peer cache.live)) rows
-listed_live cache peers rows live listed =
-    every-weaker (λ (row : SetRow). Contains peers row.peer) (λ (row : SetRow). IsSome (number_of row.peer cache.live))
-    (λ row there. every-in (λ p. IsSome (number_of p cache.live)) peers live row.peer (In-from_Contains peers row.peer there)) rows listed
 
 -- ---- rows of the same peers and selectors
 any-map : {X Y : Type 0} (q : Y → Bool) (f : X → Y) (xs : List X) → list_any q (map f xs) ≡ list_any (λ x. q (f x)) xs
@@ -76,6 +72,35 @@ module _ (wanted : List Peer) (rows others : List SetRow) (keys : map key_of oth
     once = subst (IsDistinct nat_eq) (sym (map-keys (λ key. key.1) rows) ∙ ap (map (λ key. key.1)) (sym keys) ∙ map-keys (λ key. key.1) others) is.once;
   }
 
+-- ---- selectors by their numbers
+own_number : (live : List Live) → IsDistinct peers.ghosts.eq (map (λ s. s.peer) live) → (s : Live) → In s live → number_of s.peer live ≡ Some s.number
+unfolding IsDistinct
+own_number [] apart s there = elim there [ ]
+own_number (t ∷ live) apart s (inl same) =
+    ap (option_map (λ (x : Live). x.number)) (cond-true (is_of s.peer t) (Some t) (find (is_of s.peer) live) ((peer_eq-Decides s.peer t.peer).1 (ap (λ (x : Live). x.peer) (sym same))))
+    ∙ ap (λ (x : Live). Some x.number) same
+own_number (t ∷ live) apart s (inr later) =
+    ap (option_map (λ (x : Live). x.number)) (cond-false (is_of s.peer t) (Some t) (find (is_of s.peer) live) other) ∙ own_number live apart.1 s later
+  where
+    beside : (others : List Live) → AllByRecursion (λ p. peers.ghosts.eq t.peer p ≡ false) (map (λ x. x.peer) others) → In s others → peers.ghosts.eq t.peer s.peer ≡ false
+    beside [] unlike there = elim there [ ]
+    beside (x ∷ others) unlike (inl same) = subst (λ (y : Live). peers.ghosts.eq t.peer y.peer ≡ false) same unlike.0
+    beside (x ∷ others) unlike (inr there) = beside others unlike.1 there
+
+    other : is_of s.peer t ≡ false
+    other =
+        false_from_ne_true (is_of s.peer t) (λ same.
+        both_ways (peers.ghosts.eq t.peer s.peer) (beside live apart.0 later) ((peer_eq-Decides t.peer s.peer).1 (sym ((peer_eq-Decides s.peer t.peer).0 same))))
+
+pub one_peer : (live : List Live) → AreLive live → (p q : Peer) (number : ℕ) → number_of p live ≡ Some number → number_of q live ≡ Some number → p ≡ q
+one_peer live are p q number first second =
+    let s = found_of p live number first in
+    let t = found_of q live number second in
+    let here = find-In (is_of p) s.0 live s.1 in
+    let there = find-In (is_of q) t.0 live t.1 in
+    let both = one_of_number (λ (x : Live). x.number) s.0 t.0 live are.numbers here.0 there.0 (s.2 ∙ sym t.2) in
+    (peer_eq-Decides p s.0.peer).0 here.1 ∙ ap (λ (x : Live). x.peer) both ∙ sym ((peer_eq-Decides q t.0.peer).0 there.1)
+
 -- ---- rows are made of those that are listed
 module _ (cache : Cache) (sound : IsSound cache) where
   pub below_next : (p : Peer) (number : ℕ) → number_of p cache.live ≡ Some number → number < cache.next
@@ -84,19 +109,17 @@ module _ (cache : Cache) (sound : IsSound cache) where
       let here = find-In (is_of p) s.0 cache.live s.1 in
       subst (λ n. n < cache.next) s.2 (every-in (λ (y : Live). y.number < cache.next) cache.live sound.below s.0 here.0)
 
-  number_now : (row : SetRow) (o : Option ℕ) → number_of row.peer cache.live ≡ o → IsSome o → HasNumber cache cache.next row → o ≡ Some row.selector
-  number_now row None is some its = absurd (let wrong : false ≡ true = some in cc)
-  number_now row (Some number) is some its = ap Some (its number is (below_next row.peer number is))
+  -- a row's peer has the row's selector where that is live
+  number_now : (read : ℕ) (row : SetRow) → IsKnownRow cache read row → is_live row.selector cache.live ≡ true → number_of row.peer cache.live ≡ Some row.selector
+  number_now read row known lives =
+      let s = found-some (λ (t : Live). t.number == row.selector) cache.live lives in
+      let here = find-In (λ (t : Live). t.number == row.selector) s.0 cache.live s.1 in
+      let its : number_of s.0.peer cache.live ≡ Some row.selector = own_number cache.live sound.live.apart s.0 here.0 ∙ ap Some (eqb-true s.0.number row.selector here.1) in
+      ap (λ p. number_of p cache.live) (sym (known.own s.0.peer its)) ∙ its
 
-  numbers_now : (rows : List SetRow) → AllByRecursion (λ row. IsSome (number_of row.peer cache.live)) rows
-      → AllByRecursion (HasNumber cache cache.next) rows → AllByRecursion (λ row. number_of row.peer cache.live ≡ Some row.selector) rows
-  numbers_now [] live its = tt
-  numbers_now (row ∷ rows) live its = (number_now row (number_of row.peer cache.live) refl live.0 its.0, numbers_now rows live.1 its.1)
-
-  -- no selector came since they were read
-  pub numbers_still : (kept : KnownRows) → kept.next ≡ cache.next → AllByRecursion (λ row. IsSome (number_of row.peer cache.live)) kept.rows
-      → AllByRecursion (HasNumber cache kept.next) kept.rows → AllByRecursion (λ row. number_of row.peer cache.live ≡ Some row.selector) kept.rows
-  numbers_still kept next live its = numbers_now kept.rows live (subst (λ n. AllByRecursion (HasNumber cache n) kept.rows) next its)
+  pub numbers_now : (read : ℕ) (rows : List SetRow) → AllByRecursion (IsKnownRow cache read) rows → HaveSelectors cache rows → AllByRecursion (λ row. number_of row.peer cache.live ≡ Some row.selector) rows
+  numbers_now read [] known live = tt
+  numbers_now read (row ∷ rows) known live = (number_now read row known.0 live.0, numbers_now read rows known.1 live.1)
 
   pub sets_made : (filters : Filters) (rows others : List SetRow) → IsListingOf (filter_peers filters) rows → map key_of others ≡ map key_of rows
       → AllByRecursion (IsLiveRow cache.live) others → AreSetsFor cache.live filters others

@@ -1,5 +1,5 @@
 -- The rows of the peers that filters list, as they are kept, and what is known of their numbers and sets later.
-use Rattle.std.specs.Prelude.{ℕ, ◌≡◌, ◌≤◌, ◌<◌, nat_eq, List, map, Some, IsTrue}
+use Rattle.std.specs.Prelude.{ℕ, ◌≡◌, ◌≤◌, ◌<◌, nat_eq, List, map, Some, true, IsTrue}
 use Rattle.std.specs.Arc.{arc_value}
 use Rattle.std.specs.List.{AllByRecursion, Contains, IsDistinct}
 use Rattle.pol_rule.specs.declared.policy.Peer.{Peer}
@@ -9,13 +9,11 @@ use Rattle.pol_sets.specs.declared.sets.SetRow.{SetRow}
 use Rattle.pol_sets.specs.Sets.{has_set}
 use Rattle.pol_set_changes.specs.Log.{newest, unchanged_since}
 use Rattle.pol_selcache.specs.Cache.{Cache}
-use Rattle.pol_selcache.specs.Live.{AreExact, number_of}
+use Rattle.pol_selcache.specs.Live.{AreExact, is_live, number_of}
 
--- such rows, the number that the next new selector had when they were read, and the revision of the newest change of any set
--- then
+-- such rows, and the revision of the newest change of any set as they were read
 pub record KnownRows : Type 0 where
   pub rows : List SetRow
-  pub next : ℕ
   pub read : ℕ
 
 -- what a row says but for its set
@@ -28,30 +26,33 @@ pub record IsListingOf (peers : List Peer) (rows : List SetRow) : Type 0 where
   pub every : AllByRecursion (λ p. IsTrue (has_set rows p)) peers
   pub once : IsDistinct nat_eq (map (λ row. row.selector) rows)
 
--- a peer whose selector was there when its row was read has that selector
-abbrev pub HasNumber : Cache → ℕ → SetRow → Type 0
-HasNumber cache next row = (number : ℕ) → number_of row.peer cache.live ≡ Some number → number < next → number ≡ row.selector
+-- the selectors of these rows are live
+abbrev pub HaveSelectors : Cache → List SetRow → Type 0
+HaveSelectors cache rows = AllByRecursion (λ row. is_live row.selector cache.live ≡ true) rows
 
 -- no change on these rows' chains is later than the revision, nor is the horizon where a chain has none
 abbrev pub AreUnchanged : Cache → ℕ → List SetRow → Type 0
 AreUnchanged cache read rows = AllByRecursion (λ row. unchanged_since row.selector cache.log ≤ read) rows
 
--- where the peer still has the row's selector, and its set hasn't changed since, the row's set is exact wherever the
--- selectors' are
-abbrev pub IsAsRead : Cache → ℕ → ℕ → SetRow → Type 0
-IsAsRead cache next read row =
-    unchanged_since row.selector cache.log ≤ read → row.selector < next → number_of row.peer cache.live ≡ Some row.selector
+-- where the peer has the row's selector, and its set hasn't changed since, the row's set is exact wherever the selectors'
+-- are
+abbrev pub IsAsRead : Cache → ℕ → SetRow → Type 0
+IsAsRead cache read row =
+    unchanged_since row.selector cache.log ≤ read → number_of row.peer cache.live ≡ Some row.selector
     → (identities : List IdentityRow) → AreExact identities cache.live → arc_value row.set ≡ set_at identities row.peer
 
--- The rows were read of this cache, or of one before: each peer that has a selector of then has the one of its row, and the
--- set of each that still has it, and hasn't changed since, is the row's.
-pub record IsKnownIn (cache : Cache) (kept : KnownRows) : Type 0 where
-  pub within : kept.next ≤ cache.next
-  pub numbers : AllByRecursion (HasNumber cache kept.next) kept.rows
-  pub before : kept.read ≤ newest cache.log
-  pub sets : AllByRecursion (IsAsRead cache kept.next kept.read) kept.rows
+-- The number of the row's selector was given out, a peer that has it is the row's, and the row's set is as it was read.
+pub record IsKnownRow (cache : Cache) (read : ℕ) (row : SetRow) : Type 0 where
+  pub given : row.selector < cache.next
+  pub own : (p : Peer) → number_of p cache.live ≡ Some row.selector → p ≡ row.peer
+  pub set : IsAsRead cache read row
 
--- They serve as they are: no selector came since they were read, and no set changed.
+-- The rows were read of this cache, or of one before.
+pub record IsKnownIn (cache : Cache) (kept : KnownRows) : Type 0 where
+  pub before : kept.read ≤ newest cache.log
+  pub rows : AllByRecursion (IsKnownRow cache kept.read) kept.rows
+
+-- They serve as they are: their selectors are live, and no set changed.
 pub record Serves (cache : Cache) (kept : KnownRows) : Type 0 where
-  pub current : kept.next ≡ cache.next
+  pub live : HaveSelectors cache kept.rows
   pub unchanged : AreUnchanged cache kept.read kept.rows

@@ -1,10 +1,10 @@
 //! The rows of the peers that filters list, as they are kept from one take to the next.
-ghost use Rattle.std.specs.Prelude.{◌≡◌, ◌↔◌, ◌==◌, Some, IfOk, IfSome, IsNone, IsSome, IsTrue, false, map};
+ghost use Rattle.std.specs.Prelude.{◌≡◌, ◌↔◌, Some, IfOk, IfSome, IsSome, IsTrue, map};
 ghost use Rattle.std.specs.List.{AllByRecursion};
 ghost use Rattle.pol_filters.specs.declared.filter.Filters.{Filters as AnyFilters};
-ghost use Rattle.pol_selcache.specs.Cache.{IsSound};
+ghost use Rattle.pol_set_changes.specs.Log.{newest};
 ghost use Rattle.pol_selcache.specs.Live.{number_of};
-ghost use Rattle.pol_taken.specs.Known.{AreUnchanged, IsKnownIn, IsListingOf, Serves, key_of};
+ghost use Rattle.pol_taken.specs.Known.{AreUnchanged, HaveSelectors, IsKnownIn, IsListingOf, Serves, key_of};
 ghost use Rattle.pol_taken.specs.PeerRows.{AreSetsFor, IsLiveRow, filter_peers};
 
 use pol_data::Memory;
@@ -13,13 +13,11 @@ use pol_sets::{SetRow, Sets};
 use std::alloc::Global;
 use std::marker::Model;
 
-/// The rows of the peers that filters list, as they were read last. Their numbers serve again until a selector comes, and until
-/// then the rows themselves as long as the log has no later change on their chains.
+/// The rows of the peers that filters list, as they were read last. Their numbers serve again as long as these selectors are
+/// live, and the rows themselves as long as the log has no later change on their chains.
 #[derive(Drop)]
 pub struct KnownPeers {
     rows: Sets,
-    // The number of the next new selector, as they were read.
-    next: u64,
     // The revision of the newest change of any set, as they were read.
     read: u64,
 }
@@ -29,7 +27,7 @@ impl Model for KnownPeers {
 
     ghost Value = { KnownRows };
 
-    ghost view = { λ known. record { rows = known.rows; next = known.next; read = known.read } };
+    ghost view = { λ known. record { rows = known.rows; read = known.read } };
 }
 
 /// The peer's row with its set as it is now. The one error is want of memory.
@@ -60,27 +58,40 @@ fn rows_now(alloc: Global, cache: &SelectorCache, rows: &[SetRow]) -> Result<Set
     Ok(sets)
 }
 
+/// Whether the selectors of the rows are live, each looked for behind the one before.
+fn are_live(cache: &SelectorCache, rows: &[SetRow]) -> bool
+    ensures { IsTrue result ↔ HaveSelectors cache.now rows.now }
+{
+    let mut near = 0;
+    for row in rows {
+        let (is_live, behind) = cache.holds_near(row.selector, near);
+        if !is_live {
+            return false;
+        }
+        near = behind;
+    }
+    true
+}
+
 impl KnownPeers {
     /// These rows, which are shared. The one error is that the count of who shares them is at its end.
     pub fn of(cache: &SelectorCache, sets: &Sets) -> Result<KnownPeers, Memory>
         ensures rows { IfOk result (λ known. known.rows ≡ sets.now) }
+        ensures read { IfOk result (λ known. known.read ≡ newest cache.now.log) }
         ensures known { IfOk result (λ known. (filters : AnyFilters) → AreSetsFor cache.now.live filters sets.now
-            → IsListingOf (filter_peers filters) known.rows × IsKnownIn cache.now known) }
-        ensures serves { IfOk result (Serves cache.now) }
+            → IsListingOf (filter_peers filters) known.rows × IsKnownIn cache.now known × Serves cache.now known) }
     {
         Ok(KnownPeers {
             rows: sets.share()?,
-            next: cache.next_number(),
             read: cache.newest(),
         })
     }
 
-    /// Whether no selector came since the rows were read.
-    fn is_current(&self, cache: &SelectorCache) -> bool
-        ensures current { result ≡ (self.now.next == cache.now.next) }
-        ensures sound { IsSound cache.now }
+    /// Whether the selectors of the rows are live.
+    fn have_selectors(&self, cache: &SelectorCache) -> bool
+        ensures { IsTrue result ↔ HaveSelectors cache.now self.now.rows }
     {
-        self.next == cache.next_number()
+        are_live(cache, self.rows.as_slice())
     }
 
     /// Whether the log has no later change on the rows' chains than when they were read.
@@ -93,24 +104,23 @@ impl KnownPeers {
             .all(|row| cache.unchanged_since(row.selector) <= self.read)
     }
 
-    /// Whether the rows serve as they are: no selector came since they were read, and the log has no later change on their
-    /// chains.
+    /// Whether the rows serve as they are: their selectors are live, and the log has no later change on their chains.
     pub fn serves_as_is(&self, cache: &SelectorCache) -> bool
         ensures { IsTrue result ↔ Serves cache.now self.now }
     {
-        self.is_current(cache) && self.is_unchanged(cache)
+        self.have_selectors(cache) && self.is_unchanged(cache)
     }
 
-    /// The sets of the peers, as they are now, where no selector came since the rows were read. They are those of any
-    /// filters that list these peers. The one error is want of memory.
+    /// The sets of the peers, as they are now, where the selectors of the rows are live. They are those of any filters that
+    /// list these peers. The one error is want of memory.
     pub fn sets_of(&self, alloc: Global, cache: &SelectorCache) -> Result<Option<Sets>, Memory>
         requires known { IsKnownIn cache.now self.now }
-        requires live { AllByRecursion (λ row. IsSome (number_of row.peer cache.now.live)) self.now.rows }
         ensures sets { IfOk result (λ found. IfSome found (λ sets. (filters : AnyFilters)
             → IsListingOf (filter_peers filters) self.now.rows → AreSetsFor cache.now.live filters sets)) }
-        ensures none { IfOk result (λ found. IsNone found ↔ ((self.now.next == cache.now.next) ≡ false)) }
+        ensures some { IfOk result (λ found. IsSome found ↔ HaveSelectors cache.now self.now.rows) }
     {
-        if !self.is_current(cache) {
+        cache.fits_together();
+        if !self.have_selectors(cache) {
             return Ok(None);
         }
         if self.is_unchanged(cache) {

@@ -2,22 +2,13 @@ use Rattle.std.proofs.Common.{◌≡◌, IfOk, IfSome, IsSome, sym, ◌∙◌, s
 use Rattle.std.specs.Arc.{arc_value}
 use Rattle.std.specs.List.{AllByRecursion}
 use Rattle.pol_filters.specs.declared.filter.Filters.{Filters}
-use Rattle.pol_sets.specs.declared.sets.SetRow.{SetRow}
 use Rattle.pol_selcache.specs.Live.{number_of}
 use Rattle.pol_taken.specs.Known.{IsKnownIn, IsListingOf, KnownRows}
 use Rattle.pol_taken.specs.PeerRows.{AreSetsFor, filter_peers}
-use Rattle.pol_taken.proofs.Relisting.{listed_live}
 use Rattle.pol_store.proofs.take.parts_of.Goals as goal
 
 pub sets_of-requires : goal.sets_of-requires
-sets_of-requires c =
-    let kept = c.args.kept.now in
-    let cache = c.args.cache.now in
-    record {
-      known = subst (IsKnownIn cache) (sym c.known.ensures.known) c.requires.listed.known;
-      live = subst (λ (k : KnownRows). AllByRecursion (λ (row : SetRow). IsSome (number_of row.peer cache.live)) k.rows) (sym c.known.ensures.known)
-          (listed_live cache (filter_peers (arc_value kept.filters)) kept.known.rows c.requires.live c.requires.listed.listing.listed);
-    }
+sets_of-requires c = record { known = subst (IsKnownIn c.args.cache.now) (sym c.known.ensures.known) c.requires.listed.known }
 
 pub returns-in-Some : goal.returns-in-Some
 returns-in-Some c =
