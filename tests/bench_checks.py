@@ -1,8 +1,11 @@
-"""Checks of the figures of benchmarks: none that is made of differences is negative where a run was disturbed, and memory is told where it is asked about."""
+"""Checks of the figures of benchmarks: none that is made of differences is negative where a run was disturbed, memory is told where it is asked about, and
+commits are told without what was there before them."""
 import contextlib
 import importlib.util
 import io
 import json
+import pathlib
+import sys
 from importlib.machinery import SourceFileLoader
 from unittest import mock
 
@@ -116,9 +119,122 @@ def too_large_keys(name, syncs):
         yield f"maps aren't asked for {syncs} times in it"
 
 
+class Turns:
+    """Stands in for the runs of bench/growth on a script of two parts: what each takes of the processor, and the script that it is played."""
+
+    def __init__(self, taken):
+        self.taken, self.scripts = iter(taken), []
+
+    def __call__(self, program, words, path):
+        self.scripts.append(pathlib.Path(path).read_text())
+        return 1.0, next(self.taken), 1
+
+
+# With each of four counts of policies, three turns: the processor's seconds of the first part, and those of the whole. Then what the hundred commits took,
+# and what is shown of them.
+TURNS = [
+    (200, [(0.3, 0.9), (0.5, 0.7), (0.6, 0.8)], 0.4, "0.400 s"),
+    (400, [(0.7, 1.7), (0.6, 1.5), (0.5, 1.3)], 0.8, "0.800 s x2.00"),
+    (800, [(0.7, 0.9), (0.9, 0.6), (0.8, 0.7)], None, "disturbed"),
+    (1600, [(0.6, 1.6), (0.9, 1.4), (0.8, 1.9)], 0.8, "0.800 s"),
+]
+
+
+def beside(name):
+    """What bench/growth shows of such runs of this script, the rows that it keeps, and the scripts that it plays."""
+    found, rows, shown = bench("growth"), Rows(), io.StringIO()
+    turns = Turns(seconds for _, turns, _, _ in TURNS for turn in turns for seconds in turn)
+    kept, words = mock.Mock(Rows=lambda is_kept: rows), ["bench/growth", name]
+    with mock.patch.multiple(found, played=turns, results=kept), mock.patch.object(sys, "argv", words), contextlib.redirect_stdout(shown):
+        found.main()
+    return shown.getvalue().splitlines(), rows.added, turns.scripts
+
+
+def commits_beside(name):
+    """What bench/growth tells of such runs of this script, where it tells something else."""
+    shown, kept, _ = beside(name)
+    told, wanted = [" ".join(line.split()) for line in shown], [f"{name} {count} {of}" for count, _, _, of in TURNS]
+    if told != wanted:
+        yield f"{told}, where {wanted} are due"
+    due = [(f"bench/growth {name}: a hundred commits", f"{count} policies", [seconds], "s") for count, _, seconds, _ in TURNS if seconds]
+    if kept != due:
+        yield f"it keeps {kept}, where {due} are due"
+
+
+class There:
+    """What is there at a line of a script: says what each next line is beside that."""
+
+    def __init__(self):
+        self.pod, self.peers, self.had, self.identities, self.mode = None, {}, set(), [], "default"
+
+    def endpoint(self, line):
+        is_first, self.pod = self.pod is None, line["labels"]
+        return f"{'first' if is_first else 'another'} endpoint"
+
+    def apply(self, line):
+        name, spec = line["policy"]["metadata"]["name"], line["policy"]["spec"]
+        is_for_pod = all(f"k8s:{key}={value}" in self.pod for key, value in spec["endpointSelector"].get("matchLabels", {}).items())
+        [(key, value)] = [label for entry in spec["ingress"] for it in entry["fromEndpoints"] for label in it["matchLabels"].items()]
+        ports = [port["port"] for entry in spec["ingress"] for item in entry.get("toPorts", []) for port in item["ports"]]
+        peer = f"k8s:{key}={value}"
+        was = f"{'old' if name in self.peers else 'new'} policy, {'old' if peer in self.had else 'new'} peer"
+        self.peers[name] = peer
+        self.had.add(peer)
+        return f"{was}, port {' '.join(ports)}, for {'the' if is_for_pod else 'another'} pod"
+
+    def identity(self, line):
+        is_old = line["labels"] in self.identities
+        self.identities.append(line["labels"])
+        return f"{'old' if is_old else 'new'} identity of {sum(peer in line['labels'] for peer in self.peers.values())} peers"
+
+    def mode_line(self, line):
+        was, self.mode = self.mode, line["enable"]
+        return f"from {was} to {self.mode}"
+
+    def told(self, line):
+        tell = {"endpoint": self.endpoint, "apply": self.apply, "identity": self.identity, "mode": self.mode_line}.get(line["op"])
+        return tell(line) if tell else line["op"]
+
+
+# What the commits of scripts of two parts are, beside what is there.
+BESIDE = {
+    "applies-beside": ["old policy, new peer, port 80, for the pod"] * 100,
+    "selectors-beside": ["new policy, new peer, port 80, for another pod"] * 100,
+    "modes-beside": ["from default to always", "from always to default"] * 50,
+    "identities-beside": ["new identity of 1 peers"] * 100,
+    "requests-beside": ["new identity of 0 peers"] * 100,
+}
+
+
+def parts(name, count):
+    """What the lines of both parts of a script are, with so many policies."""
+    first = ["first endpoint", *["new policy, new peer, port 80, for the pod"] * count, "sync"]
+    return first, [told for commit in BESIDE[name] for told in (commit, "sync")]
+
+
+def script_beside(name):
+    """How the script of this name in bench/growth isn't as it says: so many policies, and then a hundred commits with a sync each."""
+    scripts = beside(name)[2]
+    for at, (count, turns, _, _) in enumerate(TURNS):
+        played = scripts[2 * at * len(turns) :][: 2 * len(turns)]
+        if played != played[:2] * len(turns):
+            yield f"{count} policies: its two parts aren't played by turns"
+        first, then = parts(name, count)
+        for script, due in zip(played, (first, first + then)):
+            told = list(map(There().told, map(json.loads, script.splitlines())))
+            if told != due:
+                differ = [pair for pair in zip(told, due) if pair[0] != pair[1]][:1]
+                yield f"{count} policies: {len(told)} lines, where {len(due)} are due; the first that differ: {differ}"
+        if not played[1].startswith(played[0]):
+            yield f"{count} policies: the whole doesn't begin with its first part"
+
+
 def checks():
     yield "figures of bench/kept", lambda: list(kept())
     for name, is_of_memory in (("too-large-keys", True), ("too-large-keys-later", True), ("too-large", False)):
         yield f"figures of bench/growth {name}", lambda name=name, is_of_memory=is_of_memory: list(growth(name, is_of_memory))
     for name, syncs in (("too-large-keys", 1), ("too-large-keys-later", 2)):
         yield f"script of bench/growth {name}", lambda name=name, syncs=syncs: list(too_large_keys(name, syncs))
+    for name in BESIDE:
+        yield f"figures of bench/growth {name}", lambda name=name: list(commits_beside(name))
+        yield f"script of bench/growth {name}", lambda name=name: list(script_beside(name))
