@@ -34,6 +34,9 @@ use std::sync::Wait;
 const EVENTS: u64 = 1 << 61;
 
 /// The writer, with its history. It can't be dropped, and is ended by `close`.
+///
+/// Each call that adds an event waits until every reader has left the look that it was in: also for one whose thread is put aside
+/// there, however long that is.
 pub struct BoardWriter<N: NodeName, R: Wait + Drop>
 where
     Face<N>: Absorb<FaceOp<N>>,

@@ -214,7 +214,8 @@ impl<N: NodeName, R: Wait + Drop> Node<N, R> {
     /// Commits the request. After any refusal the board's history and the repository are as before.
     ///
     /// `Refused` names the fault of the request at the revision that it carries. `Memory` is want of memory, and the
-    /// board's writer may then be spent.
+    /// board's writer may then be spent. It waits for the desk's lock, and under it for readers that are within a look, also for
+    /// one whose thread is put aside there.
     pub fn commit<W: Wait, L: Ledger>(
         &self,
         rt: &W,
