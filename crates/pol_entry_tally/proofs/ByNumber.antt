@@ -1,21 +1,23 @@
 -- Two keys have one number exactly where they are one key, and what a key covers has numbers next to its own.
-use Rattle.std.proofs.Common.{◌≡◌, ℕ, ◌+◌, ◌-◌, ◌*◌, ◌/◌, ◌%◌, ◌^◌, ◌<◌, ◌≤◌, true, nat_lt, min, refl, sym, ◌∙◌, ap, subst, inl, inr, arith}
-use Rattle.std.proofs.lemmas.Bool.{and_parts, cases_lt, eqb-true, ltb-true}
-use Rattle.std.proofs.lemmas.Nat.{pow-add, pow_pos}
-use Rattle.std.proofs.Math.Pow.{pow_mono}
-use Rattle.pol_ports.specs.PortPrefix.{prefix_at, end_of}
+use Rattle.std.proofs.Common.{◌≡◌, ℕ, ◌+◌, ◌-◌, ◌*◌, ◌/◌, ◌%◌, ◌^◌, ◌<◌, ◌≤◌, true, nat_lt, ◌==◌, min, refl, sym, ◌∙◌, ap, subst, inl, inr, arith}
+use Rattle.std.proofs.lemmas.Bool.{and_from, and_parts, both_ways, cases_Bool, eq-eqb, eqb-true, false_from_ne_true, ltb-true}
+use Rattle.pol_ports.specs.PortPrefix.{prefix_at}
 use Rattle.pol_ports.specs.declared.Direction.{Direction}
 use Rattle.pol_ports.specs.declared.Direction.TheVariants.{Ingress, Egress}
 use Rattle.pol_ports.specs.declared.PortPrefix.{PortPrefix}
 use Rattle.pol_ports.proofs.Blocks.{multiple_is}
-use Rattle.pol_ports.proofs.Containing.{contains_is}
-use Rattle.pol_mapkey.specs.KeyProto.{proto_covers, proto_place}
-use Rattle.pol_mapkey.specs.MapKey.{covers}
+use Rattle.pol_mapkey.specs.KeyProto.{proto_place}
 use Rattle.pol_mapkey.specs.declared.KeyProto.{KeyProto}
 use Rattle.pol_mapkey.specs.declared.KeyProto.TheVariants.{Every, Tcp, Udp, Sctp}
 use Rattle.pol_mapkey.specs.declared.MapKey.{MapKey}
-use Rattle.pol_mapkey.proofs.Keys.{covers_is, key_same}
-use Rattle.pol_entry_tally.specs.Numbers.{dir_at, dir_place, fits, key_at, key_of, number_of, port_at, proto_at, width, width_by}
+use Rattle.pol_mapkey.specs.Entries.{Entry}
+use Rattle.pol_mapkey.specs.MapKey.{same_key}
+use Rattle.pol_mapkey.specs.declared.Kind.{Kind}
+use Rattle.pol_mapkey.specs.declared.Kind.TheVariants.{Allow, Deny}
+use Rattle.pol_mapkey.proofs.Equality.{same_key-is, same_key-self}
+use Rattle.pol_mapkey.proofs.Keys.{key_same}
+use Rattle.pol_entry_tally.specs.Times.{is_entry, same_kind}
+use Rattle.pol_entry_tally.specs.Numbers.{dir_at, dir_place, code_of, fits, group_of, key_at, key_of, kind_place, local_of, number_of, port_at, proto_at}
 use Rattle.pol_distill.proofs.Lookups.{prefix_made}
 use Rattle.pol_distill.proofs.RawLists.{every_key_is}
 
@@ -45,7 +47,7 @@ module _ (d i p b l : ℕ) (small_i : i < 2 ^ 32) (small_p : p ≤ 3) (small_b :
   dir_digit = omega (arith, small_l, small_b, small_p, small_i)
 
 -- ---- the key of a number
-proto_small : (p : KeyProto) → proto_place p ≤ 3
+pub proto_small : (p : KeyProto) → proto_place p ≤ 3
 proto_small Every = omega arith
 proto_small Tcp = omega arith
 proto_small Udp = omega arith
@@ -94,65 +96,63 @@ key_again q fit =
 pub one_key : (a b : MapKey) → fits a ≡ true → fits b ≡ true → number_of a ≡ number_of b → a ≡ b
 one_key a b fits_a fits_b is = sym (key_again a fits_a) ∙ ap key_of is ∙ key_again b fits_b
 
--- ---- what a key covers
-shorter : (w q : PortPrefix) → w.bits ≡ q.bits → end_of q ≤ end_of w → w.len ≤ q.len
-shorter w q same inside =
-    elim (cases_lt q.len w.len) [
-      | inl less ↦
-          (let more : 2 ^ (16 - w.len + 1) ≤ 2 ^ (16 - q.len) = pow_mono (omega (arith, less, w.short)) in
-          let twice : 2 ^ (16 - w.len + 1) ≡ 2 ^ (16 - w.len) * 2 = pow-add 2 (16 - w.len) 1 in
-          absurd (omega (arith, more, twice, pow_pos (16 - w.len), same, inside)))
-      | inr not_less ↦ not_less
+-- ---- a key's group and what stands below it
+abbrev joined : ℕ → ℕ → ℕ → ℕ
+joined d i l = (d * 2 ^ 32 + i) * 2 ^ 23 + l
+
+number_joined : (d i p b l : ℕ) → digits d i p b l ≡ joined d i (p * 2 ^ 21 + b * 2 ^ 5 + l)
+number_joined d i p b l = omega arith
+
+pub number_is : (q : MapKey) → number_of q ≡ group_of q * 2 ^ 23 + local_of q
+number_is q = number_joined (dir_place q.dir) q.id (proto_place q.proto) q.port.bits q.port.len
+
+low_small : (p b l : ℕ) → p ≤ 3 → b < 2 ^ 16 → l ≤ 16 → p * 2 ^ 21 + b * 2 ^ 5 + l < 2 ^ 23
+low_small p b l few small short = omega (arith, few, small, short)
+
+pub local_small : (q : MapKey) → fits q ≡ true → local_of q < 2 ^ 23
+local_small q fit = low_small (proto_place q.proto) q.port.bits q.port.len (proto_small q.proto) (fits_is q fit).1 q.port.short
+
+pub kind_small : (k : Kind) → kind_place k ≤ 1
+kind_small Allow = omega arith
+kind_small Deny = omega arith
+
+parts_of : (g h k l m n : ℕ) → k ≤ 1 → l ≤ 1 → m < 2 ^ 23 → n < 2 ^ 23 → g * 2 ^ 24 + (k * 2 ^ 23 + m) ≡ h * 2 ^ 24 + (l * 2 ^ 23 + n) → (g ≡ h) × (k ≡ l) × (m ≡ n)
+parts_of g h k l m n few few' small small' same = (omega (arith, few, few', small, small', same), omega (arith, few, few', small, small', same), omega (arith, few, few', small, small', same))
+
+same_place : (k l : Kind) → kind_place k ≡ kind_place l → k ≡ l
+same_place Allow Allow e = refl
+same_place Allow Deny e = absurd (omega (arith, e))
+same_place Deny Allow e = absurd (omega (arith, e))
+same_place Deny Deny e = refl
+
+-- keys of one group that stand at one place are one
+pub one_in_group : (a b : MapKey) → fits a ≡ true → fits b ≡ true → group_of a ≡ group_of b → local_of a ≡ local_of b → a ≡ b
+one_in_group a b fits_a fits_b groups locals =
+    one_key a b fits_a fits_b (number_is a ∙ (λ i. groups i * 2 ^ 23 + locals i) ∙ sym (number_is b))
+
+pub one_code : (a b : MapKey) (k l : Kind) → fits a ≡ true → fits b ≡ true → code_of a k ≡ code_of b l → (a ≡ b) × (k ≡ l)
+one_code a b k l fits_a fits_b same =
+    let parts = parts_of (group_of a) (group_of b) (kind_place k) (kind_place l) (local_of a) (local_of b) (kind_small k) (kind_small l) (local_small a fits_a) (local_small b fits_b) same in
+    (one_in_group a b fits_a fits_b parts.0 parts.2, same_place k l parts.1)
+
+kind_self : (k : Kind) → same_kind k k ≡ true
+kind_self Allow = refl
+kind_self Deny = refl
+
+kind_is : (k l : Kind) → same_kind k l ≡ true → k ≡ l
+kind_is Allow Allow e = refl
+kind_is Allow Deny e = cc
+kind_is Deny Allow e = cc
+kind_is Deny Deny e = refl
+
+pub code_same : (e : Entry) (q : MapKey) (k : Kind) → fits e.0 ≡ true → fits q ≡ true → (code_of e.0 e.1 == code_of q k) ≡ is_entry q k e
+code_same e q k fits_e fits_q =
+    elim (cases_Bool (code_of e.0 e.1 == code_of q k)) [
+      | inl t ↦
+          (let one = one_code e.0 q e.1 k fits_e fits_q (eqb-true (code_of e.0 e.1) (code_of q k) t) in
+          t ∙ sym (and_from (same_kind e.1 k) (same_key e.0 q) (ap (λ l. same_kind l k) one.1 ∙ kind_self k) (ap (λ a. same_key a q) one.0 ∙ same_key-self q)))
+      | inr f ↦
+          f ∙ sym (false_from_ne_true (is_entry q k e) (λ t.
+          let both = and_parts (same_kind e.1 k) (same_key e.0 q) t in
+          both_ways (code_of e.0 e.1 == code_of q k) f (eq-eqb (code_of e.0 e.1) (code_of q k) (λ i. code_of (same_key-is e.0 q both.1 i) (kind_is e.1 k both.0 i)))))
     ]
-
--- the digits below the protocol
-low_digits : (w q : PortPrefix) → w.bits ≤ q.bits → end_of q ≤ end_of w
-    → (w.bits * 2 ^ 5 + w.len ≤ q.bits * 2 ^ 5 + q.len) × (q.bits * 2 ^ 5 + q.len < w.bits * 2 ^ 5 + 2 ^ 5 * 2 ^ (16 - w.len))
-low_digits w q low high =
-    let some = pow_pos (16 - q.len) in (
-      elim (cases_lt w.bits q.bits) [
-        | inl less ↦ omega (arith, less, w.short, q.short)
-        | inr same ↦ (let is : w.bits ≡ q.bits = omega (arith, low, same) in omega (arith, is, shorter w q is high))
-      ],
-      omega (arith, some, high, q.short),
-    )
-
-abbrev Within : ℕ → ℕ → ℕ → Type 0
-Within first width n = (first ≤ n) × (n < first + width)
-
-module _ (d i : ℕ) (w q : PortPrefix) (low : w.bits ≤ q.bits) (high : end_of q ≤ end_of w) where
-  under_proto : (p : ℕ) → Within (digits d i p w.bits w.len) (2 ^ 5 * 2 ^ (16 - w.len) - w.len) (digits d i p q.bits q.len)
-  under_proto p =
-      let both = low_digits w q low high in
-      let some = pow_pos (16 - w.len) in
-      (omega (arith, both.0), omega (arith, both.1, some, w.short))
-
-  under_every : (p : ℕ) → p ≤ 3 → w.len ≡ 0 → q.bits < 2 ^ 16 → Within (digits d i 0 w.bits w.len) (2 ^ 23) (digits d i p q.bits q.len)
-  under_every p few none small = (omega (arith, low, none), omega (arith, few, small, none, q.short))
-
-pub numbers_under : (w q : MapKey) → fits q ≡ true → covers w q ≡ true → Within (number_of w) (width w) (number_of q)
-numbers_under w q fit over =
-    let is = covers_is w q over in
-    let ports = contains_is w.port q.port is.3 in
-    let small = (fits_is q fit).1 in
-    let same : digits (dir_place w.dir) w.id (proto_place q.proto) q.port.bits q.port.len ≡ number_of q =
-    λ i. digits (dir_place (is.0 i)) (is.1 i) (proto_place q.proto) q.port.bits q.port.len in
-    subst (Within (number_of w) (width w)) same (by w.proto refl is.2 ports.0 ports.1 small)
-  where
-    of_one : (p : KeyProto) → w.proto ≡ p → width_by p w.port.len ≡ 2 ^ 5 * 2 ^ (16 - w.port.len) - w.port.len → proto_place p ≡ proto_place q.proto
-        → w.port.bits ≤ q.port.bits → end_of q.port ≤ end_of w.port
-        → Within (number_of w) (width w) (digits (dir_place w.dir) w.id (proto_place q.proto) q.port.bits q.port.len)
-    of_one p own wide same low high =
-        subst (λ n. Within (digits (dir_place w.dir) w.id (proto_place w.proto) w.port.bits w.port.len) n (digits (dir_place w.dir) w.id (proto_place q.proto) q.port.bits q.port.len))
-        (sym (ap (λ r. width_by r w.port.len) own ∙ wide))
-        (subst (λ n. Within (digits (dir_place w.dir) w.id n w.port.bits w.port.len) (2 ^ 5 * 2 ^ (16 - w.port.len) - w.port.len) (digits (dir_place w.dir) w.id (proto_place q.proto) q.port.bits q.port.len))
-        (sym (ap proto_place own ∙ same)) (under_proto (dir_place w.dir) w.id w.port q.port low high (proto_place q.proto)))
-
-    by : (p : KeyProto) → w.proto ≡ p → proto_covers p q.proto ≡ true → w.port.bits ≤ q.port.bits → end_of q.port ≤ end_of w.port → q.port.bits < 2 ^ 16
-        → Within (number_of w) (width w) (digits (dir_place w.dir) w.id (proto_place q.proto) q.port.bits q.port.len)
-    by Every every _ low high small =
-        subst (λ p. Within (digits (dir_place w.dir) w.id (proto_place p) w.port.bits w.port.len) (width_by p w.port.len) (digits (dir_place w.dir) w.id (proto_place q.proto) q.port.bits q.port.len)) (sym every)
-        (under_every (dir_place w.dir) w.id w.port q.port low high (proto_place q.proto) (proto_small q.proto) (w.every_port every) small)
-    by Tcp own same low high _ = of_one Tcp own refl (eqb-true 1 (proto_place q.proto) same) low high
-    by Udp own same low high _ = of_one Udp own refl (eqb-true 2 (proto_place q.proto) same) low high
-    by Sctp own same low high _ = of_one Sctp own refl (eqb-true 3 (proto_place q.proto) same) low high

@@ -1,17 +1,17 @@
-pub mod ByNumber
-pub mod Kept
-pub mod OfKeys
-pub mod Counting
-pub mod Below
-pub mod NoDenies
-pub mod Gathered
-pub mod Deduped
-pub mod Wider
-pub mod Found
-pub mod OfEntries
-pub mod Differ
-pub mod Unaffected
-pub mod Settled
-pub mod Listing
-pub mod Sized
-pub mod Resized
+mod ByNumber
+mod AtPlaces
+mod InOrder
+mod Merged
+mod Below
+mod Once
+mod OfGroup
+mod Turned
+mod Ranges
+mod Under
+mod Differ
+mod Found
+mod OfEntries
+mod Wider
+mod Whole
+mod Sized
+mod Several

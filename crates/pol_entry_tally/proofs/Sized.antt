@@ -23,14 +23,12 @@ use Rattle.pol_map_changes.specs.Changes.{IsAscending, change_order, changed, ch
 use Rattle.pol_map_changes.proofs.Differences.{differences_lead, tables_have_their_entries}
 use Rattle.pol_map_changes.proofs.Said.{get_once, same_of}
 use Rattle.pol_trie.specs.PolicyMap.{PolicyMap}
-use Rattle.pol_entry_tally.specs.Affected.{ListsAffected, change_at}
-use Rattle.pol_entry_tally.specs.Counted.{CellsOf, times_on}
+use Rattle.pol_entry_tally.specs.Affected.{Lists, change_at}
 use Rattle.pol_entry_tally.specs.Sizes.{clear_count, is_clear, new_count}
 use Rattle.pol_entry_tally.specs.Times.{Times, kind_of, times}
-use Rattle.pol_entry_tally.specs.declared.cells.Side.TheVariants.{Before, After}
 use Rattle.pol_entry_tally.proofs.Differ.{made}
 use Rattle.pol_entry_tally.proofs.OfEntries.{reads}
-use Rattle.pol_entry_tally.proofs.Settled.{listed_is}
+use Rattle.pol_entry_tally.proofs.Whole.{listed_is}
 
 -- a lesser key is another one
 apart : (k q : MapKey) → key_cmp k q ≡ Less → eq_by_cmp key_cmp q k ≡ false
@@ -113,24 +111,23 @@ every P holds (x ∷ xs) = (holds x, every P holds xs)
 table_len : (raw : List Entry) → finite.len (table_of (canonical raw)) ≡ length (canonical raw)
 table_len raw = finite.len-entries (table_of (canonical raw)) ∙ ap length (tables_have_their_entries (canonical raw) (canonical_is_table raw))
 
-module _ (cells : CellsOf) (moved : Times) (changes : List Change) (before after : List Entry)
-    (was : (q : MapKey) (k : Kind) → (cells q k).before ≡ times before q k) (is : (q : MapKey) (k : Kind) → (cells q k).after ≡ times after q k) where
-  pub listed_size : AllByRecursion IsSmall before → AllByRecursion IsSmall after → ((q : MapKey) (k : Kind) → moved q k ≡ 0 → (cells q k).before ≡ (cells q k).after)
-      → ListsAffected cells moved changes → length (canonical after) + clear_count changes ≡ length (canonical before) + new_count (times_on Before cells) changes
-  listed_size small small_after still lists =
-      let given = times_on Before cells in
-      let difference = listed_is cells moved changes before after was is small small_after still lists in
+module _ (was_times is_times : Times) (changes : List Change) (before after : List Entry)
+    (was : (q : MapKey) (k : Kind) → was_times q k ≡ times before q k) (is : (q : MapKey) (k : Kind) → is_times q k ≡ times after q k) where
+  pub listed_size : AllByRecursion IsSmall before → AllByRecursion IsSmall after
+      → Lists was_times is_times changes → length (canonical after) + clear_count changes ≡ length (canonical before) + new_count was_times changes
+  listed_size small small_after lists =
+      let difference = listed_is was_times is_times changes before after was is small small_after lists in
       let leads : changed changes (table_of (canonical before)) ≡ table_of (canonical after) = differences_lead changes (table_of (canonical before)) (table_of (canonical after)) difference in
-      let has : (c : Change) → finite.contains_key (table_of (canonical before)) (key_of c) ≡ is_some (kind_of given (key_of c)) = λ c.
+      let has : (c : Change) → finite.contains_key (table_of (canonical before)) (key_of c) ≡ is_some (kind_of was_times (key_of c)) = λ c.
       ap is_some (finite.get-from_entries key_cmp_total (canonical before) (key_of c) ∙ reads before small (key_of c)
       ∙ ap (λ (counts : Times). kind_of counts (key_of c)) (λ i q k. sym (was q k) i)) in
-      let had : AllByRecursion (λ c. is_clear c ≡ true → is_some (kind_of given (key_of c)) ≡ true) changes =
-      subst (AllByRecursion (λ c. is_clear c ≡ true → is_some (kind_of given (key_of c)) ≡ true)) (sym lists.made)
-      (all_had (kind_of given) (kind_of (times_on After cells)) lists.keys) in
+      let had : AllByRecursion (λ c. is_clear c ≡ true → is_some (kind_of was_times (key_of c)) ≡ true) changes =
+      subst (AllByRecursion (λ c. is_clear c ≡ true → is_some (kind_of was_times (key_of c)) ≡ true)) (sym lists.made)
+      (all_had (kind_of was_times) (kind_of is_times) lists.keys) in
       omega (
         arith,
         table_len before,
         table_len after,
         ap (finite.len {R = key_cmp}) leads,
-        grown (λ q. is_some (kind_of given q)) changes (table_of (canonical before)) difference.ascending (every _ has changes) had,
+        grown (λ q. is_some (kind_of was_times q)) changes (table_of (canonical before)) difference.ascending (every _ has changes) had,
       )

@@ -1,6 +1,7 @@
 pub mod Numbers
-pub mod Cells
 pub mod Times
+pub mod Counts
 pub mod Counted
-pub mod Affected
 pub mod Sizes
+pub mod Affected
+pub mod Gathering

@@ -1,5 +1,5 @@
--- The numbers of keys, by which the trees of a tally have them. No public clause cites this module.
-use Rattle.std.specs.Prelude.{ℕ, ◌+◌, ◌-◌, ◌*◌, ◌/◌, ◌%◌, ◌^◌, Bool, ◌&&◌, min, nat_eq, nat_lt, if◌then◌else◌, Option, None, Some}
+-- The numbers of keys, by which a tally has them. No public clause cites this module.
+use Rattle.std.specs.Prelude.{ℕ, ◌≡◌, ◌+◌, ◌*◌, ◌/◌, ◌%◌, ◌^◌, Bool, ◌&&◌, min, nat_eq, nat_lt, true, if◌then◌else◌, Option, None, Some}
 use Rattle.pol_ports.specs.PortPrefix.{prefix_at}
 use Rattle.pol_ports.specs.declared.Direction.{Direction}
 use Rattle.pol_ports.specs.declared.Direction.TheVariants.{Ingress, Egress}
@@ -8,8 +8,8 @@ use Rattle.pol_ports.specs.declared.Proto.{Proto}
 use Rattle.pol_ports.specs.declared.Proto.TheVariants.{Tcp as TcpPackets, Udp as UdpPackets, Sctp as SctpPackets}
 use Rattle.pol_mapkey.specs.KeyProto.{proto_place}
 use Rattle.pol_mapkey.specs.MapKey.{every_key, port_key}
-use Rattle.pol_mapkey.specs.declared.KeyProto.{KeyProto}
-use Rattle.pol_mapkey.specs.declared.KeyProto.TheVariants.{Every, Tcp, Udp, Sctp}
+use Rattle.pol_mapkey.specs.declared.Kind.{Kind}
+use Rattle.pol_mapkey.specs.declared.Kind.TheVariants.{Allow, Deny}
 use Rattle.pol_mapkey.specs.declared.MapKey.{MapKey}
 
 abbrev pub dir_place : Direction → ℕ
@@ -42,12 +42,32 @@ key_at dir id (Some proto) port = port_key dir id proto port
 abbrev pub key_of : ℕ → MapKey
 key_of n = key_at (dir_at (n / 2 ^ 55)) (n / 2 ^ 23 % 2 ^ 32) (proto_at (n / 2 ^ 21 % 2 ^ 2)) (port_at (n / 2 ^ 5 % 2 ^ 16) (n % 2 ^ 5))
 
--- ---- how many numbers from that of the key on are those of keys that it covers
-abbrev pub width_by : KeyProto → ℕ → ℕ
-width_by Every len = 2 ^ 23
-width_by Tcp len = 2 ^ 5 * 2 ^ (16 - len) - len
-width_by Udp len = 2 ^ 5 * 2 ^ (16 - len) - len
-width_by Sctp len = 2 ^ 5 * 2 ^ (16 - len) - len
+-- ---- a key's group is its direction and identity, its place is the rest and a kind
+abbrev pub group_of : MapKey → ℕ
+group_of key = dir_place key.dir * 2 ^ 32 + key.id
 
-abbrev pub width : MapKey → ℕ
-width key = width_by key.proto key.port.len
+abbrev pub local_of : MapKey → ℕ
+local_of key = proto_place key.proto * 2 ^ 21 + key.port.bits * 2 ^ 5 + key.port.len
+
+abbrev pub kind_place : Kind → ℕ
+kind_place Deny = 0
+kind_place Allow = 1
+
+abbrev pub place_of : MapKey → Kind → ℕ
+place_of key kind = kind_place kind * 2 ^ 23 + local_of key
+
+-- the number of a key and a kind
+abbrev pub code_of : MapKey → Kind → ℕ
+code_of key kind = group_of key * 2 ^ 24 + place_of key kind
+
+-- the key of a group that stands there
+abbrev pub key_in : ℕ → ℕ → MapKey
+key_in group local = key_of (group * 2 ^ 23 + local)
+
+-- a place of some key
+abbrev pub IsPlace : ℕ → Type 0
+IsPlace place = (key : MapKey) × (kind : Kind) × (fits key ≡ true) × (place ≡ place_of key kind)
+
+-- the number of a key and a kind of the group
+abbrev pub IsCodeOf : ℕ → ℕ → Type 0
+IsCodeOf group code = (key : MapKey) × (kind : Kind) × (fits key ≡ true) × (group_of key ≡ group) × (code ≡ code_of key kind)

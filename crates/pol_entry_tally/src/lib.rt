@@ -4,18 +4,19 @@
 //! exactly the keys at which the canonical map of the entries changed.
 #![tactic(auto)]
 
-mod affected;
-mod by_key;
-mod cells;
+mod asked;
 mod change;
-mod differences;
+mod counts;
+mod group;
 mod keys;
-mod lists;
+mod listing;
+mod many;
+mod merge;
 mod numbers;
-mod order;
 mod reading;
 mod sizes;
 mod tally;
+mod turns;
 
 pub use sizes::Changed;
 pub use tally::Tally;

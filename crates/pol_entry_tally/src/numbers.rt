@@ -1,10 +1,10 @@
 //! Keys as numbers: two numbers are compared in one step, where keys are compared field by field.
 ghost use Rattle.std.specs.Prelude.{◌≡◌, ◌≤◌, ◌<◌, ◌^◌, true};
 ghost use Rattle.pol_mapkey.specs.KeyProto.{proto_place};
-ghost use Rattle.pol_entry_tally.specs.Numbers.{dir_at, dir_place, fits, key_at, key_of, number_of, port_at, proto_at, width};
+ghost use Rattle.pol_entry_tally.specs.Numbers.{dir_at, dir_place, fits, key_at, code_of, group_of, key_in, key_of, kind_place, local_of, place_of, port_at, proto_at};
 
 use crate::keys::{every_key, port_count, port_key, prefix_at};
-use pol_mapkey::{KeyProto, MapKey};
+use pol_mapkey::{KeyProto, Kind, MapKey};
 use pol_ports::{Direction, PortPrefix, Proto};
 
 /// The lowest bit of the direction in a number, of the identity, of the protocol, and of the first port. The length stands below.
@@ -50,19 +50,6 @@ fn first_port(key: &MapKey) -> u64
     ensures small { key.now.port.bits < 2 ^ 16 }
 {
     u64::from(key.port.bits)
-}
-
-/// The number of a key.
-pub(crate) fn number_of(key: &MapKey) -> u64
-    ensures value { result ≡ number_of key.now }
-    ensures fits { fits key.now ≡ true }
-    ensures small { result < 2 ^ 56 }
-{
-    let dir = dir_place(key.dir) * DIRECTION;
-    let id = identity(key) * IDENTITY;
-    let proto = proto_place(key.proto) * PROTOCOL;
-    let port = first_port(key) * PORT;
-    dir + id + proto + port + u64::from(key.port.len)
 }
 
 fn dir_at(place: u64) -> Direction
@@ -118,18 +105,63 @@ pub(crate) fn key_of(number: u64) -> MapKey
     )
 }
 
-/// How many numbers from that of the key on are those of keys that it covers.
-pub(crate) fn width(key: &MapKey) -> u64
-    ensures value { result ≡ width key.now }
-    ensures some { 0 < result }
-    ensures small { result < 2 ^ 56 }
+/// The lowest bit of the kind in a place, and of the group in the number of a key and a kind.
+pub(crate) const ALLOWS: u32 = 1 << 23;
+
+const GROUP: u64 = 1 << 24;
+
+fn kind_place(kind: Kind) -> u64
+    ensures value { result ≡ kind_place kind }
+    ensures small { result ≤ 1 }
 {
-    let len = key.port.len;
-    let ports = PORT * u64::from(port_count(len)) - u64::from(len);
-    match key.proto {
-        KeyProto::Every => IDENTITY,
-        KeyProto::Tcp => ports,
-        KeyProto::Udp => ports,
-        KeyProto::Sctp => ports,
+    match kind {
+        Kind::Deny => 0,
+        Kind::Allow => 1,
     }
+}
+
+/// The direction and the identity of a key as one number.
+pub(crate) fn group_of(key: &MapKey) -> u64
+    ensures value { result ≡ group_of key.now }
+    ensures small { result < 2 ^ 33 }
+{
+    dir_place(key.dir) * (1 << 32) + identity(key)
+}
+
+/// The rest of a key as one number.
+pub(crate) fn local_of(key: &MapKey) -> u32
+    ensures value { result ≡ local_of key.now }
+    ensures fits { fits key.now ≡ true }
+    ensures small { result < 2 ^ 23 }
+{
+    let _id = identity(key);
+    let proto = proto_place(key.proto) * PROTOCOL;
+    let port = first_port(key) * PORT;
+    (proto + port + u64::from(key.port.len)) as u32
+}
+
+/// The place of a key and a kind in its group.
+pub(crate) fn place_of(key: &MapKey, kind: Kind) -> u32
+    ensures value { result ≡ place_of key.now kind }
+    ensures fits { fits key.now ≡ true }
+{
+    kind_place(kind) as u32 * ALLOWS + local_of(key)
+}
+
+/// A key and a kind as one number.
+pub(crate) fn code_of(key: &MapKey, kind: Kind) -> u64
+    ensures value { result ≡ code_of key.now kind }
+    ensures fits { fits key.now ≡ true }
+    ensures small { result < 2 ^ 57 }
+{
+    group_of(key) * GROUP + u64::from(place_of(key, kind))
+}
+
+/// The key of the group that stands there.
+pub(crate) fn key_in(group: u64, local: u32) -> MapKey
+    requires group { group < 2 ^ 33 }
+    requires local { local < 2 ^ 23 }
+    ensures { result ≡ key_in group local }
+{
+    key_of(group * IDENTITY + u64::from(local))
 }

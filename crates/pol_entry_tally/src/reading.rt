@@ -1,32 +1,35 @@
-//! What the map says of a key, on either side of a change.
+//! What the map says of a key, by the counts of its group.
 ghost use Rattle.std.specs.Prelude.{◌≡◌, ◌||◌, IsTrue};
 ghost use Rattle.pol_ports.specs.PortPrefix.{prefix_at};
-ghost use Rattle.pol_mapkey.specs.MapKey.{port_key};
+ghost use Rattle.pol_mapkey.specs.MapKey.{every_key, port_key};
 ghost use Rattle.pol_mapkey.specs.declared.Kind.TheVariants.{Deny as deny};
 ghost use Rattle.pol_mapkey.specs.declared.MapKey.{MapKey as OneKey};
-ghost use Rattle.pol_entry_tally.specs.Cells.{no_cell};
-ghost use Rattle.pol_entry_tally.specs.Counted.{cells_of, times_on};
+ghost use Rattle.pol_entry_tally.specs.Counts.{Ascend, held};
 ghost use Rattle.pol_entry_tally.specs.Times.{any_below, is_given, is_under, kind_by, kind_of};
-ghost use Rattle.pol_entry_tally.specs.declared.cells.Side.TheVariants.{After as after, Before as before};
 
-use crate::cells::Side;
+use crate::counts::{Count, times_at};
 use crate::keys::{every_key, packets_of, port_key, prefix_at};
-use crate::tally::Tally;
+use crate::numbers::{ALLOWS, place_of};
 use pol_mapkey::{Kind, MapKey};
 use pol_ports::Proto;
 
 /// Whether the key is given the kind.
-pub(crate) fn is_given(tally: &Tally, side: Side, kind: Kind, key: &MapKey) -> bool
-    ensures { result ≡ is_given (times_on side (cells_of tally.now)) kind key.now }
+fn is_given(counts: &[Count], kind: Kind, key: &MapKey) -> bool
+    requires { Ascend counts.now }
+    ensures { result ≡ is_given (held counts.now) kind key.now }
 {
-    0 < tally.at(key, kind).on(side)
+    0 < times_at(counts, place_of(key, kind))
 }
 
-/// Whether no key is denied, on either side.
-fn denies_nothing(tally: &Tally) -> bool
-    ensures { IsTrue result → (q : OneKey) → cells_of tally.now q deny ≡ no_cell }
+/// Whether the first of the counts, and so each, is no deny's.
+pub(crate) fn denies_nothing(counts: &[Count]) -> bool
+    requires { Ascend counts.now }
+    ensures { IsTrue result → (q : OneKey) → held counts.now q deny ≡ 0 }
 {
-    tally.denies.is_empty()
+    match counts.first() {
+        None => true,
+        Some(count) => ALLOWS <= count.place,
+    }
 }
 
 /// Whether one of the two is so.
@@ -36,42 +39,46 @@ fn either(one: bool, other: bool) -> bool
     one || other
 }
 
-/// Whether a key of the protocol with fewer bits of the port is denied, before the change and after it.
-fn are_under_ports(tally: &Tally, key: &MapKey, proto: Proto) -> (bool, bool)
-    ensures before { result.0 ≡ any_below (λ len. is_given (times_on before (cells_of tally.now)) deny
-        (port_key key.now.dir key.now.id proto (prefix_at key.now.port.bits len))) key.now.port.len }
-    ensures after { result.1 ≡ any_below (λ len. is_given (times_on after (cells_of tally.now)) deny
+/// Whether a key of the protocol with fewer bits of the port is denied.
+fn is_under_ports(counts: &[Count], key: &MapKey, proto: Proto) -> bool
+    requires { Ascend counts.now }
+    ensures { result ≡ any_below (λ len. is_given (held counts.now) deny
         (port_key key.now.dir key.now.id proto (prefix_at key.now.port.bits len))) key.now.port.len }
 {
-    let mut before = false;
-    let mut after = false;
+    let mut under = false;
     for len in 0..key.port.len {
         let wide = port_key(key.dir, key.id, proto, prefix_at(key.port.bits, len));
-        let denied = tally.at(&wide, Kind::Deny);
-        before = either(0 < denied.before, before);
-        after = either(0 < denied.after, after);
+        under = either(is_given(counts, Kind::Deny, &wide), under);
     }
-    (before, after)
+    under
 }
 
-/// Whether the key lies strictly under a deny, before the change and after it.
-fn are_under(tally: &Tally, key: &MapKey) -> (bool, bool)
-    ensures before { result.0 ≡ is_under (times_on before (cells_of tally.now)) key.now }
-    ensures after { result.1 ≡ is_under (times_on after (cells_of tally.now)) key.now }
+/// Whether a key of the protocol with fewer bits of the port is denied, or the key of every protocol, which is looked for
+/// first.
+fn is_under_one(counts: &[Count], key: &MapKey, proto: Proto) -> bool
+    requires { Ascend counts.now }
+    ensures { result ≡ (any_below (λ len. is_given (held counts.now) deny
+        (port_key key.now.dir key.now.id proto (prefix_at key.now.port.bits len))) key.now.port.len
+        || is_given (held counts.now) deny (every_key key.now.dir key.now.id)) }
 {
-    if denies_nothing(tally) {
-        return (false, false);
+    if is_given(counts, Kind::Deny, &every_key(key.dir, key.id)) {
+        true
+    } else {
+        is_under_ports(counts, key, proto)
+    }
+}
+
+/// Whether the key lies strictly under a deny. Where nothing is denied nothing is looked for.
+fn is_under(counts: &[Count], key: &MapKey) -> bool
+    requires { Ascend counts.now }
+    ensures { result ≡ is_under (held counts.now) key.now }
+{
+    if denies_nothing(counts) {
+        return false;
     }
     match packets_of(key.proto) {
-        None => (false, false),
-        Some(proto) => {
-            let (before, after) = are_under_ports(tally, key, proto);
-            let denied = tally.at(&every_key(key.dir, key.id), Kind::Deny);
-            (
-                either(before, 0 < denied.before),
-                either(after, 0 < denied.after),
-            )
-        }
+        None => false,
+        Some(proto) => is_under_one(counts, key, proto),
     }
 }
 
@@ -90,16 +97,14 @@ fn kind_by(under: bool, denied: bool, allowed: bool) -> Option<Kind>
     }
 }
 
-/// What the map says of the key before the change and after it.
-pub(crate) fn kinds_at(tally: &Tally, key: &MapKey) -> (Option<Kind>, Option<Kind>)
-    ensures before { result.0 ≡ kind_of (times_on before (cells_of tally.now)) key.now }
-    ensures after { result.1 ≡ kind_of (times_on after (cells_of tally.now)) key.now }
+/// What the map says of a key whose group has these counts.
+pub(crate) fn kind_in(counts: &[Count], key: &MapKey) -> Option<Kind>
+    requires { Ascend counts.now }
+    ensures { result ≡ kind_of (held counts.now) key.now }
 {
-    let (under_before, under_after) = are_under(tally, key);
-    let denied = tally.at(key, Kind::Deny);
-    let allowed = tally.at(key, Kind::Allow);
-    (
-        kind_by(under_before, 0 < denied.before, 0 < allowed.before),
-        kind_by(under_after, 0 < denied.after, 0 < allowed.after),
+    kind_by(
+        is_under(counts, key),
+        is_given(counts, Kind::Deny, key),
+        is_given(counts, Kind::Allow, key),
     )
 }

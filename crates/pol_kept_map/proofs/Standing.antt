@@ -15,7 +15,7 @@ use Rattle.pol_mapkey.specs.Entries.{Entry}
 use Rattle.pol_map_changes.specs.Changes.{IsDifference, table_of}
 use Rattle.pol_entry_tally.specs.declared.sizes.Changed.{Changed}
 use Rattle.pol_entry_tally.specs.declared.tally.Tally.{Tally}
-use Rattle.pol_entry_tally.specs.Counted.{IsAtRest, IsTallyOf, times_of}
+use Rattle.pol_entry_tally.specs.Counted.{AreInOrder, IsTallyOf, times_of}
 use Rattle.pol_entry_tally.specs.Times.{times}
 use Rattle.pol_entry_changes.specs.Balance.{Leads}
 use Rattle.pol_entry_changes.specs.Given.{raw_of}
@@ -24,7 +24,7 @@ use Rattle.pol_kept_map.specs.Kept.{IsKept}
 
 -- a tally of entries that were made
 pub tally_made : (made raw : List Entry) (tally : Tally) → IsTallyOf made tally → ((q : MapKey) (k : Kind) → times made q k ≡ times raw q k) → IsTallyOf raw tally
-tally_made made raw tally is same = record { rest = is.rest; counts = λ q k. is.counts q k ∙ same q k }
+tally_made made raw tally is same = record { order = is.order; counts = λ q k. is.counts q k ∙ same q k }
 
 -- what comes and goes, as the lists that are handed on
 pub led_by : (was is come gone : List Entry) (moved : Moved) → Leads was is moved → come ≡ moved.come.items → gone ≡ moved.gone.items
@@ -37,17 +37,17 @@ module _ (was is come gone : List Entry) (leads : (q : MapKey) (k : Kind) → ti
   pub there : (q : MapKey) (k : Kind) → times gone q k ≤ times_of old q k + times come q k
   there q k = omega (arith, leads q k, counted.counts q k)
 
-  led : IsAtRest new → ((q : MapKey) (k : Kind) → times_of new q k + times gone q k ≡ times_of old q k + times come q k) → IsTallyOf is new
-  led rest counts = record { rest = rest; counts = λ q k. omega (arith, leads q k, counted.counts q k, counts q k) }
+  led : AreInOrder new → ((q : MapKey) (k : Kind) → times_of new q k + times gone q k ≡ times_of old q k + times come q k) → IsTallyOf is new
+  led order counts = record { order = order; counts = λ q k. omega (arith, leads q k, counted.counts q k, counts q k) }
 
 module _ (was is : Filters) (was_rows is_rows : List SetRow) (come gone : List Entry) (size : ℕ) (old new : Tally)
     (leads : (q : MapKey) (k : Kind) → times (raw_of is is_rows) q k + times gone q k ≡ times (raw_of was was_rows) q k + times come q k)
-    (kept : IsKept was was_rows size (Some old)) (have : HaveSets is_rows is) (rest : IsAtRest new) where
+    (kept : IsKept was was_rows size (Some old)) (have : HaveSets is_rows is) (order : AreInOrder new) where
   small : (filters : Filters) (rows : List SetRow) → AllByRecursion IsSmall (raw_of filters rows)
   small filters rows = raw_small (set_given rows) (filter_parts filters)
 
   counts_now : ((q : MapKey) (k : Kind) → times_of new q k + times gone q k ≡ times_of old q k + times come q k) → IsTallyOf (raw_of is is_rows) new
-  counts_now counts = led (raw_of was was_rows) (raw_of is is_rows) come gone leads old new kept.counts rest counts
+  counts_now counts = led (raw_of was was_rows) (raw_of is is_rows) come gone leads old new kept.counts order counts
 
   abbrev Counts : {E : Type 0} → Result Changed E → Type 0
   Counts r = OnOk r ((q : MapKey) (k : Kind) → times_of new q k + times gone q k ≡ times_of old q k + times come q k)

@@ -16,7 +16,7 @@ returns-clause-kept c =
     let is = raw_of c.args.is.now c.args.is_rows.now in
     turned_kept c.args.was.now c.args.is.now c.args.was_rows.now c.args.is_rows.now c.deref.result.now c.deref-2.result.now c.args.size c.args.tally.now c.change.new.self
     (led_by was is c.deref.result.now c.deref-2.result.now c.in_ok-moved.moved c.in_ok-moved.ensures c.deref.ensures.value c.deref-2.ensures.value)
-    c.requires.kept c.requires.sets c.change.ensures.rest c.change.result c.change.ensures.counts c.change.ensures.size
+    c.requires.kept c.requires.sets c.change.ensures.order c.change.result c.change.ensures.counts c.change.ensures.size
 
 pub returns-clause-list : goal.returns-clause-list
 returns-clause-list c =
@@ -24,4 +24,4 @@ returns-clause-list c =
     let is = raw_of c.args.is.now c.args.is_rows.now in
     turned_list c.args.was.now c.args.is.now c.args.was_rows.now c.args.is_rows.now c.deref.result.now c.deref-2.result.now c.args.size c.args.tally.now c.change.new.self
     (led_by was is c.deref.result.now c.deref-2.result.now c.in_ok-moved.moved c.in_ok-moved.ensures c.deref.ensures.value c.deref-2.ensures.value)
-    c.requires.kept c.requires.sets c.change.ensures.rest c.change.result c.change.ensures.counts c.change.ensures.list
+    c.requires.kept c.requires.sets c.change.ensures.order c.change.result c.change.ensures.counts c.change.ensures.list
