@@ -1,5 +1,5 @@
 -- Sorted numbers, each once.
-use Rattle.std.proofs.Common.{◌≡◌, ℕ, ◌++◌, eqb, List, [], sym, ◌∙◌, ap, subst}
+use Rattle.std.proofs.Common.{◌≡◌, ℕ, eqb, List, sym, subst}
 use Rattle.std.specs.Cmp.{unsigned_ties}
 use Rattle.std.specs.List.{Contains, dedup}
 use Rattle.std.specs.List.Sorted.{IsPermutation, IsSorted, IsStrictlySortedBy}
@@ -18,11 +18,3 @@ module _ (given sorted last : List ℕ) (moved : IsPermutation given sorted) (up
 
   pub once_no_more : Has last given
   once_no_more n there = Contains-permutation sorted given n (IsPermutation-sym given sorted moved) (Contains-from_dedup eqb sorted n (subst (λ l. Contains l n) is there))
-
--- in a list that was made of two
-pub has_two : (start mid listed one two : List ℕ) → start ≡ [] → mid ≡ start ++ one → listed ≡ mid ++ two → (last : List ℕ) → Has last listed → Has last (one ++ two)
-has_two start mid listed one two none first second last has n there =
-    subst (λ l. Contains l n) (second ∙ ap (λ l. l ++ two) (first ∙ ap (λ l. l ++ one) none)) (has n there)
-
-pub has_one : (start listed one : List ℕ) → start ≡ [] → listed ≡ start ++ one → (last : List ℕ) → Has last listed → Has last one
-has_one start listed one none first last has n there = subst (λ l. Contains l n) (first ∙ ap (λ l. l ++ one) none) (has n there)

@@ -22,7 +22,7 @@ use Rattle.pol_distill.proofs.RawLists.{every_key_is}
 use Rattle.pol_entry_tally.specs.Times.{Times, any_below, is_given, is_under, is_under_of, packets_of}
 use Rattle.pol_entry_tally.proofs.Below.{below_some, some_below}
 
-packets-is : (p : KeyProto) (proto : Proto) → packets_of p ≡ Some proto → p ≡ key_proto proto
+pub packets-is : (p : KeyProto) (proto : Proto) → packets_of p ≡ Some proto → p ≡ key_proto proto
 packets-is Every proto is = absurd (let wrong : ⊥ = cc in wrong)
 packets-is Tcp proto is = ap key_proto (same_Some _ proto is)
 packets-is Udp proto is = ap key_proto (same_Some _ proto is)

@@ -4,4 +4,5 @@ pub mod Counts
 pub mod Counted
 pub mod Sizes
 pub mod Affected
+pub mod Asking
 pub mod Gathering

@@ -1,10 +1,9 @@
 //! What turns make of a group: its counts then, and what differs at its keys.
-ghost use Rattle.std.specs.Prelude.{◌≡◌, ◌/◌, ◌%◌, ◌^◌, ◌<◌, ◌≤◌, ◌∷◌, [], IfOk, IsFalse, OnOk};
-ghost use Rattle.std.specs.List.{AllByRecursion};
+ghost use Rattle.std.specs.Prelude.{◌≡◌, ◌/◌, ◌%◌, ◌^◌, ◌<◌, ◌≤◌, ◌∷◌, [], nat_le, IfOk, OnOk};
 ghost use Rattle.pol_entry_tally.specs.Counts.{AreCounts, AreOf, AreTurns, IsTurnedBy, Rises, counts_of};
 ghost use Rattle.pol_entry_tally.specs.Gathering.{GroupGoesOn};
 
-use crate::asked::{those_counted, those_turned};
+use crate::asked::those_asked;
 use crate::counts::{Count, Counts};
 use crate::listing::{Listing, list_keys};
 use crate::merge::turned_counts;
@@ -13,37 +12,14 @@ use pol_data::Memory;
 use std::alloc::Global;
 use std::slice;
 
-/// Whether a deny turns: then the first of the turns is one's.
-fn denies_turn(group: u64, turns: &[u64]) -> bool
-    requires rises { Rises turns.now }
-    requires own { AreOf group turns.now }
-    ensures { IsFalse result → AllByRecursion (λ turn. 2 ^ 23 ≤ turn / 2 % 2 ^ 24) turns.now }
+/// Whether the turn is an allow's.
+fn is_allow(turn: u64) -> bool
+    ensures { result ≡ nat_le (2 ^ 23) (turn / 2 % 2 ^ 24) }
 {
-    match turns.first() {
-        None => false,
-        Some(turn) => *turn / 2 % (1 << 24) < u64::from(ALLOWS),
-    }
+    u64::from(ALLOWS) <= turn / 2 % (1 << 24)
 }
 
-/// Lists what differs in a group of which a deny turns: at each key that has a count.
-fn list_counted(
-    alloc: Global,
-    listing: &mut Listing,
-    group: u64,
-    old: &[Count],
-    new: &[Count],
-) -> Result<(), Memory>
-    requires group { group < 2 ^ 33 }
-    requires old { AreCounts old.now }
-    requires new { AreCounts new.now }
-    ensures { OnOk result (GroupGoesOn group old.now new.now listing.old listing.new) }
-{
-    let asked = those_counted(alloc, old, new)?;
-    list_keys(listing, group, old, new, &asked)?;
-    Ok(())
-}
-
-/// The same where one allow turns, and nothing else.
+/// Lists what differs where one allow turns, and nothing else.
 fn list_one(
     listing: &mut Listing,
     group: u64,
@@ -58,7 +34,7 @@ fn list_one(
     requires new { AreCounts new.now }
     requires turns { AreTurns turns.now }
     requires times { IsTurnedBy group turns.now old.now new.now }
-    requires allows { AllByRecursion (λ turn. 2 ^ 23 ≤ turn / 2 % 2 ^ 24) turns.now }
+    requires allow { 2 ^ 23 ≤ turn / 2 % 2 ^ 24 }
     ensures { OnOk result (GroupGoesOn group old.now new.now listing.old listing.new) }
 {
     let local = (turn / 2 % u64::from(ALLOWS)) as u32;
@@ -66,8 +42,8 @@ fn list_one(
     Ok(())
 }
 
-/// The same where no deny turns: at each key that does.
-fn list_turned(
+/// The same where more may turn: at the keys that do, and at those with a count under a deny that does.
+fn list_asked(
     alloc: Global,
     listing: &mut Listing,
     group: u64,
@@ -78,15 +54,13 @@ fn list_turned(
     requires group { group < 2 ^ 33 }
     requires old { AreCounts old.now }
     requires new { AreCounts new.now }
+    requires rises { Rises turns.now }
     requires turns { AreTurns turns.now }
+    requires own { AreOf group turns.now }
     requires times { IsTurnedBy group turns.now old.now new.now }
-    requires allows { AllByRecursion (λ turn. 2 ^ 23 ≤ turn / 2 % 2 ^ 24) turns.now }
     ensures { OnOk result (GroupGoesOn group old.now new.now listing.old listing.new) }
 {
-    if let [turn] = turns {
-        return list_one(listing, group, old, new, turns, *turn);
-    }
-    let asked = those_turned(alloc, turns)?;
+    let asked = those_asked(alloc, old, turns)?;
     list_keys(listing, group, old, new, &asked)?;
     Ok(())
 }
@@ -109,11 +83,12 @@ fn list_group(
     requires times { IsTurnedBy group turns.now old.now new.now }
     ensures { OnOk result (GroupGoesOn group old.now new.now listing.old listing.new) }
 {
-    if denies_turn(group, turns) {
-        list_counted(alloc, listing, group, old, new)
-    } else {
-        list_turned(alloc, listing, group, old, new, turns)
+    if let [turn] = turns {
+        if is_allow(*turn) {
+            return list_one(listing, group, old, new, turns, *turn);
+        }
     }
+    list_asked(alloc, listing, group, old, new, turns)
 }
 
 /// Lists what differs in a group, and gives its counts then.

@@ -10,7 +10,8 @@ use pol_ports::{Direction, PortPrefix, Proto};
 /// How many ports a prefix of that length has.
 pub(crate) fn port_count(len: u8) -> u32
     requires { len ≤ 16 }
-    ensures { result ≡ 2 ^ (16 - len) }
+    ensures value { result ≡ 2 ^ (16 - len) }
+    ensures small { result ≤ 2 ^ 16 }
 {
     1 << (16 - len)
 }

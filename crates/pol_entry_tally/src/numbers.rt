@@ -1,6 +1,7 @@
 //! Keys as numbers: two numbers are compared in one step, where keys are compared field by field.
 ghost use Rattle.std.specs.Prelude.{◌≡◌, ◌≤◌, ◌<◌, ◌^◌, true};
 ghost use Rattle.pol_mapkey.specs.KeyProto.{proto_place};
+ghost use Rattle.pol_entry_tally.specs.Asking.{under_end};
 ghost use Rattle.pol_entry_tally.specs.Numbers.{dir_at, dir_place, fits, key_at, code_of, group_of, key_in, key_of, kind_place, local_of, place_of, port_at, proto_at};
 
 use crate::keys::{every_key, port_count, port_key, prefix_at};
@@ -164,4 +165,18 @@ pub(crate) fn key_in(group: u64, local: u32) -> MapKey
     ensures { result ≡ key_in group local }
 {
     key_of(group * IDENTITY + u64::from(local))
+}
+
+/// Where those end that stand under the key there: for every protocol the whole group, else those of the prefix's ports.
+pub(crate) fn end_of(local: u32) -> u32
+    requires { local < 2 ^ 23 }
+    ensures value { result ≡ under_end local }
+    ensures small { result < 2 ^ 24 }
+{
+    if local < 1 << 21 {
+        ALLOWS
+    } else {
+        let len = local % 32;
+        local - len + port_count(len.min(16) as u8) * 32
+    }
 }
