@@ -1,7 +1,6 @@
 -- The keys over a key stand before it, and it stands before their ends.
-use Rattle.std.proofs.Common.{◌≡◌, ℕ, zero, suc, ◌+◌, ◌-◌, ◌*◌, ◌/◌, ◌%◌, ◌^◌, ◌<◌, ◌≤◌, min, Bool, true, false, cond, ◌||◌, nat_lt, Option, None, Some, refl, sym, ◌∙◌, ap, subst, inl, inr, arith}
+use Rattle.std.proofs.Common.{◌≡◌, ℕ, zero, suc, ◌+◌, ◌-◌, ◌*◌, ◌%◌, ◌^◌, ◌<◌, ◌≤◌, min, Bool, true, false, cond, ◌||◌, nat_lt, Option, None, Some, refl, sym, ◌∙◌, ap, subst, arith}
 use Rattle.std.proofs.lemmas.Bool.{and_from, false_from_ne_true, lt-ltb, ltb-true}
-use Rattle.std.proofs.lemmas.Option.{same_Some}
 use Rattle.pol_ports.specs.PortPrefix.{prefix_at}
 use Rattle.pol_ports.specs.declared.Proto.{Proto}
 use Rattle.pol_ports.specs.declared.Proto.TheVariants.{Tcp as TcpPackets, Udp as UdpPackets, Sctp as SctpPackets}
@@ -13,7 +12,7 @@ use Rattle.pol_mapkey.specs.declared.MapKey.{MapKey}
 use Rattle.pol_entry_tally.specs.Asking.{under_end}
 use Rattle.pol_entry_tally.specs.Numbers.{fits, local_of}
 use Rattle.pol_entry_tally.specs.Times.{Times, any_below, is_given, is_under, is_under_of, packets_of}
-use Rattle.pol_entry_tally.proofs.ByNumber.{fits_is, local_small, proto_small}
+use Rattle.pol_entry_tally.proofs.ByNumber.{fits_is, local_small}
 use Rattle.pol_entry_tally.proofs.Wider.{packets-is}
 
 -- ---- where those under a key of one protocol end

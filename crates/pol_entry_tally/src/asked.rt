@@ -42,12 +42,7 @@ fn between(counts: &[Count], from: u32, to: u32) -> &[Count]
 }
 
 /// Asks the keys with a count that stand from the one up to the other: denies, and then allows.
-fn push_between(
-    asked: &mut Vec<u32>,
-    counts: &[Count],
-    from: u32,
-    to: u32,
-) -> Result<(), Memory>
+fn push_between(asked: &mut Vec<u32>, counts: &[Count], from: u32, to: u32) -> Result<(), Memory>
     requires counts { AreCounts counts.now }
     requires from { from < 2 ^ 24 }
     requires to { to < 2 ^ 24 }
@@ -62,12 +57,7 @@ fn push_between(
 
 /// Asks the keys with a count under a key, where those up to a place are asked. It gives up to where they are then. Those of
 /// an allow's place stay unasked.
-fn push_under(
-    asked: &mut Vec<u32>,
-    counts: &[Count],
-    place: u32,
-    done: u32,
-) -> Result<u32, Memory>
+fn push_under(asked: &mut Vec<u32>, counts: &[Count], place: u32, done: u32) -> Result<u32, Memory>
     requires { AreCounts counts.now }
     ensures all { IfOk result (λ to.
         (last : ℕ) → last ≤ place → AreAsked counts.now last done asked.old.items
@@ -88,11 +78,7 @@ fn push_under(
 }
 
 /// Asks the keys with a count under each deny that turns. What is asked for one deny isn't asked for another one.
-fn push_denied(
-    asked: &mut Vec<u32>,
-    counts: &[Count],
-    turns: &[u64],
-) -> Result<(), Memory>
+fn push_denied(asked: &mut Vec<u32>, counts: &[Count], turns: &[u64]) -> Result<(), Memory>
     requires counts { AreCounts counts.now }
     requires rises { Rises turns.now }
     requires own { AreOfOne turns.now }

@@ -1,5 +1,5 @@
 //! Turns of several groups.
-ghost use Rattle.std.specs.Prelude.{◌≡◌, ◌++◌, ◌∷◌, [], ◌+◌, ◌*◌, ◌^◌, ◌<◌, ℕ, true, IfOk, OnErr, OnOk};
+ghost use Rattle.std.specs.Prelude.{◌≡◌, ◌++◌, ◌∷◌, [], ◌+◌, ◌*◌, ◌^◌, ◌<◌, ℕ, ◌↔◌, false, true, IfOk, IsTrue, OnErr, OnOk};
 ghost use Rattle.pol_entry_tally.specs.Affected.{GoesOn};
 ghost use Rattle.pol_entry_tally.specs.Counted.{AreInOrder, HasPut, IsTurnedTo, SameCounts, is_open, of_group, times_after, times_of};
 ghost use Rattle.pol_entry_tally.specs.Counts.{AreCounts, AreOf, AreTurns, IsTurnedBy, Rises, counts_of};
@@ -84,8 +84,37 @@ fn gather_one(
     Ok(())
 }
 
+/// Whether the group has no counts.
+fn is_empty(tally: &Tally, group: u64) -> bool
+    ensures { IsTrue result ↔ (of_group tally.now group ≡ []) }
+{
+    match tally.groups.get(&group) {
+        None => true,
+        Some(counts) => counts.as_slice().is_empty(),
+    }
+}
+
+/// Takes a group out of the tree that is there with no counts.
+fn close(tally: &mut Tally, group: u64)
+    ensures same { SameCounts tally.old tally.new }
+    ensures closed { of_group tally.old group ≡ [] → is_open tally.new group ≡ false }
+{
+    if is_empty(tally, group) {
+        tally.groups.remove(&group);
+    }
+}
+
+/// Takes those out of the tree that are there with no counts, of the groups of which something turns.
+fn close_all(tally: &mut Tally, turns: &[u64])
+    ensures { SameCounts tally.old tally.new }
+{
+    for turn in turns {
+        close(tally, *turn / TURNS);
+    }
+}
+
 /// Makes the counts of each group of which something turns.
-fn gather(
+fn gather_each(
     alloc: Global,
     tally: &mut Tally,
     listing: &mut Listing,
@@ -110,6 +139,32 @@ fn gather(
         left = others;
     }
     Ok(made)
+}
+
+/// The same. After an error no group of theirs is in the tree with no counts.
+fn gather(
+    alloc: Global,
+    tally: &mut Tally,
+    listing: &mut Listing,
+    turns: &[u64],
+) -> Result<Vec<Made>, Memory>
+    requires order { AreInOrder tally.old }
+    requires rises { Rises turns.now }
+    requires turns { AreTurns turns.now }
+    ensures same { SameCounts tally.old tally.new }
+    ensures open { IfOk result (λ made. AreOpen tally.new made.items) }
+    ensures made { IfOk result (λ made. AreMade tally.old turns.now (2 ^ 33) made.items) }
+    ensures listed { OnOk result (GoesOn (times_of tally.old) (times_after tally.old turns.now)
+        (0 * 2 ^ 23) (2 ^ 33 * 2 ^ 23)
+        listing.old.changes.items listing.new.changes.items listing.old.size listing.new.size) }
+{
+    match gather_each(alloc, tally, listing, turns) {
+        Ok(made) => Ok(made),
+        Err(memory) => {
+            close_all(tally, turns);
+            Err(memory)
+        }
+    }
 }
 
 /// Lists what differs in several groups, and then lets each have its counts. After an error the counts are as before.

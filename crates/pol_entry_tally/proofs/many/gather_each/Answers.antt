@@ -3,7 +3,7 @@ use Rattle.std.specs.Option.{option_copied}
 use Rattle.pol_entry_tally.specs.Counts.{AreTurns, IsTurn, Rises}
 use Rattle.pol_entry_tally.proofs.InOrder.{all_front, rises_front}
 use Rattle.pol_entry_tally.proofs.Several.{all_made, gathering_first, gathering_more, goes_to_end, group_small, own_of}
-use Rattle.pol_entry_tally.proofs.many.gather.Goals as goal
+use Rattle.pol_entry_tally.proofs.many.gather_each.Goals as goal
 
 pub loop-turn-init : goal.loop-turn-init
 loop-turn-init c = gathering_first c.args.tally.now c.args.turns.now c.new-made.result.items c.args.listing.now.changes.items c.args.listing.now.size c.new-made.ensures.items c.requires.rises c.requires.turns

@@ -1,6 +1,6 @@
 use Rattle.std.proofs.Common.{length}
 use Rattle.pol_entry_tally.specs.Gathering.{IsGathering}
-use Rattle.pol_entry_tally.proofs.many.gather.Given as goal
+use Rattle.pol_entry_tally.proofs.many.gather_each.Given as goal
 
 abbrev pub invariant-loop-turn : goal.invariant-loop-turn
 invariant-loop-turn l =
