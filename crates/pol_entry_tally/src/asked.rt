@@ -1,5 +1,5 @@
 //! The keys of a group whose entries may change: those that turn, and those under a deny that does.
-ghost use Rattle.std.specs.Prelude.{◌≡◌, ◌++◌, ◌+◌, ◌^◌, ◌<◌, ◌≤◌, ℕ, IfOk, OnOk};
+ghost use Rattle.std.specs.Prelude.{◌≡◌, ◌++◌, ◌/◌, ◌%◌, ◌^◌, ◌<◌, ◌≤◌, ℕ, IfOk, OnOk};
 ghost use Rattle.std.specs.List.Sorted.{IsStrictlySortedBy};
 ghost use Rattle.std.specs.Ordering.{nat_cmp};
 ghost use Rattle.pol_entry_tally.specs.Affected.{Has};
@@ -55,17 +55,18 @@ fn push_between(asked: &mut Vec<u32>, counts: &[Count], from: u32, to: u32) -> R
     Ok(())
 }
 
-/// Asks the keys with a count under a key, where those up to a place are asked. It gives up to where they are then. Those of
-/// an allow's place stay unasked.
-fn push_under(asked: &mut Vec<u32>, counts: &[Count], place: u32, done: u32) -> Result<u32, Memory>
+/// Asks the keys with a count under the key that turns, if that is denied, where those up to a place are asked. It gives up to
+/// where they are then.
+fn push_under(asked: &mut Vec<u32>, counts: &[Count], turn: u64, done: u32) -> Result<u32, Memory>
     requires { AreCounts counts.now }
     ensures all { IfOk result (λ to.
-        (last : ℕ) → last ≤ place → AreAsked counts.now last done asked.old.items
-        → AreAsked counts.now place to asked.new.items) }
-    ensures far { place < 2 ^ 23 → IfOk result (λ to. under_end place ≤ to) }
+        (last : ℕ) → last ≤ turn / 2 % 2 ^ 24 → AreAsked counts.now last done asked.old.items
+        → AreAsked counts.now (turn / 2 % 2 ^ 24) to asked.new.items) }
+    ensures far { turn / 2 % 2 ^ 24 < 2 ^ 23 → IfOk result (λ to. under_end (turn / 2 % 2 ^ 24) ≤ to) }
     ensures stay { OnOk result (Has asked.old.items asked.new.items) }
     ensures no_more { OnOk result (Has asked.new.items (asked.old.items ++ locals counts.now)) }
 {
+    let place = (turn / 2 % (1 << 24)) as u32;
     if ALLOWS <= place {
         return Ok(done);
     }
@@ -89,8 +90,7 @@ fn push_denied(asked: &mut Vec<u32>, counts: &[Count], turns: &[u64]) -> Result<
     let mut done = 0;
     let mut left = turns;
     while let Some(turn) = left.first() {
-        let place = (*turn / 2 % (1 << 24)) as u32;
-        done = push_under(asked, counts, place, done)?;
+        done = push_under(asked, counts, *turn, done)?;
         left = left.split_at(1).1;
     }
     Ok(())
