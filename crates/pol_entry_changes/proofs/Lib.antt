@@ -2,7 +2,9 @@ pub mod Times
 pub mod Raw
 pub mod Balanced
 pub mod FirstRow
+pub mod Moving
 pub mod SideBySide
 pub mod PeerStays
 pub mod OneMore
+pub mod AllStand
 pub mod OneId

@@ -5,6 +5,7 @@
 #![tactic(auto)]
 
 mod entries;
+mod moved_rows;
 mod moves;
 mod one_id;
 mod pairs;

@@ -1,30 +1,15 @@
 //! The moves of selectors, and whether any of them moves something.
-ghost use Rattle.std.specs.Prelude.{◌≡◌, ◌==◌, IsTrue, find};
+ghost use Rattle.std.specs.Prelude.{◌≡◌, ◌==◌, IfOk, IfSome, IsTrue, find};
+ghost use Rattle.std.specs.Bool.{OnFalse};
 ghost use Rattle.std.specs.List.{AllByRecursion};
-ghost use Rattle.pol_entry_changes.specs.PeerRow.{IsMoveOf, IsStill, move_now};
+ghost use Rattle.pol_entry_changes.specs.PeerRow.{IsMoveOf, IsStill, Lacks, NamesMove, move_now};
 
+use pol_data::Memory;
 use pol_sets::Move;
-use std::marker::Model;
+use std::alloc::Global;
 
-/// Moves, with whether each is known to move nothing. A contract sees it as the list of the moves.
-#[derive(Drop)]
-pub(crate) struct PeerMoves<'a> {
-    moves: &'a [Move],
-    still: bool,
-}
-
-impl<'a> Model for PeerMoves<'a> {
-    ghost use Rattle.std.specs.Prelude.{IsTrue, List};
-    ghost use Rattle.std.specs.List.{AllByRecursion};
-    ghost use Rattle.pol_sets.specs.declared.sets.Move.{Move as OneMove};
-    ghost use Rattle.pol_entry_changes.specs.PeerRow.{IsStill};
-
-    ghost Value = { List OneMove };
-
-    ghost view = { λ it. it.moves.now };
-
-    ghost invariant = { λ it. IsTrue it.still → AllByRecursion IsStill it.moves.now };
-}
+/// As many moves that move something are compared with each row and peer sooner than rows get a table.
+const FEW_MOVES: usize = 16;
 
 /// Whether the move moves nothing.
 fn is_still(one: &Move) -> bool
@@ -45,40 +30,42 @@ pub fn all_still(moves: &[Move]) -> bool
     true
 }
 
-impl<'a> PeerMoves<'a> {
-    /// These moves.
-    pub(crate) fn new(moves: &'a [Move]) -> PeerMoves<'a>
-        ensures { result ≡ moves.now }
-    {
-        PeerMoves {
-            moves,
-            still: all_still(moves),
+/// Whether the number is one of these.
+pub(crate) fn is_among(numbers: &[u64], number: u64) -> bool
+    ensures { OnFalse result (Lacks numbers.now number) }
+{
+    for one in numbers {
+        if *one == number {
+            return true;
         }
     }
+    false
+}
 
-    /// Whether no move moves anything.
-    pub(crate) fn are_still(&self) -> bool
-        ensures { IsTrue result → AllByRecursion IsStill self.now }
-    {
-        self.still
-    }
-
-    /// The moves.
-    pub(crate) fn as_slice(&self) -> &'a [Move]
-        ensures { result.now ≡ self.now }
-    {
-        self.moves
-    }
-
-    /// A move of the selector: the one at this place, if it is one, and else the first.
-    pub(crate) fn of(&self, selector: u64, place: usize) -> Option<&'a Move>
-        ensures { IsMoveOf self.now selector result }
-    {
-        if place < self.moves.len() && self.moves[place].selector == selector {
-            return Some(&self.moves[place]);
+/// The selectors of the moves that move something, if these are few. The one error is want of memory.
+pub(crate) fn moved_selectors(alloc: Global, moves: &[Move]) -> Result<Option<Vec<u64>>, Memory>
+    ensures { IfOk result (λ found. IfSome found (λ few. AllByRecursion (NamesMove few.items) moves.now)) }
+{
+    let mut few = Vec::new(alloc);
+    for one in moves {
+        if !is_still(one) {
+            if few.len() >= FEW_MOVES {
+                return Ok(None);
+            }
+            few.push(one.selector)?;
         }
-        first_of(self.moves, selector)
     }
+    Ok(Some(few))
+}
+
+/// A move of the selector: the one at this place, if it is one, and else the first.
+pub(crate) fn move_of<'a>(moves: &'a [Move], selector: u64, place: usize) -> Option<&'a Move>
+    ensures { IsMoveOf moves.now selector result }
+{
+    if place < moves.len() && moves[place].selector == selector {
+        return Some(&moves[place]);
+    }
+    first_of(moves, selector)
 }
 
 /// The first move of the selector.

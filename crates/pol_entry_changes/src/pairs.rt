@@ -9,10 +9,10 @@ ghost use Rattle.pol_entry_changes.specs.PeerRow.{Ascend};
 ghost use Rattle.pol_entry_changes.specs.Told.{PeersTold, StandsAt, Stays};
 
 use crate::entries::{push_filter, push_filters};
-use crate::moves::PeerMoves;
+use crate::moved_rows::MovedRows;
 use crate::rows::PeerRows;
 use crate::standing::stands_at;
-use crate::staying::{Moved, stays};
+use crate::staying::{Moved, all_stay, stays};
 use pol_data::Memory;
 use pol_filters::Filter;
 use pol_mapkey::{Kind, MapKey};
@@ -64,21 +64,21 @@ fn pair(
     others: &[Filter],
     from: usize,
     was: &PeerRows<'_>,
-    is: &PeerRows<'_>,
-    moves: &PeerMoves<'_>,
+    is: &MovedRows<'_>,
 ) -> Result<usize, Memory>
     requires within { from ≤ length others.now }
     requires stays { (other : OneFilter) → Contains others.now other
-        → StandsAt one.now other → (one.now ≡ other) × PeersTold was.now is.now moves.now other.peers }
+        → StandsAt one.now other → (one.now ≡ other) × PeersTold was.now is.now.rows is.now.moves other.peers }
     requires before { AllByRecursion Ascend was.now }
-    requires after { AllByRecursion Ascend is.now }
+    requires after { AllByRecursion Ascend is.now.rows }
     ensures within { IfOk result (λ to. to ≤ length others.now) }
     ensures left { IfOk result (λ to.
-        Between (given_by (set_given was.now) dir one.now) (flat_map (given_by (set_given is.now) dir)
-        (drop from others.now)) (flat_map (given_by (set_given is.now) dir) (drop to others.now)) out.old out.new) }
+        Between (given_by (set_given was.now) dir one.now) (flat_map (given_by (set_given is.now.rows) dir)
+        (drop from others.now)) (flat_map (given_by (set_given is.now.rows) dir)
+        (drop to others.now)) out.old out.new) }
 {
     if from < others.len() && stands_at(one, &others[from]) {
-        stays(alloc, out, dir, one, was, is, moves)?;
+        stays(alloc, out, dir, one, was, is)?;
         Ok(from + 1)
     } else {
         push_filter(alloc, &mut out.gone, dir, one, was)?;
@@ -86,28 +86,52 @@ fn pair(
     }
 }
 
-/// Appends what comes and goes of the filters of a direction.
-pub(crate) fn walk(
+/// Appends what comes and goes of the filters of a direction, of which some may come or go.
+fn walk(
     alloc: Global,
     out: &mut Moved,
     dir: Direction,
     old: &[Filter],
     new: &[Filter],
     was: &PeerRows<'_>,
-    is: &PeerRows<'_>,
-    moves: &PeerMoves<'_>,
+    is: &MovedRows<'_>,
 ) -> Result<(), Memory>
-    requires stays { Stays was.now is.now moves.now old.now new.now }
+    requires stays { Stays was.now is.now.rows is.now.moves old.now new.now }
     requires before { AllByRecursion Ascend was.now }
-    requires after { AllByRecursion Ascend is.now }
+    requires after { AllByRecursion Ascend is.now.rows }
     ensures { OnOk result (GoesOn (flat_map (given_by (set_given was.now) dir) old.now)
-        (flat_map (given_by (set_given is.now) dir) new.now) out.old out.new) }
+        (flat_map (given_by (set_given is.now.rows) dir) new.now) out.old out.new) }
 {
     let newest = newest(old);
     let mut at = 0;
     for one in old {
-        at = push_newer(alloc, &mut out.come, dir, new, at, newest, is)?;
-        at = pair(alloc, out, dir, one, new, at, was, is, moves)?;
+        at = push_newer(alloc, &mut out.come, dir, new, at, newest, is.rows())?;
+        at = pair(alloc, out, dir, one, new, at, was, is)?;
     }
-    push_filters(alloc, &mut out.come, dir, new.split_at(at).1, is)
+    push_filters(alloc, &mut out.come, dir, new.split_at(at).1, is.rows())
+}
+
+/// Appends what comes and goes of the filters of a direction. Where all of them stand, none is compared with another.
+pub(crate) fn pass(
+    alloc: Global,
+    out: &mut Moved,
+    dir: Direction,
+    old: &[Filter],
+    new: &[Filter],
+    stand: bool,
+    was: &PeerRows<'_>,
+    is: &MovedRows<'_>,
+) -> Result<(), Memory>
+    requires stays { Stays was.now is.now.rows is.now.moves old.now new.now }
+    requires stand { IsTrue stand → old.now ≡ new.now }
+    requires before { AllByRecursion Ascend was.now }
+    requires after { AllByRecursion Ascend is.now.rows }
+    ensures { OnOk result (GoesOn (flat_map (given_by (set_given was.now) dir) old.now)
+        (flat_map (given_by (set_given is.now.rows) dir) new.now) out.old out.new) }
+{
+    if stand {
+        all_stay(alloc, out, dir, new, was, is)
+    } else {
+        walk(alloc, out, dir, old, new, was, is)
+    }
 }

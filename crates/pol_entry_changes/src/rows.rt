@@ -82,7 +82,7 @@ fn table_of<'a>(
 }
 
 /// The first row of the peer, found by going through the rows.
-fn first_row<'a>(rows: &'a [SetRow], peer: &Peer) -> Option<PlacedRow<'a>>
+pub(crate) fn first_row<'a>(rows: &'a [SetRow], peer: &Peer) -> Option<PlacedRow<'a>>
     ensures { placed_row result ≡ find (is_row_of peer.now) rows.now }
 {
     for i in 0..rows.len() {

@@ -1,15 +1,15 @@
 //! What comes and goes of a filter that stays.
-ghost use Rattle.std.specs.Prelude.{◌≡◌, ◌++◌, OnOk, find};
+ghost use Rattle.std.specs.Prelude.{◌≡◌, ◌++◌, OnOk};
 ghost use Rattle.std.specs.List.{AllByRecursion, flat_map};
 ghost use Rattle.pol_model.specs.PolicyMap.{peer_numbers};
-ghost use Rattle.pol_sets.specs.Sets.{is_row_of, set_given};
+ghost use Rattle.pol_sets.specs.Sets.{set_given};
 ghost use Rattle.pol_entry_changes.specs.Balance.{GoesOn};
 ghost use Rattle.pol_entry_changes.specs.Given.{given_by, of_numbers};
-ghost use Rattle.pol_entry_changes.specs.PeerRow.{Ascend, IsMoveOfRow};
+ghost use Rattle.pol_entry_changes.specs.PeerRow.{Ascend};
 ghost use Rattle.pol_entry_changes.specs.Told.{IsTold, PeersTold};
 
 use crate::entries::kind_of;
-use crate::moves::PeerMoves;
+use crate::moved_rows::MovedRows;
 use crate::one_id::push_id;
 use crate::rows::{MOST_MOVED, PeerRows, is_room};
 use pol_data::Memory;
@@ -82,16 +82,6 @@ fn push_move(
     push_numbers(alloc, &mut out.gone, dir, one, &change.lost)
 }
 
-/// A move of a peer's first row.
-fn move_at<'a>(rows: &PeerRows<'_>, moves: &PeerMoves<'a>, peer: &Peer) -> Option<&'a Move>
-    ensures { IsMoveOfRow moves.now (find (is_row_of peer.now) rows.now) result }
-{
-    match rows.row_of(peer) {
-        Some(found) => moves.of(found.row.selector, found.place),
-        None => None,
-    }
-}
-
 /// Appends what comes and goes by a peer of a filter that stays.
 fn peer_stays(
     alloc: Global,
@@ -100,24 +90,20 @@ fn peer_stays(
     one: &Filter,
     peer: &Peer,
     was: &PeerRows<'_>,
-    is: &PeerRows<'_>,
-    moves: &PeerMoves<'_>,
+    is: &MovedRows<'_>,
 ) -> Result<(), Memory>
-    requires told { IsTold was.now is.now moves.now peer.now }
+    requires told { IsTold was.now is.now.rows is.now.moves peer.now }
     requires before { AllByRecursion Ascend was.now }
-    requires after { AllByRecursion Ascend is.now }
+    requires after { AllByRecursion Ascend is.now.rows }
     ensures { OnOk result (GoesOn (of_numbers dir one.now (peer_numbers (set_given was.now) peer.now))
-        (of_numbers dir one.now (peer_numbers (set_given is.now) peer.now)) out.old out.new) }
+        (of_numbers dir one.now (peer_numbers (set_given is.now.rows) peer.now)) out.old out.new) }
 {
     if selects_every_number(peer) {
         return Ok(());
     }
-    if moves.are_still() {
-        return Ok(());
-    }
-    match move_at(is, moves, peer) {
+    match is.move_of(peer) {
         Some(change) => push_move(alloc, out, dir, one, change),
-        None => unreachable!(),
+        None => Ok(()),
     }
 }
 
@@ -128,17 +114,16 @@ fn peers_stay(
     one: &Filter,
     peers: &[Peer],
     was: &PeerRows<'_>,
-    is: &PeerRows<'_>,
-    moves: &PeerMoves<'_>,
+    is: &MovedRows<'_>,
 ) -> Result<(), Memory>
-    requires told { AllByRecursion (IsTold was.now is.now moves.now) peers.now }
+    requires told { AllByRecursion (IsTold was.now is.now.rows is.now.moves) peers.now }
     requires before { AllByRecursion Ascend was.now }
-    requires after { AllByRecursion Ascend is.now }
+    requires after { AllByRecursion Ascend is.now.rows }
     ensures { OnOk result (GoesOn (of_numbers dir one.now (flat_map (peer_numbers (set_given was.now)) peers.now))
-        (of_numbers dir one.now (flat_map (peer_numbers (set_given is.now)) peers.now)) out.old out.new) }
+        (of_numbers dir one.now (flat_map (peer_numbers (set_given is.now.rows)) peers.now)) out.old out.new) }
 {
     for peer in peers {
-        peer_stays(alloc, out, dir, one, peer, was, is, moves)?;
+        peer_stays(alloc, out, dir, one, peer, was, is)?;
     }
     Ok(())
 }
@@ -150,17 +135,37 @@ pub(crate) fn stays(
     dir: Direction,
     one: &Filter,
     was: &PeerRows<'_>,
-    is: &PeerRows<'_>,
-    moves: &PeerMoves<'_>,
+    is: &MovedRows<'_>,
 ) -> Result<(), Memory>
-    requires told { PeersTold was.now is.now moves.now one.now.peers }
+    requires told { PeersTold was.now is.now.rows is.now.moves one.now.peers }
     requires before { AllByRecursion Ascend was.now }
-    requires after { AllByRecursion Ascend is.now }
-    ensures { OnOk result
-        (GoesOn (given_by (set_given was.now) dir one.now) (given_by (set_given is.now) dir one.now) out.old out.new) }
+    requires after { AllByRecursion Ascend is.now.rows }
+    ensures { OnOk result (GoesOn (given_by (set_given was.now) dir one.now)
+        (given_by (set_given is.now.rows) dir one.now) out.old out.new) }
 {
     match &one.peers {
         Peers::Every => Ok(()),
-        Peers::Listed(peers) => peers_stay(alloc, out, dir, one, peers.as_slice(), was, is, moves),
+        Peers::Listed(peers) => peers_stay(alloc, out, dir, one, peers.as_slice(), was, is),
     }
+}
+
+/// Appends what comes and goes of filters that all stay.
+pub(crate) fn all_stay(
+    alloc: Global,
+    out: &mut Moved,
+    dir: Direction,
+    filters: &[Filter],
+    was: &PeerRows<'_>,
+    is: &MovedRows<'_>,
+) -> Result<(), Memory>
+    requires told { AllByRecursion (λ one. PeersTold was.now is.now.rows is.now.moves one.peers) filters.now }
+    requires before { AllByRecursion Ascend was.now }
+    requires after { AllByRecursion Ascend is.now.rows }
+    ensures { OnOk result (GoesOn (flat_map (given_by (set_given was.now) dir) filters.now)
+        (flat_map (given_by (set_given is.now.rows) dir) filters.now) out.old out.new) }
+{
+    for one in filters {
+        stays(alloc, out, dir, one, was, is)?;
+    }
+    Ok(())
 }

@@ -1,5 +1,5 @@
 //! What comes and goes when filters and sets change.
-ghost use Rattle.std.specs.Prelude.{◌≡◌, ◌++◌, IfOk, OnOk};
+ghost use Rattle.std.specs.Prelude.{◌≡◌, ◌++◌, IfOk, IsTrue, OnOk};
 ghost use Rattle.std.specs.List.{AllByRecursion};
 ghost use Rattle.pol_mapkey.specs.declared.Kind.{Kind as OneKind};
 ghost use Rattle.pol_model.specs.PolicyMap.{allow_every};
@@ -10,8 +10,8 @@ ghost use Rattle.pol_entry_changes.specs.PeerRow.{Ascend};
 ghost use Rattle.pol_entry_changes.specs.Told.{Stays};
 
 use crate::entries::given_within;
-use crate::moves::PeerMoves;
-use crate::pairs::walk;
+use crate::moved_rows::MovedRows;
+use crate::pairs::pass;
 use crate::rows::{MOST_MOVED, PeerRows, sets_ascend};
 use crate::standing::all_filters_stand;
 use crate::staying::Moved;
@@ -70,43 +70,45 @@ fn push_others(out: &mut Moved, was: &Filters, is: &Filters) -> Result<(), Memor
 }
 
 /// Appends what comes and goes of all filters.
-fn push_walks(
+fn push_passes(
     alloc: Global,
     out: &mut Moved,
     was: &Filters,
     was_rows: &PeerRows<'_>,
     is: &Filters,
-    is_rows: &PeerRows<'_>,
-    moves: &PeerMoves<'_>,
+    is_rows: &MovedRows<'_>,
+    stand: bool,
 ) -> Result<(), Memory>
-    requires ingress { Stays was_rows.now is_rows.now moves.now was.now.ingress is.now.ingress }
-    requires egress { Stays was_rows.now is_rows.now moves.now was.now.egress is.now.egress }
+    requires ingress_stands { IsTrue stand → was.now.ingress ≡ is.now.ingress }
+    requires egress_stands { IsTrue stand → was.now.egress ≡ is.now.egress }
+    requires ingress { Stays was_rows.now is_rows.now.rows is_rows.now.moves was.now.ingress is.now.ingress }
+    requires egress { Stays was_rows.now is_rows.now.rows is_rows.now.moves was.now.egress is.now.egress }
     requires before { AllByRecursion Ascend was_rows.now }
-    requires after { AllByRecursion Ascend is_rows.now }
+    requires after { AllByRecursion Ascend is_rows.now.rows }
     ensures { OnOk result (GoesOn (of_filters (set_given was_rows.now) was.now)
-        (of_filters (set_given is_rows.now) is.now) out.old out.new) }
+        (of_filters (set_given is_rows.now.rows) is.now) out.old out.new) }
 {
     let ingress = Direction::Ingress;
-    walk(
+    pass(
         alloc,
         out,
         ingress,
         was.ingress.as_slice(),
         is.ingress.as_slice(),
+        stand,
         was_rows,
         is_rows,
-        moves,
     )?;
     let egress = Direction::Egress;
-    walk(
+    pass(
         alloc,
         out,
         egress,
         was.egress.as_slice(),
         is.egress.as_slice(),
+        stand,
         was_rows,
         is_rows,
-        moves,
     )
 }
 
@@ -126,11 +128,6 @@ pub fn replaced(
     })
 }
 
-/// Whether the new rows are asked for: where a filter comes, or a move isn't empty.
-fn asks_new(stand: bool, moves: &PeerMoves<'_>) -> bool {
-    !stand || !moves.are_still()
-}
-
 /// What comes and goes between two lists of filters of which something is enforced.
 fn walked(
     alloc: Global,
@@ -147,16 +144,14 @@ fn walked(
 {
     sets_ascend(was_rows);
     sets_ascend(is_rows);
-    let told = PeerMoves::new(moves);
     let stand = all_filters_stand(was, is);
     let old = PeerRows::new(alloc, was_rows, &[], !stand, MOST_MOVED)?;
-    let asked = asks_new(stand, &told);
-    let new = PeerRows::new(alloc, is_rows, moves, asked, MOST_MOVED)?;
+    let new = MovedRows::new(alloc, is_rows, moves, !stand)?;
     let mut out = Moved {
         come: Vec::new(alloc),
         gone: Vec::new(alloc),
     };
-    push_walks(alloc, &mut out, was, &old, is, &new, &told)?;
+    push_passes(alloc, &mut out, was, &old, is, &new, stand)?;
     push_others(&mut out, was, is)?;
     Ok(out)
 }

@@ -9,5 +9,5 @@ use Rattle.pol_entry_changes.proofs.pairs.walk.Given as goal
 abbrev pub invariant-loop-one : goal.invariant-loop-one
 invariant-loop-one l =
     (l.at ≤ length l.new)
-    × Between (flat_map (given_by (set_given l.was) l.dir) (take l.one-index l.old)) (flat_map (given_by (set_given l.is) l.dir) l.new)
-    (flat_map (given_by (set_given l.is) l.dir) (drop l.at l.new)) l.initial.out l.out
+    × Between (flat_map (given_by (set_given l.was) l.dir) (take l.one-index l.old)) (flat_map (given_by (set_given l.is.rows) l.dir) l.new)
+    (flat_map (given_by (set_given l.is.rows) l.dir) (drop l.at l.new)) l.initial.out l.out

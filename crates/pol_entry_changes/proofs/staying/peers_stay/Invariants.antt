@@ -9,4 +9,4 @@ use Rattle.pol_entry_changes.proofs.staying.peers_stay.Given as goal
 abbrev pub invariant-loop-peer : goal.invariant-loop-peer
 invariant-loop-peer l =
     GoesOn (of_numbers l.dir l.one (flat_map (peer_numbers (set_given l.was)) (take l.peer-index l.peers)))
-    (of_numbers l.dir l.one (flat_map (peer_numbers (set_given l.is)) (take l.peer-index l.peers))) l.initial.out l.out
+    (of_numbers l.dir l.one (flat_map (peer_numbers (set_given l.is.rows)) (take l.peer-index l.peers))) l.initial.out l.out
